@@ -1,28 +1,41 @@
 //! What a command put, as text.
 
 use case_lines::number_of;
-use std::alloc::Global;
+use std::alloc::{AllocError, Global};
 
-/// An answer by its fields, from the header and the body.
-fn answer_line(alloc: Global, header: &[u8], body: &[u8]) -> anyhow::Result<String> {
-    let code = number_of(header.get(0..1).unwrap_or(&[]));
-    let detail = number_of(header.get(1..2).unwrap_or(&[]));
-    let key = number_of(header.get(2..4).unwrap_or(&[]));
-    let position = number_of(header.get(8..16).unwrap_or(&[]));
-    let number = number_of(header.get(16..24).unwrap_or(&[]));
-    let fields = format!(in alloc;
-        "\n{code:02x} {detail:02x} key {key} position {position} number {number}"
-    )?;
-    if body.is_empty() {
-        return Ok(fields);
+/// Writes octets in digits.
+pub fn push_digits(text: &mut String, octets: &[u8]) -> Result<(), AllocError> {
+    for octet in octets {
+        write!(text, "{octet:02x}")?;
     }
-    let body = hex::encode(alloc, body)?;
-    Ok(format!(in alloc; "{fields} {body}")?)
+    Ok(())
 }
 
-/// The answers that were put, a line each.
-pub fn answers(alloc: Global, sunk: &[u8]) -> anyhow::Result<String> {
-    let mut text = String::new(alloc);
+/// The numbers in the header of an answer: the word before each, and where its octets stand.
+const NUMBERS: [(&str, usize, usize); 3] = [
+    (" key ", 2, 4),
+    (" position ", 8, 16),
+    (" number ", 16, 24),
+];
+
+/// Writes an answer by its fields, from the header and the body.
+fn push_answer(text: &mut String, header: &[u8], body: &[u8]) -> Result<(), AllocError> {
+    let code = header.first().copied().unwrap_or(0);
+    let detail = header.get(1).copied().unwrap_or(0);
+    write!(text, "\n{code:02x} {detail:02x}")?;
+    for (word, from, to) in NUMBERS {
+        let number = number_of(header.get(from..to).unwrap_or(&[]));
+        write!(text, "{word}{number}")?;
+    }
+    if !body.is_empty() {
+        text.push_str(" ")?;
+        push_digits(text, body)?;
+    }
+    Ok(())
+}
+
+/// Writes the answers that were put, a line each.
+fn push_answers(text: &mut String, sunk: &[u8]) -> Result<(), AllocError> {
     let mut rest = sunk;
     for _ in 0..sunk.len() {
         let Some((header, behind)) = rest.split_at_checked(24) else {
@@ -30,12 +43,34 @@ pub fn answers(alloc: Global, sunk: &[u8]) -> anyhow::Result<String> {
         };
         let length = number_of(header.get(4..8).unwrap_or(&[])) as usize;
         let (body, behind) = behind.split_at(length.min(behind.len()));
-        text.push_str(answer_line(alloc, header, body)?.as_str())?;
+        push_answer(text, header, body)?;
         rest = behind;
     }
     if !rest.is_empty() {
-        let rest = hex::encode(alloc, rest)?;
-        text.push_str(format!(in alloc; "\ncut {rest}")?.as_str())?;
+        text.push_str("\ncut ")?;
+        push_digits(text, rest)?;
     }
-    Ok(text)
+    Ok(())
+}
+
+/// Writes the text that was put, behind a line feed and without its own last one.
+fn push_text(alloc: Global, text: &mut String, sunk: &[u8]) -> Result<(), AllocError> {
+    let put = String::from_utf8_lossy(alloc, sunk)?;
+    match put.as_str().trim_end() {
+        "" => Ok(()),
+        line => write!(text, "\n{line}"),
+    }
+}
+
+/// Writes what the words of a line put: answers of a run, the text of other words.
+pub fn push_put(
+    alloc: Global,
+    text: &mut String,
+    line: &str,
+    sunk: &[u8],
+) -> Result<(), AllocError> {
+    match line {
+        "run" => push_answers(text, sunk),
+        _ => push_text(alloc, text, sunk),
+    }
 }

@@ -33,9 +33,9 @@ fn number_with(octets: &[u8], place: usize, value: u8) -> u64 {
     number
 }
 
-impl Image {
+impl Image<'_> {
     /// The number of so many octets from a place on, with this value at another.
-    fn field_with(&self, from: usize, length: usize, place: usize, value: u8) -> u64 {
+    fn field_with(self, from: usize, length: usize, place: usize, value: u8) -> u64 {
         let field = self
             .octets
             .get(from..from.saturating_add(length))
@@ -44,7 +44,7 @@ impl Image {
     }
 
     /// The slots are no plan's. With slots in their bounds the image is too short before that is seen.
-    fn due_of_slots(&self, slots: u64) -> Due {
+    fn due_of_slots(self, slots: u64) -> Due {
         let length = self.octets.len();
         if slots < LEAST_SLOTS || slots > MOST_SLOTS {
             return Due::Refused(13);
@@ -57,7 +57,7 @@ impl Image {
 
     /// The octet that migrates. An image of version 1 is too short for a migrated one, and is migrated if the octet has
     /// any other value; a migrated one has no open bank where those of version 1 begin.
-    fn due_of_form(&self, value: u8) -> Due {
+    fn due_of_form(self, value: u8) -> Due {
         match self.form() {
             Form::Old if value == 1 => Due::Refused(self.octets.len()),
             Form::Old => Due::Shown,
@@ -68,7 +68,7 @@ impl Image {
 
     /// In the header: the gate, the magic, the length of the plan, the slots, the octet that migrates, zeros. A plan that
     /// is longer or shorter than it was ends in zeros or in the midst of a line.
-    fn due_of_header(&self, place: usize, value: u8) -> Due {
+    fn due_of_header(self, place: usize, value: u8) -> Due {
         match place {
             0 => Due::Refused(0),
             1..=8 => Due::Refused(1),
@@ -83,7 +83,7 @@ impl Image {
 
     /// In the body of an open slot, whose record says a mark and a floor. Each other octet is a kind, a length, a key
     /// or a zero, and has one value alone.
-    fn due_of_record(&self, slot: usize, place: usize, value: u8) -> Due {
+    fn due_of_record(self, slot: usize, place: usize, value: u8) -> Due {
         let mark_at = slot.saturating_add(6);
         let floor_at = slot.saturating_add(14);
         let mark = self.field_with(mark_at, 8, place, value);
@@ -96,7 +96,7 @@ impl Image {
     }
 
     /// In a slot of the open bank, which has one record at most.
-    fn due_of_slot(&self, slot: usize, place: usize, value: u8) -> Due {
+    fn due_of_slot(self, slot: usize, place: usize, value: u8) -> Due {
         let closed = self.first_closed();
         if slot < closed {
             return if place == slot {
@@ -112,7 +112,7 @@ impl Image {
     }
 
     /// In the open bank: the gate, the generation, the content, the slots.
-    fn due_of_bank(&self, layout: Layout, offset: usize, value: u8) -> Due {
+    fn due_of_bank(self, layout: Layout, offset: usize, value: u8) -> Due {
         let bank = self.current();
         if offset == 0 {
             return Due::Refused(layout.banks);
@@ -130,7 +130,7 @@ impl Image {
     /// What is due if the octet at a place of the header or of a bank is changed to this value. In the bank that is
     /// closed each octet may be any, also where the banks of version 1 were; if its gate is opened, its generation is the
     /// one before.
-    pub fn due(&self, place: usize, value: u8) -> Due {
+    pub fn due(self, place: usize, value: u8) -> Due {
         if place < HEADER {
             return self.due_of_header(place, value);
         }

@@ -99,38 +99,42 @@ pub struct Layout {
 }
 
 /// Writes octets over some of these from a place on, as far as they reach.
-fn put(octets: &mut [u8], at: usize, part: &[u8]) {
-    for (octet, new) in octets.iter_mut().skip(at).zip(part.iter()) {
+pub fn put(octets: &mut [u8], at: usize, part: &[u8]) {
+    let start = at.min(octets.len());
+    let (_, behind) = octets.split_at_mut(start);
+    for (octet, new) in behind.iter_mut().zip(part.iter()) {
         *octet = *new;
     }
 }
 
 /// Sets so many of these from a place on to 0, as far as they reach.
 fn clear(octets: &mut [u8], at: usize, length: usize) {
-    for octet in octets.iter_mut().skip(at).take(length) {
+    let start = at.min(octets.len());
+    let (_, behind) = octets.split_at_mut(start);
+    for octet in behind.iter_mut().take(length) {
         *octet = 0;
     }
 }
 
 /// An image of two banks, of which one is open.
-#[derive(Drop)]
-pub struct Image {
-    pub octets: Vec<u8>,
+#[derive(Clone, Copy)]
+pub struct Image<'a> {
+    pub octets: &'a [u8],
 }
 
-impl Image {
-    pub fn octet(&self, place: usize) -> u8 {
+impl<'a> Image<'a> {
+    pub fn octet(self, place: usize) -> u8 {
         self.octets.get(place).copied().unwrap_or(0)
     }
 
     /// So many octets from a place on.
-    fn part(&self, at: usize, length: usize) -> &[u8] {
+    pub fn part(self, at: usize, length: usize) -> &'a [u8] {
         self.octets
             .get(at..at.saturating_add(length))
             .unwrap_or(&[])
     }
 
-    pub fn form(&self) -> Form {
+    pub fn form(self) -> Form {
         if self.octet(VERSION) == b'2' {
             Form::New
         } else if self.octet(MIGRATED) == 1 {
@@ -140,9 +144,14 @@ impl Image {
         }
     }
 
+    /// How many slots a bank has.
+    pub fn slot_count(self) -> usize {
+        number_of(self.part(SLOT_COUNT, 4)) as usize
+    }
+
     /// Where the banks stand.
-    pub fn layout(&self) -> Layout {
-        let count = number_of(self.part(SLOT_COUNT, 4)) as usize;
+    pub fn layout(self) -> Layout {
+        let count = self.slot_count();
         let form = self.form();
         let banks = form.banks(count);
         Layout {
@@ -153,7 +162,7 @@ impl Image {
     }
 
     /// Where the open bank begins, and where the other one does.
-    fn places(&self) -> (usize, usize) {
+    fn places(self) -> (usize, usize) {
         let layout = self.layout();
         let second = layout.banks.saturating_add(layout.bank_length);
         if self.octet(layout.banks) == 1 {
@@ -164,12 +173,12 @@ impl Image {
     }
 
     /// Where the open bank begins.
-    pub fn current(&self) -> usize {
+    pub fn current(self) -> usize {
         self.places().0
     }
 
     /// The gate of the first slot that is not open.
-    pub fn first_closed(&self) -> usize {
+    pub fn first_closed(self) -> usize {
         let layout = self.layout();
         let mut place = self.current().saturating_add(layout.slots);
         for _ in 0..layout.bank_length / SLOT {
@@ -181,98 +190,59 @@ impl Image {
         place
     }
 
-    /// A copy of the image.
-    fn copy(&self, alloc: Global) -> Result<Image, AllocError> {
-        Ok(Image {
-            octets: Vec::from_slice(alloc, self.octets.as_slice())?,
-        })
-    }
-
-    /// The image with this octet at a place.
-    pub fn with(&self, alloc: Global, place: usize, value: u8) -> Result<Image, AllocError> {
-        let mut changed = self.copy(alloc)?;
-        put(changed.octets.as_mut_slice(), place, &[value]);
-        Ok(changed)
-    }
-
-    /// The image whose two banks have changed places.
-    pub fn swapped(&self, alloc: Global) -> Result<Image, AllocError> {
-        let Layout {
-            banks,
-            bank_length,
-            slots: _,
-        } = self.layout();
-        let second = banks.saturating_add(bank_length);
-        let mut swapped = self.copy(alloc)?;
-        put(
-            swapped.octets.as_mut_slice(),
-            banks,
-            self.part(second, bank_length),
-        );
-        put(
-            swapped.octets.as_mut_slice(),
-            second,
-            self.part(banks, bank_length),
-        );
-        Ok(swapped)
-    }
-
-    /// What an opening leaves of a changed image whose open bank is still this one's: one at rest, of version 2.
-    pub fn left(&self, alloc: Global, changed: Image) -> Result<Image, AllocError> {
-        match self.form() {
-            Form::Old => self.migrated(alloc, &changed),
-            Form::Migrated => {
-                let mut left = self.at_rest(changed);
-                let end = self.layout().banks;
-                clear(left.octets.as_mut_slice(), BANKS, end.saturating_sub(BANKS));
-                Ok(left)
-            }
-            Form::New => Ok(self.at_rest(changed)),
-        }
-    }
-
-    /// A changed image at rest: the gate of the first closed slot and the other bank are zero.
-    fn at_rest(&self, mut changed: Image) -> Image {
-        let gate = changed.first_closed();
-        clear(changed.octets.as_mut_slice(), gate, 1);
+    /// Sets to zero what an opening does in an image of version 2 whose open bank is this one's: the gate of the first
+    /// closed slot, the other bank, and the banks of version 1.
+    pub fn put_at_rest(self, changed: &mut [u8]) {
+        let gate = Image { octets: changed }.first_closed();
+        clear(changed, gate, 1);
         let (_, other) = self.places();
-        clear(
-            changed.octets.as_mut_slice(),
-            other,
-            self.layout().bank_length,
-        );
-        changed
+        let layout = self.layout();
+        clear(changed, other, layout.bank_length);
+        clear(changed, BANKS, layout.banks.saturating_sub(BANKS));
     }
 
-    /// The image that a changed one of version 1 is migrated to: header and plan, zeros, and behind them a bank with the
-    /// rows of the open one.
-    fn migrated(&self, alloc: Global, changed: &Image) -> Result<Image, AllocError> {
-        let slots = number_of(self.part(SLOT_COUNT, 4)) as usize;
-        let mut octets = vec![in alloc; 0; Form::Migrated.end(slots)]?;
-        put(octets.as_mut_slice(), 0, changed.part(0, BANKS));
-        put(octets.as_mut_slice(), MIGRATED, &[1]);
-        let bank = Form::Migrated.banks(slots);
-        self.put_bank(octets.as_mut_slice(), bank, changed);
-        Ok(Image { octets })
-    }
-
-    /// Writes the bank of version 2 for the open bank of a changed image: its gate, the generation 1, how many rows there
-    /// are, and the rows. The mark and the floor of the first key are those of its record, if there is one.
-    fn put_bank(&self, octets: &mut [u8], bank: usize, changed: &Image) {
+    /// Writes the image that a changed one of version 1 is migrated to over zeros: header and plan, and behind zeros a
+    /// bank with the rows of the open one.
+    pub fn migrate(self, changed: Image<'_>, octets: &mut [u8]) {
+        put(octets, 0, changed.part(0, BANKS));
+        put(octets, MIGRATED, &[1]);
+        let bank = Form::Migrated.banks(self.slot_count());
         let old = self.current();
-        let count = changed.part(old.saturating_add(CONTENT), 2);
-        let sa_count = changed.part(old.saturating_add(CONTENT + 2), 1);
-        let keys = changed.part(old.saturating_add(KEY_ROWS), KEY_ROOM_ONE);
-        let associations = changed.part(old.saturating_add(SA_ROWS_ONE), SA_ROOM_ONE);
         put(octets, bank, &[1, 0, 0, 0, 0, 0, 0, 0, 1]);
+        changed.put_rows(old, octets, bank);
+        changed.put_marks(old.saturating_add(SLOTS_ONE), octets, bank);
+    }
+
+    /// Writes how many rows the open bank has, and the rows.
+    fn put_rows(self, old: usize, octets: &mut [u8], bank: usize) {
+        let count = self.part(old.saturating_add(CONTENT), 2);
+        let sa_count = self.part(old.saturating_add(CONTENT + 2), 1);
+        let keys = self.part(old.saturating_add(KEY_ROWS), KEY_ROOM_ONE);
+        let associations = self.part(old.saturating_add(SA_ROWS_ONE), SA_ROOM_ONE);
         put(octets, bank.saturating_add(CONTENT), count);
         put(octets, bank.saturating_add(CONTENT + 3), sa_count);
         put(octets, bank.saturating_add(KEY_ROWS), keys);
         put(octets, bank.saturating_add(SA_ROWS_TWO), associations);
-        let slot = old.saturating_add(SLOTS_ONE);
-        if changed.octet(slot) == 1 {
-            let marks = changed.part(slot.saturating_add(RECORD_MARK), MARKS);
+    }
+
+    /// Writes the mark and the floor of the record of a slot, if there is one, into the row of the first key.
+    fn put_marks(self, slot: usize, octets: &mut [u8], bank: usize) {
+        if self.octet(slot) == 1 {
+            let marks = self.part(slot.saturating_add(RECORD_MARK), MARKS);
             put(octets, bank.saturating_add(KEY_ROWS + MARK), marks);
         }
     }
+}
+
+/// Lets the two banks of an image change places.
+pub fn swap_banks(alloc: Global, octets: &mut [u8]) -> Result<(), AllocError> {
+    let old = Vec::from_slice(alloc, octets)?;
+    let image = Image {
+        octets: old.as_slice(),
+    };
+    let layout = image.layout();
+    let second = layout.banks.saturating_add(layout.bank_length);
+    put(octets, layout.banks, image.part(second, layout.bank_length));
+    put(octets, second, image.part(layout.banks, layout.bank_length));
+    Ok(())
 }
