@@ -1,5 +1,6 @@
 //! The calls of a run that a table goes through.
-use case_lines::number_at;
+use case_lines::{number_at, word_at};
+use sdls_outside::Crash;
 
 /// More calls than a run makes.
 pub const MOST_CALLS: u64 = 3_000;
@@ -13,15 +14,6 @@ pub struct Calls {
 }
 
 impl Calls {
-    /// All calls from one on.
-    pub fn from(first: u64) -> Calls {
-        Calls {
-            first,
-            end: MOST_CALLS,
-            each: 1,
-        }
-    }
-
     /// The calls that a line says behind so many words: `FIRST END EACH`. Without a word from the first one, to the last
     /// one, one after the other.
     pub fn of_line(line: &str, place: usize) -> Calls {
@@ -42,5 +34,14 @@ impl Calls {
         self.first <= call
             && call < self.end
             && (call - self.first).checked_rem(self.each) == Some(0)
+    }
+}
+
+/// What a crash leaves by a word of a line: what was written, what was synced, or an octet in each place that was torn.
+pub fn crash_at(line: &str, place: usize) -> Crash {
+    match word_at(line, place) {
+        "kept" => Crash::Kept,
+        "lost" => Crash::Lost,
+        word => Crash::Filled(word.parse().unwrap_or(0)),
     }
 }

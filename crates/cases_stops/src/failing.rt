@@ -1,10 +1,10 @@
 //! One call of the site that fails.
-use crate::answers::Answer;
+use crate::answers::{Answer, push_answers};
 use crate::calls::MOST_CALLS;
 use crate::runs::{Ran, Runs};
-use case_lines::said;
 use record_io::code::END;
 use record_io::status::{DONE, SITE_FAULT};
+use sdls_outside::Crash;
 use std::alloc::{AllocError, Global};
 use std::sync::Wait;
 use std::thread::Threads;
@@ -18,77 +18,138 @@ enum Call {
     Put,
     /// It stores a change, or syncs.
     Other,
+    /// The run makes no such call.
+    None,
+    /// What the run or the next one put is not what is due.
+    Flawed,
 }
 
-/// Whether the answers are so many, and End with the status of a fault behind them.
-fn end_behind(answers: &[Answer], count: usize) -> bool {
+/// Whether the answers of a run are so many, and behind them End with the status of a fault, the count of the run's
+/// entries, and one fault.
+fn end_behind(answers: &[Answer], count: usize, ran: &Ran) -> bool {
     match answers.last() {
         Some(last) => {
-            last.code == END && last.detail == SITE_FAULT && answers.len() - 1 == count
+            last.code == END
+                && last.detail == SITE_FAULT
+                && last.position == ran.entries as u64
+                && last.number == 1
+                && answers.len() - 1 == count
         }
         None => false,
     }
 }
 
-/// Whether a run in which this call failed put what is due: End alone if it opens the image; if it puts answers what
-/// stood before it, and nothing more; else an answer for each record, and End.
-fn is_due(
-    alloc: Global,
-    runs: &Runs,
-    call: Call,
-    before: &Ran,
-    ran: &Ran,
-) -> Result<bool, AllocError> {
-    if ran.status != SITE_FAULT {
-        return Ok(false);
+/// What this call was for, which failed.
+fn call_of(call: u64, opening: u64, ran: &Ran) -> Call {
+    if ran.status == DONE {
+        Call::None
+    } else if call < opening {
+        Call::Opening
+    } else if ran.site.failed_put().is_some() {
+        Call::Put
+    } else {
+        Call::Other
     }
-    let answers = ran.answers(alloc)?;
-    Ok(match call {
-        Call::Opening => end_behind(answers.as_slice(), 0),
-        Call::Put => ran.site.sunk() == before.site.sunk(),
-        Call::Other => end_behind(answers.as_slice(), runs.records),
-    })
 }
 
-/// What this call is for, by what is put on a site that is dead from it on, and from the next one on.
-fn call_of(call: u64, opening: u64, before: &Ran, behind: &Ran) -> Call {
-    if call < opening {
-        return Call::Opening;
-    }
-    if behind.site.sunk().len() > before.site.sunk().len() {
-        return Call::Put;
-    }
-    Call::Other
+/// Whether a run in which such a call failed put what is due: End alone if it opens the image; if it puts answers a
+/// front of those of the whole run, and nothing more; else an answer for each record, and End.
+fn is_due(call: Call, records: usize, ran: &Ran, answers: &[Answer], whole: &[u8]) -> bool {
+    let sunk = ran.site.sunk();
+    ran.status == SITE_FAULT
+        && match call {
+            Call::Opening => end_behind(answers, 0, ran),
+            Call::Put => ran.site.failed_put() == Some(sunk.len()) && whole.starts_with(sunk),
+            Call::Other => end_behind(answers, records, ran),
+            Call::None | Call::Flawed => false,
+        }
 }
 
-/// What is wrong with the runs in which one call fails: how many calls of each kind there are if nothing is.
-pub fn told<R: Threads + Wait + Sync>(
-    rt: &R,
-    alloc: Global,
-    runs: &Runs,
-    opening: u64,
-) -> anyhow::Result<String> {
-    let mut puts = 0u64;
-    let mut others = 0u64;
-    let mut before = runs.dead(rt, alloc, 0)?;
-    for call in 0..MOST_CALLS {
-        let ran = runs.failing(rt, alloc, call)?;
-        if ran.status == DONE {
-            return Ok(format!(in alloc;
-                "{opening} calls of the opening, {puts} puts, {others} others, sound"
-            )?);
+impl<R: Threads + Wait + Sync> Runs<'_, R> {
+    /// Whether the next run is sound behind one in which such a call failed: if it opens the image, it puts what it
+    /// does alone.
+    fn is_next_due(
+        &self,
+        alloc: Global,
+        call: Call,
+        answers: &mut Vec<Answer>,
+        ran: Ran,
+        crash: Crash,
+        alone: &Ran,
+    ) -> Result<bool, AllocError> {
+        let left = ran.site.crashed(alloc, crash)?;
+        let next = self.next(alloc, left)?;
+        if call == Call::Opening && next.site.sunk() != alone.site.sunk() {
+            return Ok(false);
         }
-        let behind = runs.dead(rt, alloc, call + 1)?;
-        let kind = call_of(call, opening, &before, &behind);
-        if !is_due(alloc, runs, kind, &before, &ran)? {
-            return Ok(format!(in alloc; "call {call} fails: not what is due")?);
-        }
-        match kind {
-            Call::Opening => {}
-            Call::Put => puts = puts.saturating_add(1),
-            Call::Other => others = others.saturating_add(1),
-        }
-        before = behind;
+        Ok(self.flaw_of_next(answers, &next, &[])?.is_empty())
     }
-    said(alloc, "no end")
+
+    /// What a call is for, in a run in which it alone fails.
+    fn judge_call(
+        &self,
+        alloc: Global,
+        call: u64,
+        opening: u64,
+        crash: Crash,
+        whole: &Ran,
+        alone: &Ran,
+    ) -> Result<Call, AllocError> {
+        let ran = self.first(alloc, Some(call), None)?;
+        let kind = call_of(call, opening, &ran);
+        if kind == Call::None {
+            return Ok(kind);
+        }
+        let mut answers = Vec::new(alloc);
+        push_answers(&mut answers, ran.site.sunk())?;
+        let records = self.input.records;
+        if is_due(kind, records, &ran, answers.as_slice(), whole.site.sunk())
+            && self.is_next_due(alloc, kind, &mut answers, ran, crash, alone)?
+        {
+            return Ok(kind);
+        }
+        Ok(Call::Flawed)
+    }
+
+    /// Writes how many calls of each kind there are, or the first with which something is wrong.
+    fn judge_calls(
+        &self,
+        alloc: Global,
+        opening: u64,
+        crash: Crash,
+        whole: &Ran,
+        alone: &Ran,
+        answer: &mut String,
+    ) -> Result<(), AllocError> {
+        let mut puts = 0u64;
+        let mut others = 0u64;
+        for call in 0..MOST_CALLS {
+            match self.judge_call(alloc, call, opening, crash, whole, alone)? {
+                Call::Opening => {}
+                Call::Put => puts = puts.saturating_add(1),
+                Call::Other => others = others.saturating_add(1),
+                Call::None => {
+                    return write!(
+                        answer,
+                        "{opening} calls of the opening, {puts} puts, {others} others, sound"
+                    );
+                }
+                Call::Flawed => return write!(answer, "call {call} fails: not what is due"),
+            }
+        }
+        answer.push_str("no end")
+    }
+
+    /// Writes what is wrong with the runs in which one call fails, and with the next ones behind such a crash.
+    pub fn judge_failing(
+        &self,
+        alloc: Global,
+        opening: u64,
+        crash: Crash,
+        answer: &mut String,
+    ) -> Result<(), AllocError> {
+        let whole = self.first(alloc, None, None)?;
+        let alone = self.next_alone(alloc)?;
+        self.judge_calls(alloc, opening, crash, &whole, &alone, answer)
+    }
 }

@@ -5,20 +5,21 @@
 //! `set OFFSET OCTETS` writes octets over those of the image, `octets OFFSET LENGTH` prints some of them, `length` how
 //! many there are, and `look OCTETS` whether these stand there. `records` begins an input anew; `protect LINK OCTETS`,
 //! `open LINK OCTETS`, `command OCTETS` and `fence` gather its items, all on lane 0. Each run is over this image and this
-//! input.
+//! input. `next` begins the input of the run behind it, which else is over the same input again.
 //!
 //! `stops KIND`: the site is dead from call k, for k from 0 on, until a run meets no stop. Behind each the image is
-//! crashed: `kept`, `lost`, or filled with an octet. Then the same input is run again. `stops KIND FIRST END EACH` takes
-//! some of the calls. `gone FIRST KIND OCTETS`: the same from a call on, and these octets stand nowhere in what the
-//! crash leaves, nor behind the next run.
+//! crashed: `kept`, `lost`, or filled with an octet. Then comes the next run. `stops KIND FIRST END EACH` takes some of
+//! the calls. `gone FIRST KIND OCTETS`: the same from a call on, and these octets stand nowhere in what the crash
+//! leaves, nor behind the next run.
 //!
 //! `stat` prints what `stat` says of the image, and takes the image that it leaves. `stats KIND`, or with
 //! `FIRST END EACH`: `stat` on a site that is dead from call k, a crash, and three more of it.
 //!
-//! `failing OPENING`: one call fails, for each call of a run, of which so many open the image.
+//! `failing OPENING KIND`: one call fails, for each call of a run, of which so many open the image. Behind each come a
+//! crash and the next run.
 //!
-//! `next` begins the input of a later run. `refused` runs the first input twice, each time over the image of the unit,
-//! and the later one behind each. `docs/refuse_memory` has each allocation of that refused in turn.
+//! `refused` makes two runs, each over the image of the unit, and the next one behind each. `docs/refuse_memory` has
+//! each allocation of that refused in turn.
 #![tactic(auto)]
 
 mod answers;
@@ -27,24 +28,24 @@ mod failing;
 mod noted_site;
 mod refused;
 mod runs;
-mod stats;
 mod stops;
 mod table;
 
 use table::Table;
 
 fn main(rt: HostRuntime) -> anyhow::Result<()> {
-    let mut table = Table::new(rt.alloc());
+    let mut table = Table::new(&rt, rt.alloc());
+    let mut answer = String::new(rt.alloc());
     for line in rt.lines(rt.alloc()) {
         let line = line?;
-        let line = line.as_str();
-        if line.starts_with("#") {
-            println!(rt; "{line}")?;
+        answer.clear();
+        if line.as_str().starts_with("#") {
+            answer.push_str(line.as_str())?;
         } else {
-            let answer = table.answer(&rt, rt.alloc(), line)?;
-            if !answer.is_empty() {
-                println!(rt; "{answer}")?;
-            }
+            table.step(rt.alloc(), line.as_str(), &mut answer)?;
+        }
+        if !answer.is_empty() {
+            println!(rt; "{answer}")?;
         }
     }
     Ok(())

@@ -1,4 +1,4 @@
-//! A site in memory that notes what was written since its last sync.
+//! A site in memory that notes what was written since its last sync, and whether a put failed.
 ghost use Rattle.std.specs.Prelude.{true};
 ghost use Rattle.sdls_outside.specs.contracts.mem_site.MemSiteSite.TheImpl.Laws as mem_laws;
 
@@ -12,6 +12,8 @@ pub struct NotedSite {
     inside: MemSite,
     /// Where the writes since the last sync begin, and where they end.
     written: Vec<(u64, u64)>,
+    /// How many octets were sunk when a put failed first.
+    failed_put: Option<usize>,
 }
 
 /// Writes this octet to each place that was written.
@@ -47,6 +49,7 @@ impl NotedSite {
         NotedSite {
             inside: MemSite::new(alloc, image, failing, dead_from),
             written: Vec::new(alloc),
+            failed_put: None,
         }
     }
 
@@ -58,6 +61,11 @@ impl NotedSite {
     /// The octets sunk so far.
     pub fn sunk(&self) -> &[u8] {
         self.inside.sunk()
+    }
+
+    /// How many octets were sunk when a put failed first, if one did.
+    pub fn failed_put(&self) -> Option<usize> {
+        self.failed_put
     }
 
     /// The image as it reads, with this octet in each place that was written since the last sync.
@@ -73,10 +81,15 @@ impl NotedSite {
             let image = self.filled(alloc, octet)?;
             return Ok(NotedSite::new(alloc, image, Vec::new(alloc), None));
         }
-        let NotedSite { inside, written: _ } = self;
+        let NotedSite {
+            inside,
+            written: _,
+            failed_put: _,
+        } = self;
         Ok(NotedSite {
             inside: inside.crashed(how),
             written: Vec::new(alloc),
+            failed_put: None,
         })
     }
 }
@@ -115,7 +128,11 @@ impl Site for NotedSite {
     }
 
     fn put(&mut self, octets: &[u8]) -> Result<(), Failed> {
-        self.inside.put(octets)
+        let put = self.inside.put(octets);
+        if put.is_err() && self.failed_put.is_none() {
+            self.failed_put = Some(self.inside.sunk().len());
+        }
+        put
     }
 
     fn faults(&self) -> u64 {

@@ -1,7 +1,6 @@
 //! A run to which memory is refused once, and the next one.
 use crate::answers::{Answer, has_repeat, push_answers};
 use crate::runs::{Ran, Runs};
-use case_lines::said;
 use record_io::code::{END, NO_MEMORY, SITE_FAULT, STOPPED};
 use record_io::status;
 use sdls_outside::Crash;
@@ -19,7 +18,7 @@ fn is_refusal(answer: &Answer) -> bool {
     }
 }
 
-/// The octets that were put before the first such answer.
+/// The octets that a run with these answers put before the first such answer.
 fn front<'a>(answers: &[Answer], sunk: &'a [u8]) -> &'a [u8] {
     match answers.iter().find(|answer| is_refusal(answer)) {
         Some(answer) => sunk.get(..answer.at).unwrap_or(sunk),
@@ -40,9 +39,10 @@ fn ends(ran: &Ran) -> bool {
     )
 }
 
-/// Whether the site failed a record.
-fn has_site_fault(answers: &[Answer]) -> bool {
-    answers.iter().any(|answer| answer.code == SITE_FAULT || answer.code == STOPPED)
+/// Whether the site failed a record, and the run ended otherwise.
+fn hides_site_fault(answers: &[Answer], ran: &Ran) -> bool {
+    ran.status != status::SITE_FAULT
+        && answers.iter().any(|answer| answer.code == SITE_FAULT || answer.code == STOPPED)
 }
 
 /// Whether a run may end so behind one with these answers: memory is refused once, so to one of them at most.
@@ -51,53 +51,66 @@ fn may_end(answers: &[Answer], later: &Ran) -> bool {
         || (ends(later) && !answers.iter().any(|answer| is_refusal(answer)))
 }
 
-/// What is wrong with a run and the next one. Empty if nothing is.
-fn flaw_of<R: Threads + Wait + Sync>(
-    rt: &R,
-    alloc: Global,
-    first: Ran,
-    next: &Runs,
-) -> Result<&'static str, AllocError> {
-    let mut answers = first.answers(alloc)?;
-    if has_site_fault(answers.as_slice()) && first.status != status::SITE_FAULT {
-        return Ok("the site failed, and the run ends otherwise");
+impl<R: Threads + Wait + Sync> Runs<'_, R> {
+    /// What is wrong with a run with these answers and the next one. Empty if nothing is.
+    fn flaw_of_refused(
+        &self,
+        alloc: Global,
+        answers: &mut Vec<Answer>,
+        first: Ran,
+    ) -> Result<&'static str, AllocError> {
+        if hides_site_fault(answers.as_slice(), &first) {
+            return Ok("the site failed, and the run ends otherwise");
+        }
+        let left = first.site.crashed(alloc, Crash::Kept)?;
+        let later = self.next(alloc, left)?;
+        if !may_end(answers.as_slice(), &later) {
+            return Ok("the next run does not open the image");
+        }
+        push_answers(answers, later.site.sunk())?;
+        if has_repeat(answers.as_slice()) {
+            return Ok("a number stands twice");
+        }
+        Ok("")
     }
-    let later = next.on(rt, alloc, first.site.crashed(alloc, Crash::Kept)?)?;
-    if !may_end(answers.as_slice(), &later) {
-        return Ok("the next run does not open the image");
-    }
-    push_answers(&mut answers, later.site.sunk())?;
-    if has_repeat(answers.as_slice()) {
-        return Ok("a number stands twice");
-    }
-    Ok("")
-}
 
-/// What is wrong with two runs over one image and input, of which memory is refused to one at most, and with the next
-/// run behind each: `sound` if nothing is.
-pub fn told<R: Threads + Wait + Sync>(
-    rt: &R,
-    alloc: Global,
-    runs: &Runs,
-    next: &Runs,
-) -> anyhow::Result<String> {
-    let one = runs.whole(rt, alloc)?;
-    let other = runs.whole(rt, alloc)?;
-    let (first, second) = (one.answers(alloc)?, other.answers(alloc)?);
-    if !ends(&one) || !ends(&other) {
-        return said(alloc, "another end");
-    }
-    if !agree(
-        front(first.as_slice(), one.site.sunk()),
-        front(second.as_slice(), other.site.sunk()),
-    ) {
-        return said(alloc, "another answer");
-    }
-    for ran in [one, other] {
-        let flaw = flaw_of(rt, alloc, ran, next)?;
+    /// What is wrong with two runs over the input, of which memory is refused to one at most, and with the next run
+    /// behind each: `sound` if nothing is. The answers of both are taken.
+    fn judge_two(
+        &self,
+        alloc: Global,
+        one: Ran,
+        other: Ran,
+        first: &mut Vec<Answer>,
+        second: &mut Vec<Answer>,
+    ) -> Result<&'static str, AllocError> {
+        push_answers(first, one.site.sunk())?;
+        push_answers(second, other.site.sunk())?;
+        if !ends(&one) || !ends(&other) {
+            return Ok("another end");
+        }
+        if !agree(
+            front(first.as_slice(), one.site.sunk()),
+            front(second.as_slice(), other.site.sunk()),
+        ) {
+            return Ok("another answer");
+        }
+        let flaw = self.flaw_of_refused(alloc, first, one)?;
         if !flaw.is_empty() {
-            return said(alloc, flaw);
+            return Ok(flaw);
+        }
+        match self.flaw_of_refused(alloc, second, other)? {
+            "" => Ok("sound"),
+            flaw => Ok(flaw),
         }
     }
-    said(alloc, "sound")
+
+    /// Writes what is wrong with two such runs.
+    pub fn judge_refused(&self, alloc: Global, answer: &mut String) -> Result<(), AllocError> {
+        let one = self.first(alloc, None, None)?;
+        let other = self.first(alloc, None, None)?;
+        let mut first = Vec::new(alloc);
+        let mut second = Vec::new(alloc);
+        answer.push_str(self.judge_two(alloc, one, other, &mut first, &mut second)?)
+    }
 }

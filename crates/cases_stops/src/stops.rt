@@ -1,28 +1,24 @@
-//! A site that is dead from a call on, a crash, and the next run.
-use crate::answers::{has_repeat, push_answers};
+//! A site that is dead from a call on, a crash, and the next runs.
+use crate::answers::{Answer, has_repeat, push_answers};
 use crate::calls::Calls;
 use crate::runs::{Ran, Runs};
-use case_lines::said;
+use record_io::code::PROTECTED;
 use record_io::status::{DONE, SITE_FAULT};
 use sdls_outside::Crash;
 use std::alloc::{AllocError, Global};
 use std::sync::Wait;
 use std::thread::Threads;
 
-/// What a crash leaves by a word: what was written, what was synced, or an octet in each place that was torn.
-pub fn crash_of(word: &str) -> Crash {
-    match word {
-        "kept" => Crash::Kept,
-        "lost" => Crash::Lost,
-        _ => Crash::Filled(word.parse().unwrap_or(0)),
-    }
-}
+/// How often `stat` opens an image behind a crash.
+const OPENINGS: u8 = 3;
 
-/// A crash, and octets that are to stand nowhere behind it. No octets stand somewhere.
+/// What is judged behind a stop.
 #[derive(Clone, Copy)]
-pub struct Behind<'a> {
-    pub crash: Crash,
-    pub gone: &'a [u8],
+pub enum Rule<'a> {
+    /// No number stands twice, and these octets stand nowhere. No octets stand somewhere.
+    Numbers(&'a [u8]),
+    /// `stat` says and leaves what it does without the stop.
+    Stat(&'a Ran),
 }
 
 /// Whether these octets stand in the image.
@@ -30,60 +26,153 @@ pub fn stand(octets: &[u8], image: &[u8]) -> bool {
     !octets.is_empty() && image.windows(octets.len()).any(|part| part == octets)
 }
 
-/// What is wrong with a run that met a stop, and with the next one. Empty if nothing is.
-fn flaw_of<R: Threads + Wait + Sync>(
-    rt: &R,
-    alloc: Global,
-    runs: &Runs,
-    first: Ran,
-    behind: Behind<'_>,
-) -> Result<&'static str, AllocError> {
-    if first.status != SITE_FAULT {
-        return Ok("it ends otherwise");
-    }
-    let mut answers = first.answers(alloc)?;
-    let left = first.site.crashed(alloc, behind.crash)?;
-    if stand(behind.gone, left.image()) {
-        return Ok("the octets are left");
-    }
-    let next = runs.on(rt, alloc, left)?;
-    if next.status != DONE {
-        return Ok("the next run does not end well");
-    }
-    if stand(behind.gone, next.site.image()) {
-        return Ok("the next run has the octets");
-    }
-    push_answers(&mut answers, next.site.sunk())?;
-    if has_repeat(answers.as_slice()) {
-        return Ok("a number stands twice");
-    }
-    Ok("")
+/// Whether a run wrote and left the same as another one.
+fn is_same(ran: &Ran, whole: &Ran) -> bool {
+    ran.status == whole.status
+        && ran.site.sunk() == whole.site.sunk()
+        && ran.site.image() == whole.site.image()
 }
 
-/// What is wrong with the stops at these calls: `N stops, sound` if nothing is.
-pub fn told<R: Threads + Wait + Sync>(
-    rt: &R,
-    alloc: Global,
-    runs: &Runs,
-    calls: Calls,
-    behind: Behind<'_>,
-) -> anyhow::Result<String> {
-    let mut stops = 0u64;
-    for call in calls.first..calls.end {
-        if calls.has(call) {
-            let ran = runs.dead(rt, alloc, call)?;
-            if ran.status == DONE {
-                if stand(behind.gone, ran.site.image()) {
-                    return said(alloc, "the octets are left");
-                }
-                break;
+/// How many of the answers are frames that were protected.
+fn count_protected(answers: &[Answer]) -> usize {
+    answers
+        .iter()
+        .filter(|answer| answer.code == PROTECTED)
+        .count()
+}
+
+impl<R: Threads + Wait + Sync> Runs<'_, R> {
+    /// What is wrong with the next run, behind one with these answers. Empty if nothing is. Where it has an input of its
+    /// own, each of its frames is protected.
+    pub fn flaw_of_next(
+        &self,
+        answers: &mut Vec<Answer>,
+        next: &Ran,
+        gone: &[u8],
+    ) -> Result<&'static str, AllocError> {
+        if next.status != DONE {
+            return Ok("the next run does not end well");
+        }
+        if stand(gone, next.site.image()) {
+            return Ok("the next run has the octets");
+        }
+        let earlier = count_protected(answers.as_slice());
+        push_answers(answers, next.site.sunk())?;
+        if count_protected(answers.as_slice()) < earlier.saturating_add(self.later.frames) {
+            return Ok("the next run does not protect each frame");
+        }
+        if has_repeat(answers.as_slice()) {
+            return Ok("a number stands twice");
+        }
+        Ok("")
+    }
+
+    /// What is wrong with a run that met a stop, whose answers are taken, and with the next one.
+    fn flaw_of_run(
+        &self,
+        alloc: Global,
+        answers: &mut Vec<Answer>,
+        first: Ran,
+        crash: Crash,
+        gone: &[u8],
+    ) -> Result<&'static str, AllocError> {
+        push_answers(answers, first.site.sunk())?;
+        let left = first.site.crashed(alloc, crash)?;
+        if stand(gone, left.image()) {
+            return Ok("the octets are left");
+        }
+        let next = self.next(alloc, left)?;
+        self.flaw_of_next(answers, &next, gone)
+    }
+
+    /// What is wrong with those behind a `stat` that met a stop.
+    fn flaw_of_stat(
+        &self,
+        alloc: Global,
+        first: Ran,
+        crash: Crash,
+        whole: &Ran,
+    ) -> Result<&'static str, AllocError> {
+        let mut site = first.site.crashed(alloc, crash)?;
+        for _ in 0..OPENINGS {
+            let next = self.next(alloc, site)?;
+            if !is_same(&next, whole) {
+                return Ok("the next one is not as without the stop");
             }
-            let flaw = flaw_of(rt, alloc, runs, ran, behind)?;
-            if !flaw.is_empty() {
-                return Ok(format!(in alloc; "a stop at call {call}: {flaw}")?);
+            site = next.site.crashed(alloc, Crash::Kept)?;
+        }
+        Ok("")
+    }
+
+    /// What is wrong with a run that met a stop, and with those behind it.
+    fn flaw_of(
+        &self,
+        alloc: Global,
+        first: Ran,
+        crash: Crash,
+        rule: Rule<'_>,
+    ) -> Result<&'static str, AllocError> {
+        match rule {
+            Rule::Numbers(gone) => {
+                self.flaw_of_run(alloc, &mut Vec::new(alloc), first, crash, gone)
             }
-            stops = stops.saturating_add(1);
+            Rule::Stat(whole) => self.flaw_of_stat(alloc, first, crash, whole),
         }
     }
-    Ok(format!(in alloc; "{stops} stops, sound")?)
+
+    /// What is wrong with a stop at a call. None if the run meets none, and leaves no octets that are to be gone.
+    fn flaw_at(
+        &self,
+        alloc: Global,
+        call: u64,
+        crash: Crash,
+        rule: Rule<'_>,
+    ) -> Result<Option<&'static str>, AllocError> {
+        let first = self.first(alloc, None, Some(call))?;
+        match (first.status, rule) {
+            (DONE, Rule::Numbers(gone)) if stand(gone, first.site.image()) => {
+                Ok(Some("the octets are left"))
+            }
+            (DONE, _) => Ok(None),
+            (SITE_FAULT, _) => Ok(Some(self.flaw_of(alloc, first, crash, rule)?)),
+            _ => Ok(Some("it ends otherwise")),
+        }
+    }
+
+    /// Writes what is wrong with the stops at these calls: `N stops, sound` if nothing is.
+    pub fn judge_stops(
+        &self,
+        alloc: Global,
+        calls: Calls,
+        crash: Crash,
+        rule: Rule<'_>,
+        answer: &mut String,
+    ) -> Result<(), AllocError> {
+        let mut stops = 0u64;
+        for call in calls.first..calls.end {
+            if calls.has(call) {
+                match self.flaw_at(alloc, call, crash, rule)? {
+                    None => break,
+                    Some("") => stops = stops.saturating_add(1),
+                    Some(flaw) => return write!(answer, "a stop at call {call}: {flaw}"),
+                }
+            }
+        }
+        write!(answer, "{stops} stops, sound")
+    }
+
+    /// The same of `stat`, which ends well without a stop.
+    pub fn judge_stats(
+        &self,
+        alloc: Global,
+        calls: Calls,
+        crash: Crash,
+        answer: &mut String,
+    ) -> Result<(), AllocError> {
+        let whole = self.first(alloc, None, None)?;
+        if whole.status != DONE {
+            return answer.push_str("it does not end well");
+        }
+        self.judge_stops(alloc, calls, crash, Rule::Stat(&whole), answer)
+    }
 }

@@ -1,178 +1,198 @@
 //! The steps, and what they answer.
-use crate::calls::Calls;
+use crate::calls::{Calls, crash_at};
 use crate::runs::Runs;
-use crate::stats::{self, Said};
-use crate::stops::{self, Behind, crash_of, stand};
-use crate::{failing, refused};
-use case_lines::{Gathered, number_at, part_of, said, set_part_of, word_at};
-use case_units::{BEGINNING, FENCE, image_of, image_of_version_one};
+use crate::stops::{Rule, stand};
+use case_lines::{Gathered, number_at, part_of, set_part_of, word_at};
+use case_units::{image_of, image_of_version_one};
 use std::alloc::{AllocError, Global};
-use std::mem;
 use std::sync::Wait;
 use std::thread::Threads;
 
-/// What was gathered: a plan, the runs, and those that a later one goes on with.
+/// What was gathered: a plan, and the runs.
 #[derive(Drop)]
-pub struct Table {
+pub struct Table<'a, R> {
     plan: Gathered,
-    runs: Runs,
-    first: Runs,
+    runs: Runs<'a, R>,
 }
 
-impl Table {
+impl<'a, R> Table<'a, R> {
     /// A table of which nothing was read.
-    pub fn new(alloc: Global) -> Table {
+    pub fn new(rt: &'a R, alloc: Global) -> Table<'a, R> {
         Table {
             plan: Gathered::new(alloc),
-            runs: Runs::new(alloc),
-            first: Runs::new(alloc),
+            runs: Runs::new(rt, alloc),
         }
-    }
-
-    /// Takes the image that was made of the plan, if there is one.
-    fn take(&mut self, alloc: Global, image: Option<Vec<u8>>) -> anyhow::Result<String> {
-        self.plan.clear();
-        match image {
-            Some(image) => {
-                self.runs.image = image;
-                Ok(String::new(alloc))
-            }
-            None => said(alloc, "no unit"),
-        }
-    }
-
-    /// Begins the input anew.
-    fn begin(&mut self, alloc: Global) -> Result<(), AllocError> {
-        self.runs.input = Vec::from_slice(alloc, BEGINNING)?;
-        self.runs.records = 0;
-        Ok(())
-    }
-
-    /// Gathers a record.
-    fn push(&mut self, alloc: Global, kind: u8, link: u8, octets: &str) -> anyhow::Result<()> {
-        let octets = hex::decode(alloc, octets)?;
-        let [high, low] = ((octets.len() % 65_536) as u16).to_be_bytes();
-        self.runs
-            .input
-            .extend_from_slice(&[kind, 0, link, 0, high, low])?;
-        self.runs.input.extend_from_slice(octets.as_slice())?;
-        self.runs.records = self.runs.records.saturating_add(1);
-        Ok(())
     }
 
     /// Takes a step that gathers. Says whether the word names one.
-    fn gathers(&mut self, alloc: Global, word: &str, rest: &str) -> anyhow::Result<bool> {
-        match word {
-            "plan" => self.plan.push(rest)?,
-            "set" => set_part_of(alloc, self.runs.image.as_mut_slice(), rest)?,
-            "records" => self.begin(alloc)?,
-            "next" => {
-                self.first = mem::replace(&mut self.runs, Runs::new(alloc));
-                self.begin(alloc)?
-            }
-            "fence" => self.runs.input.extend_from_slice(FENCE)?,
-            "protect" | "open" => {
-                let kind = if word == "protect" { 1 } else { 2 };
-                self.push(
-                    alloc,
-                    kind,
-                    (number_at(rest, 0) % 256) as u8,
-                    word_at(rest, 1),
-                )?
-            }
-            "command" => self.push(alloc, 3, 0, rest)?,
+    fn gathers(&mut self, word: &str, rest: &str) -> Result<bool, AllocError> {
+        let gathered = match word {
+            "plan" => self.plan.push(rest),
+            "records" => self.runs.begin(),
+            "next" => self.runs.later.begin(),
+            "fence" => self.runs.last_input().push_fence(),
             _ => return Ok(false),
-        }
+        };
+        gathered?;
         Ok(true)
     }
 
-    /// Prints what `stat` says of the image, and takes the image that it leaves.
-    fn stat(&mut self, alloc: Global) -> anyhow::Result<String> {
-        let Said { status: _, site } = stats::said_of(alloc, self.runs.image.as_slice(), None)?;
-        self.runs.image = Vec::from_slice(alloc, site.image())?;
-        let text = String::from_utf8_lossy(alloc, site.sunk())?;
-        Ok(String::from_str(alloc, text.as_str().trim_end())?)
+    /// Gathers the record of a line.
+    fn push(&mut self, alloc: Global, kind: u8, link: u64, digits: &str) -> anyhow::Result<()> {
+        let octets = hex::decode(alloc, digits)?;
+        self.runs
+            .last_input()
+            .push(kind, (link % 256) as u8, octets.as_slice())?;
+        Ok(())
     }
 
-    fn length(&self, alloc: Global) -> anyhow::Result<String> {
-        let length = self.runs.image.len();
-        Ok(format!(in alloc; "{length} octets")?)
+    /// Takes a step with octets. Says whether the word names one.
+    fn takes_octets(&mut self, alloc: Global, word: &str, rest: &str) -> anyhow::Result<bool> {
+        let taken = match word {
+            "set" => set_part_of(alloc, self.runs.image.as_mut_slice(), rest),
+            "protect" => self.push(alloc, 1, number_at(rest, 0), word_at(rest, 1)),
+            "open" => self.push(alloc, 2, number_at(rest, 0), word_at(rest, 1)),
+            "command" => self.push(alloc, 3, 0, rest),
+            _ => return Ok(false),
+        };
+        taken?;
+        Ok(true)
     }
 
-    /// Says whether these octets stand in the image.
-    fn look_for(&self, alloc: Global, octets: &str) -> anyhow::Result<String> {
-        let octets = hex::decode(alloc, octets)?;
-        if stand(octets.as_slice(), self.runs.image.as_slice()) {
-            said(alloc, "there")
+    /// Takes the image that was made of the plan, if there is one.
+    fn make(&mut self, image: Option<Vec<u8>>, answer: &mut String) -> Result<(), AllocError> {
+        self.plan.clear();
+        let Some(image) = image else {
+            return answer.push_str("no unit");
+        };
+        self.runs.image = image;
+        Ok(())
+    }
+
+    /// Takes a step that makes the image. Says whether the word names one.
+    fn makes(
+        &mut self,
+        alloc: Global,
+        word: &str,
+        answer: &mut String,
+    ) -> Result<bool, AllocError> {
+        let text = self.plan.as_str().as_bytes();
+        let image = match word {
+            "unit" => image_of(alloc, text),
+            "unit_one" => image_of_version_one(alloc, text),
+            _ => return Ok(false),
+        };
+        self.make(image, answer)?;
+        Ok(true)
+    }
+
+    /// Writes some of the image.
+    fn push_part(&self, alloc: Global, rest: &str, answer: &mut String) -> anyhow::Result<()> {
+        let part = part_of(alloc, self.runs.image.as_slice(), rest)?;
+        answer.push_str(part.as_str())?;
+        Ok(())
+    }
+
+    /// Writes whether these octets stand in the image.
+    fn look(&self, alloc: Global, digits: &str, answer: &mut String) -> anyhow::Result<()> {
+        let octets = hex::decode(alloc, digits)?;
+        let word = if stand(octets.as_slice(), self.runs.image.as_slice()) {
+            "there"
         } else {
-            said(alloc, "nowhere")
-        }
+            "nowhere"
+        };
+        answer.push_str(word)?;
+        Ok(())
+    }
+}
+
+impl<R: Threads + Wait + Sync> Table<'_, R> {
+    /// Writes what `stat` says of the image, and takes the image that it leaves.
+    fn stat(&mut self, alloc: Global, answer: &mut String) -> Result<(), AllocError> {
+        let ran = self.runs.first(alloc, None, None)?;
+        self.runs.image.clear();
+        self.runs.image.extend_from_slice(ran.site.image())?;
+        let text = String::from_utf8_lossy(alloc, ran.site.sunk())?;
+        answer.push_str(text.as_str().trim_end())
     }
 
-    /// What a step on the image answers. `None` if the word names another.
-    fn of_image(
+    /// Takes a step with `stat`. Says whether the word names one.
+    fn stats(
         &mut self,
         alloc: Global,
         word: &str,
         rest: &str,
-    ) -> Option<anyhow::Result<String>> {
-        let text = self.plan.as_str().as_bytes();
+        answer: &mut String,
+    ) -> Result<bool, AllocError> {
+        if word != "stat" && word != "stats" {
+            return Ok(false);
+        }
+        self.runs.set_words(alloc, "stat")?;
+        if word == "stat" {
+            self.stat(alloc, answer)?;
+        } else {
+            let calls = Calls::of_line(rest, 1);
+            self.runs
+                .judge_stats(alloc, calls, crash_at(rest, 0), answer)?;
+        }
+        self.runs.set_words(alloc, "")?;
+        Ok(true)
+    }
+
+    /// Writes what is wrong with stops behind which octets are to be gone: `FIRST KIND OCTETS`.
+    fn gone(&self, alloc: Global, rest: &str, answer: &mut String) -> anyhow::Result<()> {
+        let octets = hex::decode(alloc, word_at(rest, 2))?;
+        let calls = Calls::of_line(word_at(rest, 0), 0);
+        let rule = Rule::Numbers(octets.as_slice());
+        self.runs
+            .judge_stops(alloc, calls, crash_at(rest, 1), rule, answer)?;
+        Ok(())
+    }
+
+    /// Takes a step with runs.
+    fn judge(
+        &self,
+        alloc: Global,
+        word: &str,
+        rest: &str,
+        answer: &mut String,
+    ) -> Result<(), AllocError> {
         match word {
-            "unit" => {
-                let image = image_of(alloc, text);
-                Some(self.take(alloc, image))
+            "length" => {
+                let length = self.runs.image.len();
+                write!(answer, "{length} octets")
             }
-            "unit_one" => {
-                let image = image_of_version_one(alloc, text);
-                Some(self.take(alloc, image))
-            }
-            "stat" => Some(self.stat(alloc)),
-            "octets" => Some(part_of(alloc, self.runs.image.as_slice(), rest)),
-            "length" => Some(self.length(alloc)),
-            "look" => Some(self.look_for(alloc, rest)),
-            "stats" => {
+            "stops" => {
                 let calls = Calls::of_line(rest, 1);
-                let crash = crash_of(word_at(rest, 0));
-                Some(stats::told(alloc, self.runs.image.as_slice(), calls, crash))
+                let rule = Rule::Numbers(&[]);
+                self.runs
+                    .judge_stops(alloc, calls, crash_at(rest, 0), rule, answer)
             }
-            _ => None,
+            "failing" => {
+                let opening = number_at(rest, 0);
+                self.runs
+                    .judge_failing(alloc, opening, crash_at(rest, 1), answer)
+            }
+            "refused" => self.runs.judge_refused(alloc, answer),
+            _ => answer.push_str("no step"),
         }
     }
 
-    /// What a line answers.
-    pub fn answer<R: Threads + Wait + Sync>(
-        &mut self,
-        rt: &R,
-        alloc: Global,
-        line: &str,
-    ) -> anyhow::Result<String> {
+    /// Does a step, and writes what it answers.
+    pub fn step(&mut self, alloc: Global, line: &str, answer: &mut String) -> anyhow::Result<()> {
         let (word, rest) = line.split_once(' ').unwrap_or((line, ""));
-        if self.gathers(alloc, word, rest)? {
-            return Ok(String::new(alloc));
-        }
-        if let Some(answer) = self.of_image(alloc, word, rest) {
-            return answer;
+        if self.gathers(word, rest)?
+            || self.takes_octets(alloc, word, rest)?
+            || self.makes(alloc, word, answer)?
+            || self.stats(alloc, word, rest, answer)?
+        {
+            return Ok(());
         }
         match word {
-            "failing" => failing::told(rt, alloc, &self.runs, number_at(rest, 0)),
-            "refused" => refused::told(rt, alloc, &self.first, &self.runs),
-            "stops" => {
-                let behind = Behind {
-                    crash: crash_of(word_at(rest, 0)),
-                    gone: &[],
-                };
-                stops::told(rt, alloc, &self.runs, Calls::of_line(rest, 1), behind)
-            }
-            "gone" => {
-                let gone = hex::decode(alloc, word_at(rest, 2))?;
-                let behind = Behind {
-                    crash: crash_of(word_at(rest, 1)),
-                    gone: gone.as_slice(),
-                };
-                let calls = Calls::from(number_at(rest, 0));
-                stops::told(rt, alloc, &self.runs, calls, behind)
-            }
-            _ => said(alloc, "no step"),
+            "octets" => self.push_part(alloc, rest, answer),
+            "look" => self.look(alloc, rest, answer),
+            "gone" => self.gone(alloc, rest, answer),
+            _ => Ok(self.judge(alloc, word, rest, answer)?),
         }
     }
 }
