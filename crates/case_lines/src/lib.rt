@@ -2,8 +2,7 @@
 //! octets are printed. No part of the unit.
 //!
 //! `print_steps` is the loop, and `Steps` what a program says of its lines; `print_step` is for a program that reads its
-//! lines itself. `print_answers` and `Answers` are the same for programs that return their answers. The readers of words
-//! take a line's words one after the other, or a word at its place.
+//! lines itself. The readers of words take a line's words one after the other, or a word at its place.
 #![tactic(auto)]
 
 mod answers;
@@ -12,7 +11,7 @@ mod gathered;
 mod names;
 mod words;
 
-pub use answers::{Answers, Steps, print_answers, print_step, print_steps, said};
+pub use answers::{Steps, print_step, print_steps};
 pub use digits::{Digits, number_of, octets, part_of, piece, set_part_of};
 pub use gathered::Gathered;
 pub use names::{direction_name, key_state_name, sa_state_name, suite_name};
