@@ -115,8 +115,8 @@ pub fn image_of(alloc: Global, text: &[u8]) -> Option<Vec<u8>>
     }
 }
 
-/// Writes the image of version 1 that the plan of a text begins with, in this state, if there is no image. The bare plan
-/// and the content are written into `bare` and `content` first.
+/// Writes the image of version 1 that the plan of a text begins with, in this state, if there is no image. The bare
+/// plan and the content are written into `bare` and `content` first.
 fn create_old_image<O: Site>(
     site: &mut O,
     text: &[u8],
