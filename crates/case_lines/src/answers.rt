@@ -1,8 +1,8 @@
 //! The loop over standard input.
 use std::alloc::Global;
 
-/// What the lines of a table answer, written into one text of the caller: who returns a text of its own drops it on each
-/// way out, and each such drop is proved.
+/// What the lines of a table answer, written into one text of the caller: who returns a text of its own drops it on
+/// each way out, and each such drop is proved.
 pub trait Steps {
     /// Writes what a line answers behind `answer`, and nothing if nothing is to be printed.
     fn step(&mut self, alloc: Global, line: &str, answer: &mut String) -> anyhow::Result<()>;

@@ -1,8 +1,8 @@
 //! What the programs of tables share: the loop over the lines of standard input, the words of a line, and how names and
 //! octets are printed. No part of the unit.
 //!
-//! `print_steps` is the loop, and `Steps` what a program says of its lines; `print_step` is for a program that reads its
-//! lines itself. The readers of words take a line's words one after the other, or a word at its place.
+//! `print_steps` is the loop, and `Steps` what a program says of its lines; `print_step` is for a program that reads
+//! its lines itself. The readers of words take a line's words one after the other, or a word at its place.
 #![tactic(auto)]
 
 mod answers;

@@ -19,7 +19,8 @@
 //! numbers from 1 on. `audit` prints what the audit says. `fronts OCTETS` prints what it says with each front of these
 //! octets as a run more, for the lengths whose answer is another than that of the length before, and `cuts` the same of
 //! each front of the whole. `pieces` prints what it says, or which source of pieces of 1 to 64 octets makes it say
-//! something else; `fails` what it says if the source fails at its first call, its second and so on, where that changes.
+//! something else; `fails` what it says if the source fails at its first call, its second and so on, where that
+//! changes.
 //!
 //! `link COUNT EVENTS` prints the numbers that arrive over a link of `link_world`, of so many frames; an event is
 //! `release:NUMBER` or `deliver:NUMBER`. `fates COUNT` prints how many of the first frames of a chunk are lost, come

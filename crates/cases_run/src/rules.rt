@@ -66,8 +66,8 @@ impl Image<'_> {
         }
     }
 
-    /// In the header: the gate, the magic, the length of the plan, the slots, the octet that migrates, zeros. A plan that
-    /// is longer or shorter than it was ends in zeros or in the midst of a line.
+    /// In the header: the gate, the magic, the length of the plan, the slots, the octet that migrates, zeros. A plan
+    /// that is longer or shorter than it was ends in zeros or in the midst of a line.
     fn due_of_header(self, place: usize, value: u8) -> Due {
         match place {
             0 => Due::Refused(0),
@@ -128,8 +128,8 @@ impl Image<'_> {
     }
 
     /// What is due if the octet at a place of the header or of a bank is changed to this value. In the bank that is
-    /// closed each octet may be any, also where the banks of version 1 were; if its gate is opened, its generation is the
-    /// one before.
+    /// closed each octet may be any, also where the banks of version 1 were; if its gate is opened, its generation is
+    /// the one before.
     pub fn due(self, place: usize, value: u8) -> Due {
         if place < HEADER {
             return self.due_of_header(place, value);

@@ -14,8 +14,8 @@ pub struct Calls {
 }
 
 impl Calls {
-    /// The calls that a line says behind so many words: `FIRST END EACH`. Without a word from the first one, to the last
-    /// one, one after the other.
+    /// The calls that a line says behind so many words: `FIRST END EACH`. Without a word from the first one, to the
+    /// last one, one after the other.
     pub fn of_line(line: &str, place: usize) -> Calls {
         let end = number_at(line, place.saturating_add(1));
         Calls {

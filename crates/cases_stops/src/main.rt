@@ -4,8 +4,8 @@
 //! `plan LINE` gathers a line of a plan, `unit` makes the image of a unit of it, and `unit_one` the one of version 1.
 //! `set OFFSET OCTETS` writes octets over those of the image, `octets OFFSET LENGTH` prints some of them, `length` how
 //! many there are, and `look OCTETS` whether these stand there. `records` begins an input anew; `protect LINK OCTETS`,
-//! `open LINK OCTETS`, `command OCTETS` and `fence` gather its items, all on lane 0. Each run is over this image and this
-//! input. `next` begins the input of the run behind it, which else is over the same input again.
+//! `open LINK OCTETS`, `command OCTETS` and `fence` gather its items, all on lane 0. Each run is over this image and
+//! this input. `next` begins the input of the run behind it, which else is over the same input again.
 //!
 //! `stops KIND`: the site is dead from call k, for k from 0 on, until a run meets no stop. Behind each the image is
 //! crashed: `kept`, `lost`, or filled with an octet. Then comes the next run. `stops KIND FIRST END EACH` takes some of

@@ -42,8 +42,8 @@ fn count_protected(answers: &[Answer]) -> usize {
 }
 
 impl<R: Threads + Wait + Sync> Runs<'_, R> {
-    /// What is wrong with the next run, behind one with these answers. Empty if nothing is. Where it has an input of its
-    /// own, each of its frames is protected.
+    /// What is wrong with the next run, behind one with these answers. Empty if nothing is. Where it has an input of
+    /// its own, each of its frames is protected.
     pub fn flaw_of_next(
         &self,
         answers: &mut Vec<Answer>,

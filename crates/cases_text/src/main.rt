@@ -6,9 +6,9 @@
 //! objects. `stream CALL PIECE CALL CALL OCTETS` is one of the three calls on whole streams, from a source to a sink.
 //! Octets are hexadecimal words, and in a stream `x1024` before a word says how often it stands there.
 //!
-//! `plan` and a step is of the text of a plan. `new` begins an empty text, and `: LINE` adds a line and its line feed to
-//! it. `check` prints what is written for the text, and how the check ends; `line LINE` the same of the text with this
-//! line behind it, and `pieces N` of a source that gives at most N octets a call. `x N TEXT` adds a text N times,
+//! `plan` and a step is of the text of a plan. `new` begins an empty text, and `: LINE` adds a line and its line feed
+//! to it. `check` prints what is written for the text, and how the check ends; `line LINE` the same of the text with
+//! this line behind it, and `pieces N` of a source that gives at most N octets a call. `x N TEXT` adds a text N times,
 //! without a line feed. `fails CALL CALL` checks the text with a source and a sink that fail at a call, counted from 0,
 //! or at none for `-`. In a line `\` and two hexadecimal digits stand for an octet.
 #![tactic(auto)]
