@@ -223,10 +223,10 @@ refused_image() {
             "\`sdls init < PLAN\`"
     elif [ "$1" = stat ]; then
         echo "unit.img is no valid image and was left as it is: standard output has the offset of the failed check," \
-            "and a new unit needs a plan with new keys"
+            "and OPERATING.md, \"If an image is lost\", says how a new unit is made"
     else
-        echo "unit.img is no valid image and was left as it is: End has the offset of the failed check, and a new" \
-            "unit needs a plan with new keys"
+        echo "unit.img is no valid image and was left as it is: End has the offset of the failed check," \
+            "and OPERATING.md, \"If an image is lost\", says how a new unit is made"
     fi
 }
 
