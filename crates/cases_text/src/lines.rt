@@ -1,11 +1,15 @@
 // Lines of recorded input, read.
+ghost use Rattle.input_text.specs.Line.{IsLine};
+
 use case_lines::Digits;
 use input_text::{Line, LineError, put_item, read_line};
 use sdls_base::NoMemory;
 use std::alloc::{AllocError, Global};
 
 /// Writes the octets of the item that a line says.
-fn write_item(alloc: Global, line: &Line, answer: &mut String) -> Result<(), NoMemory> {
+fn write_item(alloc: Global, line: &Line, answer: &mut String) -> Result<(), NoMemory>
+    requires { IsLine line.now }
+{
     let mut octets = Vec::new(alloc);
     put_item(alloc, &mut octets, line)?;
     Ok(write!(answer, "{}", Digits(octets.as_slice()))?)
