@@ -2,9 +2,9 @@
 use Rattle.std.proofs.Common.{◌≡◌, ℕ, Bool, List, Result, Ok, Err, IfOk, IfErr, codes, inl, inr, refl}
 use Rattle.sdls_outside.specs.Moments.{Trace}
 use Rattle.record_io.specs.Outcome.{Ends, line}
-use Rattle.drill_frames.specs.declared.counts.Counts.{Counts}
-use Rattle.drill_frames.specs.declared.link_counts.LinkCounts.{LinkCounts}
-use Rattle.drill_frames.specs.Line.{drill_text, link_text}
+use Rattle.unit_drill.specs.declared.counts.Counts.{Counts}
+use Rattle.unit_drill.specs.declared.link_counts.LinkCounts.{LinkCounts}
+use Rattle.unit_drill.specs.Line.{drill_text, link_text}
 use Rattle.unit_drill.specs.Drilled.{AreCounts, EndsDrill}
 use Rattle.unit_drill.specs.OverLink.{AreLinkCounts, EndsLinkDrill}
 

@@ -13,8 +13,8 @@ use Rattle.law_workers.specs.Deeds.{deeds_of}
 use Rattle.law_workers.specs.Order.{Handled, Layout, LiesIn}
 use Rattle.law_workers.specs.Began.{BeganWith}
 use Rattle.law_workers.specs.Ends.{EndsSegment}
-use Rattle.law_drill.specs.Drilled.{HandlesSegment, tells_fault}
-use Rattle.law_drill.proofs.Tasks.{OnLane, drill_layout, drill_lies}
+use Rattle.unit_drill.specs.Chunks.{HandlesSegment, tells_fault}
+use Rattle.unit_drill.proofs.Tasks.{OnLane, drill_layout, drill_lies}
 
 pub served : (v w : View) (tasks : List Record) (answers : List Answer) (full : Bool) (ahead : ℕ) → All (OnLane ahead) tasks
     → ((begin : Begin) (layout : Layout) (number : ℕ) → BeganWith true begin v.turn.known.opening → LiesIn layout number tasks

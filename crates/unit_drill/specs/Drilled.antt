@@ -10,9 +10,9 @@ use Rattle.counter_table.specs.Worker.{view}
 use Rattle.counter_table.specs.Numbers.{ALL_SHARES}
 use Rattle.shared_unit.specs.Turn.{IsReady}
 use Rattle.record_io.specs.Outcome.{Ends, line}
-use Rattle.drill_frames.specs.declared.counts.Counts.{Counts}
-use Rattle.drill_frames.specs.Line.{drill_text}
-use Rattle.law_drill.specs.Drilled.{IsComplete, IsDrilled}
+use Rattle.unit_drill.specs.declared.counts.Counts.{Counts}
+use Rattle.unit_drill.specs.Line.{drill_text}
+use Rattle.unit_drill.specs.Chunks.{IsComplete, IsDrilled}
 
 -- the one worker of a unit, with all shares, may make calls on it
 pub record MayServe {B : Type 0} (counters : Counters B) (plan : PlanLines) (worker : Worker B) : Type 0 where

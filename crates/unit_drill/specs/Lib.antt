@@ -1,3 +1,10 @@
 pub mod Words
+pub mod Plans
+pub mod Frames
+pub mod Counting
+pub mod Arriving
+pub mod Line
+pub mod Chunks
+pub mod LinkChunks
 pub mod Drilled
 pub mod OverLink

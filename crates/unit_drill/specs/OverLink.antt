@@ -4,9 +4,9 @@ use Rattle.sdls_outside.specs.Moments.{Trace}
 use Rattle.record_io.specs.declared.answers.Answer.{Answer}
 use Rattle.record_io.specs.declared.status.TheConstants as statuses
 use Rattle.record_io.specs.Outcome.{Ends, line}
-use Rattle.drill_frames.specs.declared.link_counts.LinkCounts.{LinkCounts}
-use Rattle.drill_frames.specs.Line.{link_text}
-use Rattle.law_link_drill.specs.Linked.{IsLinkComplete, IsLinkDrilled}
+use Rattle.unit_drill.specs.declared.link_counts.LinkCounts.{LinkCounts}
+use Rattle.unit_drill.specs.Line.{link_text}
+use Rattle.unit_drill.specs.LinkChunks.{IsLinkComplete, IsLinkDrilled}
 
 -- These are the counts of a drill over a link of so many frames: those of the answers of its units. If no answer says
 -- that memory ran out, all frames are protected, those that the link loses are lost, and each that arrives is accepted

@@ -3,14 +3,13 @@ ghost use Rattle.std.specs.Prelude.{◌≡◌, ◌*◌, ◌+◌, ◌≤◌, true
 ghost use Rattle.counter_table.specs.Worker.{view};
 ghost use Rattle.run_promise.specs.Begin.{Begin};
 ghost use Rattle.law_workers.specs.Began.{BeganWith};
-ghost use Rattle.law_drill.specs.Drilled.{IsChunk};
+ghost use Rattle.unit_drill.specs.Chunks.{IsChunk};
 ghost use Rattle.unit_drill.specs.Drilled.{MayServe};
 
+use crate::counting::{count_accepted, count_code, count_fields};
+use crate::counts::Counts;
+use crate::records::{CHUNK, open_tasks, protect_tasks, replay_tasks};
 use crate::unit::DrillUnit;
-use drill_frames::{
-    CHUNK, Counts, count_accepted, count_code, count_fields, open_tasks, protect_tasks,
-    replay_tasks,
-};
 use frame_workers::Gate;
 use record_io::code::{NUMBER, PROTECTED};
 use sdls_base::NoMemory;

@@ -5,7 +5,7 @@ ghost use Rattle.unit_state.specs.declared.state.State.{State};
 ghost use Rattle.image_beginning.specs.Beginning.{SaysPlan, image_of_plan};
 ghost use Rattle.sdls_outside.specs.Crash.{fresh};
 ghost use Rattle.sdls_outside.specs.MemSite.{site_trace};
-ghost use Rattle.law_drill.specs.Plans.{receiver_plan, sender_plan};
+ghost use Rattle.unit_drill.specs.Plans.{receiver_plan, sender_plan};
 
 use image_beginning::create_image;
 use sdls_base::{CONTENT_LENGTH_TWO, NoMemory};
@@ -55,7 +55,7 @@ sa 4 receive gcm 259 1 4294967296 3
 ";
 
 /// The plan of the unit that sends.
-#[tactic(auto, unfolding(law_drill::specs::Plans::sender_plan))]
+#[tactic(auto, unfolding(crate::specs::Plans::sender_plan))]
 pub(crate) fn sender_plan() -> &'static [u8]
     ensures lines { result.now ≡ sender_plan }
     ensures short { length result.now ≤ MOST_OCTETS }
@@ -64,7 +64,7 @@ pub(crate) fn sender_plan() -> &'static [u8]
 }
 
 /// The plan of the unit that receives.
-#[tactic(auto, unfolding(law_drill::specs::Plans::receiver_plan))]
+#[tactic(auto, unfolding(crate::specs::Plans::receiver_plan))]
 pub(crate) fn receiver_plan() -> &'static [u8]
     ensures lines { result.now ≡ receiver_plan }
     ensures short { length result.now ≤ MOST_OCTETS }

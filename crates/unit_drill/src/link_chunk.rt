@@ -3,14 +3,14 @@ ghost use Rattle.std.specs.Prelude.{◌≡◌, ◌*◌, ◌+◌, ◌≤◌, true
 ghost use Rattle.counter_table.specs.Worker.{view};
 ghost use Rattle.run_promise.specs.Begin.{Begin};
 ghost use Rattle.law_workers.specs.Began.{BeganWith};
-ghost use Rattle.law_link_drill.specs.Linked.{IsLinkChunk};
+ghost use Rattle.unit_drill.specs.LinkChunks.{IsLinkChunk};
 ghost use Rattle.unit_drill.specs.Drilled.{MayServe};
 
+use crate::arriving::{CHUNK_PLACES, arrived_frames, arrived_tasks, count_given, count_lost};
 use crate::chunk::Pair;
-use drill_frames::{
-    CHUNK, CHUNK_PLACES, LinkCounts, arrived_frames, arrived_tasks, count_code, count_given,
-    count_lost, protect_tasks,
-};
+use crate::counting::count_code;
+use crate::link_counts::LinkCounts;
+use crate::records::{CHUNK, protect_tasks};
 use frame_workers::Gate;
 use record_io::code::{NUMBER, PROTECTED};
 use sdls_base::NoMemory;

@@ -2,19 +2,21 @@
 ghost use Rattle.std.specs.Prelude.{◌≡◌, ◌≢◌, ◌≤◌, List, [], IfOk};
 ghost use Rattle.sdls_outside.specs.Faults.{Rose};
 ghost use Rattle.record_io.specs.declared.answers.Answer.{Answer};
-ghost use Rattle.drill_frames.specs.declared.link_counts.LinkCounts.{LinkCounts};
-ghost use Rattle.drill_frames.specs.Line.{link_text};
-ghost use Rattle.law_link_drill.specs.Linked.{IsLinkDrilled};
+ghost use Rattle.unit_drill.specs.declared.link_counts.LinkCounts.{LinkCounts};
+ghost use Rattle.unit_drill.specs.Line.{link_text};
+ghost use Rattle.unit_drill.specs.LinkChunks.{IsLinkDrilled};
 ghost use Rattle.unit_drill.specs.OverLink.{AreLinkCounts, EndsLinkDrill};
 
 use crate::chunk::Pair;
 use crate::image::{receiver_plan, sender_plan};
+use crate::laws::link_drill_is_complete;
+use crate::line::link_line;
+use crate::link_counts::LinkCounts;
+use crate::records::CHUNK;
 use crate::running::{end_of, end_with};
 use crate::unit::DrillUnit;
 use crate::words::MOST_FRAMES;
-use drill_frames::{CHUNK, LinkCounts, link_line};
 use frame_workers::Gate;
-use law_link_drill::link_drill_is_complete;
 use record_io::Outcome;
 use record_io::status::SITE_FAULT;
 use sdls_base::NoMemory;

@@ -2,19 +2,21 @@
 ghost use Rattle.std.specs.Prelude.{◌≡◌, ◌≢◌, ◌+◌, ◌*◌, ◌≤◌, min, List, [], ◌++◌, IfErr, IfOk, codes};
 ghost use Rattle.sdls_outside.specs.Faults.{Rose};
 ghost use Rattle.record_io.specs.Outcome.{Ends, line};
-ghost use Rattle.drill_frames.specs.declared.counts.Counts.{Counts};
-ghost use Rattle.drill_frames.specs.Line.{drill_text};
+ghost use Rattle.unit_drill.specs.declared.counts.Counts.{Counts};
+ghost use Rattle.unit_drill.specs.Line.{drill_text};
 ghost use Rattle.record_io.specs.declared.answers.Answer.{Answer};
-ghost use Rattle.law_drill.specs.Drilled.{IsDrilled};
+ghost use Rattle.unit_drill.specs.Chunks.{IsDrilled};
 ghost use Rattle.unit_drill.specs.Drilled.{AreCounts, EndsDrill};
 
 use crate::chunk::Pair;
+use crate::counts::Counts;
 use crate::image::{receiver_plan, sender_plan};
+use crate::laws::drill_is_complete;
+use crate::line::drill_line;
+use crate::records::CHUNK;
 use crate::unit::DrillUnit;
 use crate::words::MOST_FRAMES;
-use drill_frames::{CHUNK, Counts, drill_line};
 use frame_workers::Gate;
-use law_drill::drill_is_complete;
 use record_io::Outcome;
 use record_io::status::{DONE, NO_MEMORY, SITE_FAULT};
 use sdls_base::NoMemory;

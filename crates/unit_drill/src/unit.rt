@@ -6,7 +6,7 @@ ghost use Rattle.record_io.specs.declared.records.Record.{Record};
 ghost use Rattle.run_promise.specs.Begin.{Begin};
 ghost use Rattle.law_workers.specs.Deeds.{Ascend};
 ghost use Rattle.law_workers.specs.Began.{BeganWith};
-ghost use Rattle.law_drill.specs.Drilled.{UnitIsOpened, HandlesSegment, tells_fault};
+ghost use Rattle.unit_drill.specs.Chunks.{UnitIsOpened, HandlesSegment, tells_fault};
 ghost use Rattle.unit_drill.specs.Drilled.{MayServe};
 
 use crate::image::site_of;

@@ -1,9 +1,9 @@
 use Rattle.std.proofs.Common.{◌≡◌, ℕ, suc, ◌+◌, ◌/◌, List, ◌++◌, refl, ap, subst, arith}
 use Rattle.counter_table.specs.Worker.{view}
-use Rattle.drill_frames.specs.declared.link_counts.LinkCounts.{LinkCounts}
+use Rattle.unit_drill.specs.declared.link_counts.LinkCounts.{LinkCounts}
 use Rattle.record_io.specs.declared.answers.Answer.{Answer}
-use Rattle.law_drill.specs.Drilled.{UnitIsOpened}
-use Rattle.law_link_drill.specs.Linked.{AreLinkChunks, IsLinkChunk}
+use Rattle.unit_drill.specs.Chunks.{UnitIsOpened}
+use Rattle.unit_drill.specs.LinkChunks.{AreLinkChunks, IsLinkChunk}
 use Rattle.unit_drill.proofs.linking.link_counts_of.Goals as goal
 
 pub loop-chunk-preserved : goal.loop-chunk-preserved

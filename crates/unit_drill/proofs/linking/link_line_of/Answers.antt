@@ -1,7 +1,7 @@
 use Rattle.std.proofs.Common.{◌≡◌}
 use Rattle.std.proofs.lemmas.Result.{IfOk-weaker}
-use Rattle.drill_frames.specs.declared.link_counts.LinkCounts.{LinkCounts}
-use Rattle.drill_frames.specs.Line.{link_text}
+use Rattle.unit_drill.specs.declared.link_counts.LinkCounts.{LinkCounts}
+use Rattle.unit_drill.specs.Line.{link_text}
 use Rattle.unit_drill.specs.OverLink.{AreLinkCounts}
 use Rattle.unit_drill.proofs.linking.link_line_of.Goals as goal
 

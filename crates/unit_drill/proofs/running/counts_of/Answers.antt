@@ -1,8 +1,8 @@
 use Rattle.std.proofs.Common.{◌≡◌, ℕ, suc, ◌+◌, ◌/◌, List, ◌++◌, refl, ap, subst, arith}
 use Rattle.counter_table.specs.Worker.{view}
-use Rattle.drill_frames.specs.declared.counts.Counts.{Counts}
+use Rattle.unit_drill.specs.declared.counts.Counts.{Counts}
 use Rattle.record_io.specs.declared.answers.Answer.{Answer}
-use Rattle.law_drill.specs.Drilled.{AreChunks, IsChunk, UnitIsOpened}
+use Rattle.unit_drill.specs.Chunks.{AreChunks, IsChunk, UnitIsOpened}
 use Rattle.unit_drill.proofs.running.counts_of.Goals as goal
 
 pub loop-chunk-preserved : goal.loop-chunk-preserved

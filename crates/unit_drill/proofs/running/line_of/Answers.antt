@@ -1,7 +1,7 @@
 use Rattle.std.proofs.Common.{◌≡◌}
 use Rattle.std.proofs.lemmas.Result.{IfOk-weaker}
-use Rattle.drill_frames.specs.declared.counts.Counts.{Counts}
-use Rattle.drill_frames.specs.Line.{drill_text}
+use Rattle.unit_drill.specs.declared.counts.Counts.{Counts}
+use Rattle.unit_drill.specs.Line.{drill_text}
 use Rattle.unit_drill.specs.Drilled.{AreCounts}
 use Rattle.unit_drill.proofs.running.line_of.Goals as goal
 

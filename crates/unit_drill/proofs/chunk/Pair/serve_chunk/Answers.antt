@@ -4,10 +4,10 @@ use Rattle.record_io.specs.declared.answers.Answer.{Answer}
 use Rattle.record_io.specs.declared.records.Record.{Record}
 use Rattle.counter_table.specs.Worker.{view}
 use Rattle.law_workers.specs.Deeds.{Ascend}
-use Rattle.drill_frames.specs.Counting.{count_accepted, count_code, count_fields}
-use Rattle.drill_frames.specs.Frames.{open_tasks, replay_tasks}
-use Rattle.law_drill.specs.Drilled.{HandlesSegment}
-use Rattle.law_drill.proofs.Tasks.{IsPlain, OnLane, open_ascends, open_lanes, open_plain, protect_ascends, protect_lanes, protect_plain, replay_lanes, replay_plain}
+use Rattle.unit_drill.specs.Counting.{count_accepted, count_code, count_fields}
+use Rattle.unit_drill.specs.Frames.{open_tasks, replay_tasks}
+use Rattle.unit_drill.specs.Chunks.{HandlesSegment}
+use Rattle.unit_drill.proofs.Tasks.{IsPlain, OnLane, open_ascends, open_lanes, open_plain, protect_ascends, protect_lanes, protect_plain, replay_lanes, replay_plain}
 use Rattle.unit_drill.proofs.chunk.Pair.serve_chunk.Goals as goal
 
 pub serve-requires-clause-lanes : goal.serve-requires-clause-lanes

@@ -1,4 +1,4 @@
-use Rattle.unit_drill.proofs.Opened.{opened_begins}
+use Rattle.unit_drill.proofs.OpenedUnit.{opened_begins}
 use Rattle.unit_drill.proofs.unit.DrillUnit.open.Goals as goal
 
 pub returns-in-Ok : goal.returns-in-Ok

@@ -1,7 +1,7 @@
 use Rattle.std.proofs.Common.{◌≡◌, false, length, ap, arith}
 use Rattle.std.specs.List.{list_any}
 use Rattle.counter_table.specs.Worker.{view}
-use Rattle.law_drill.specs.Drilled.{tells_fault}
+use Rattle.unit_drill.specs.Chunks.{tells_fault}
 use Rattle.unit_drill.proofs.Served.{few_answers, served}
 use Rattle.unit_drill.proofs.unit.DrillUnit.serve.Goals as goal
 

@@ -1,4 +1,0 @@
-pub mod Arrivals
-pub mod Counted
-pub mod Fields
-pub mod Tasks

@@ -1,6 +1,0 @@
-use Rattle.std.proofs.Common.{◌≡◌, ◌-◌, vec_len}
-use Rattle.drill_frames.specs.Frames.{protect_tasks}
-use Rattle.drill_frames.proofs.records.protect_tasks.Given as goal
-
-abbrev pub invariant-loop-number : goal.invariant-loop-number
-invariant-loop-number l = record { items : l.tasks.items ≡ protect_tasks l.first (l.number - l.first); many : vec_len l.tasks ≡ l.number - l.first }

@@ -1,4 +1,0 @@
-pub mod Frames
-pub mod Counting
-pub mod Arriving
-pub mod Line

@@ -1,5 +1,0 @@
-use Rattle.law_drill.proofs.Complete.{drill_complete}
-use Rattle.law_drill.proofs.laws.drill_is_complete.Goals as goal
-
-pub returns : goal.returns
-returns c = drill_complete c.opens_once.ensures c.shows_one.ensures

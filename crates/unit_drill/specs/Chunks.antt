@@ -1,0 +1,107 @@
+-- What the two units of a drill were handed, and what is counted of their answers (profile).
+use Rattle.std.specs.Prelude.{◌≡◌, ℕ, zero, suc, ◌+◌, ◌-◌, ◌*◌, ◌/◌, min, ◌==◌, ◌||◌, Bool, true, false, List, [], ◌++◌}
+use Rattle.std.specs.Prelude.{Ok}
+use Rattle.std.specs.List.{list_any}
+use Rattle.sdls_base.specs.declared.TheConstants.{MOST_KEYS}
+use Rattle.image_beginning.specs.Beginning.{SaysPlan, image_of_plan}
+use Rattle.unit_image.specs.Image.{held}
+use Rattle.record_io.specs.declared.answers.Answer.{Answer}
+use Rattle.record_io.specs.declared.records.Record.{Record}
+use Rattle.record_io.specs.declared.code.TheConstants as codes_of
+use Rattle.unit_plan.specs.Plan.{plan_of}
+use Rattle.unit_plan.specs.PlanLines.{PlanLines}
+use Rattle.unit_state.specs.declared.state.State.{State}
+use Rattle.unit_image.specs.Shows.{Shows}
+use Rattle.counter_table.specs.declared.view.View.{View}
+use Rattle.counter_table.specs.Whole.{IsWhole}
+use Rattle.run_promise.specs.Begin.{Begin}
+use Rattle.law_workers.specs.Deeds.{deeds_of}
+use Rattle.law_workers.specs.Order.{Layout, LiesIn, Handled}
+use Rattle.law_workers.specs.Opened as runs
+use Rattle.law_workers.specs.Began.{BeganWith}
+use Rattle.law_workers.specs.Ends.{EndsSegment}
+use Rattle.unit_drill.specs.declared.counts.Counts.{Counts}
+use Rattle.unit_drill.specs.declared.records.TheConstants.{CHUNK}
+use Rattle.unit_drill.specs.Counting.{count_accepted, count_code, count_fields, no_counts, sum_of}
+use Rattle.unit_drill.specs.Frames.{protect_tasks, open_tasks, replay_tasks}
+use Rattle.unit_drill.specs.Plans.{receiver_plan, sender_plan}
+
+-- ---- the units
+
+-- A unit was opened on the image that this plan begins with; its one worker, with all shares, has this view and did
+-- nothing yet: it spent no number, and each word `next` is its key's mark.
+pub record UnitIsOpened (plan : List ℕ) (begin : Begin) (v : View) : Type 0 where
+  pub lines : PlanLines
+  pub first : State
+  pub said : SaysPlan plan lines first
+  pub began : BeganWith true begin v.turn.known.opening
+  pub image : v.turn.known.opening.image ≡ image_of_plan plan lines first
+  pub says : plan_of (held (image_of_plan plan lines first)).plan ≡ Ok begin.plan
+  pub shows : Shows (image_of_plan plan lines first) begin.start
+  pub whole : IsWhole MOST_KEYS v
+  pub unspent : v.numbers.spent ≡ []
+  pub opened : runs.IsJustOpened begin v
+
+-- the answer says that the site of its unit has failed, or that memory ran out
+abbrev pub tells_fault : Answer → Bool
+tells_fault answer = (answer.code == codes_of.SITE_FAULT) || (answer.code == codes_of.STOPPED)
+
+abbrev pub tells_want : Answer → Bool
+tells_want answer = answer.code == codes_of.NO_MEMORY
+
+-- From the one view to the other the unit handled these records as a segment, with these answers: all of them are
+-- answered, or those before one for which its history was full. No answer tells a fault of its site, and the worker
+-- still did all.
+pub record HandlesSegment (begin : Begin) (v w : View) (tasks : List Record) (answers : List Answer) : Type 0 where
+  pub handled : (layout : Layout) (number : ℕ) → LiesIn layout number tasks
+      → Handled layout begin v w tasks (deeds_of number tasks answers)
+  pub full : Bool
+  pub ends : EndsSegment begin v w tasks answers full
+  pub quiet : list_any tells_fault answers ≡ false
+  pub whole : IsWhole MOST_KEYS w
+
+-- ---- chunks
+
+-- A chunk, by its number: the first unit protected its frames, the second opened those that were protected, and then
+-- the first of them again. The counts are those of their answers.
+pub record IsChunk (sender receiver : Begin) (chunk end : ℕ) (s t v w : View) (counts : Counts) : Type 0 where
+  pub sent : List Answer
+  pub opened : List Answer
+  pub again : List Answer
+  pub mid : View
+  pub protects : HandlesSegment sender s t (protect_tasks (CHUNK * chunk) (end - CHUNK * chunk)) sent
+  pub opens : HandlesSegment receiver v mid (open_tasks chunk (CHUNK * chunk) sent) opened
+  pub replays : HandlesSegment receiver mid w (replay_tasks chunk (CHUNK * chunk) sent) again
+  pub protected : counts.protected ≡ count_code codes_of.PROTECTED sent
+  pub accepted : counts.accepted ≡ count_accepted chunk (open_tasks chunk (CHUNK * chunk) sent) opened
+      + count_fields (CHUNK * chunk) again
+  pub rejected : counts.rejected ≡ count_code codes_of.NUMBER opened + count_code codes_of.NUMBER again
+
+-- the first chunks of a drill of so many frames, one after the other, with all answers
+abbrev pub AreChunks : Begin → Begin → ℕ → View → View → ℕ → View → View → List Answer → Counts → Type 0
+AreChunks sender receiver number s v zero t w answers counts = (t ≡ s) × (w ≡ v) × (answers ≡ []) × (counts ≡ no_counts)
+AreChunks sender receiver number s v (suc chunks) t w answers counts =
+    (t0 : View) × (w0 : View) × (earlier : List Answer) × (before : Counts) × (more : Counts)
+    × AreChunks sender receiver number s v chunks t0 w0 earlier before
+    × (chunk : IsChunk sender receiver chunks (min number (CHUNK * (chunks + 1))) t0 t w0 w more)
+    × (answers ≡ earlier ++ (chunk.sent ++ (chunk.opened ++ chunk.again))) × (counts ≡ sum_of before more)
+
+-- the counts of a drill: two units were opened, and handled its frames to the last chunk, with these answers
+pub record IsDrilled (number : ℕ) (answers : List Answer) (counts : Counts) : Type 0 where
+  pub sender : Begin
+  pub receiver : Begin
+  pub s : View
+  pub t : View
+  pub v : View
+  pub w : View
+  pub sends : UnitIsOpened sender_plan sender s
+  pub receives : UnitIsOpened receiver_plan receiver v
+  pub chunks : AreChunks sender receiver number s v ((number + (CHUNK - 1)) / CHUNK) t w answers counts
+
+-- each frame is protected and accepted, and the first of each chunk rejected the second time
+abbrev pub all_counts : ℕ → Counts
+all_counts number = record { protected = number; accepted = number; rejected = (number + (CHUNK - 1)) / CHUNK }
+
+-- where no answer tells lack of memory, all are counted
+abbrev pub IsComplete : ℕ → List Answer → Counts → Type 0
+IsComplete number answers counts = list_any tells_want answers ≡ false → counts ≡ all_counts number

@@ -1,0 +1,78 @@
+-- What the two units of a drill over a link were handed, and what is counted of their answers (profile).
+use Rattle.std.specs.Prelude.{◌≡◌, ℕ, zero, suc, ◌+◌, ◌-◌, ◌*◌, ◌/◌, ◌%◌, min, if◌then◌else◌, false, List, [], ◌++◌}
+use Rattle.std.specs.List.{list_any}
+use Rattle.link_world.specs.Fate.{fate_of}
+use Rattle.link_world.specs.Chunk.{is_lost, times}
+use Rattle.record_io.specs.declared.answers.Answer.{Answer}
+use Rattle.record_io.specs.declared.code.TheConstants as codes_of
+use Rattle.counter_table.specs.declared.view.View.{View}
+use Rattle.run_promise.specs.Begin.{Begin}
+use Rattle.unit_drill.specs.declared.arriving.TheConstants.{CHUNK_PLACES}
+use Rattle.unit_drill.specs.declared.link_counts.LinkCounts.{LinkCounts}
+use Rattle.unit_drill.specs.declared.records.TheConstants.{CHUNK}
+use Rattle.unit_drill.specs.Arriving.{arrived_frames, arrived_tasks, count_given, count_lost}
+use Rattle.unit_drill.specs.Arriving.{link_sum_of, no_link_counts}
+use Rattle.unit_drill.specs.Counting.{count_code}
+use Rattle.unit_drill.specs.Frames.{protect_tasks}
+use Rattle.unit_drill.specs.Chunks.{HandlesSegment, UnitIsOpened, tells_want}
+use Rattle.unit_drill.specs.Plans.{receiver_plan, sender_plan}
+
+-- ---- chunks
+
+-- A chunk, by its number: the first unit protected its frames, and the second opened those that arrived over the link,
+-- in the order of their arrival. The counts are those of their answers.
+pub record IsLinkChunk (sender receiver : Begin) (chunk end : ℕ) (s t v w : View) (counts : LinkCounts) : Type 0 where
+  pub sent : List Answer
+  pub opened : List Answer
+  pub protects : HandlesSegment sender s t (protect_tasks (CHUNK * chunk) (end - CHUNK * chunk)) sent
+  pub opens : HandlesSegment receiver v w
+      (arrived_tasks (CHUNK_PLACES * chunk) (CHUNK * chunk) sent (arrived_frames (CHUNK * chunk) sent)) opened
+  pub protected : counts.protected ≡ count_code codes_of.PROTECTED sent
+  pub lost : counts.lost ≡ count_lost sent
+  pub accepted : counts.accepted ≡ count_given (arrived_frames (CHUNK * chunk) sent) opened
+  pub rejected : counts.rejected ≡ count_code codes_of.NUMBER opened
+
+-- the first chunks of a drill of so many frames, one after the other, with all answers
+abbrev pub AreLinkChunks : Begin → Begin → ℕ → View → View → ℕ → View → View → List Answer → LinkCounts → Type 0
+AreLinkChunks sender receiver number s v zero t w answers counts =
+    (t ≡ s) × (w ≡ v) × (answers ≡ []) × (counts ≡ no_link_counts)
+AreLinkChunks sender receiver number s v (suc chunks) t w answers counts =
+    (t0 : View) × (w0 : View) × (earlier : List Answer) × (before : LinkCounts) × (more : LinkCounts)
+    × AreLinkChunks sender receiver number s v chunks t0 w0 earlier before
+    × (chunk : IsLinkChunk sender receiver chunks (min number (CHUNK * (chunks + 1))) t0 t w0 w more)
+    × (answers ≡ earlier ++ (chunk.sent ++ chunk.opened)) × (counts ≡ link_sum_of before more)
+
+-- the counts of a drill over a link: two units were opened, and handled its frames to the last chunk, with these
+-- answers
+pub record IsLinkDrilled (number : ℕ) (answers : List Answer) (counts : LinkCounts) : Type 0 where
+  pub sender : Begin
+  pub receiver : Begin
+  pub s : View
+  pub t : View
+  pub v : View
+  pub w : View
+  pub sends : UnitIsOpened sender_plan sender s
+  pub receives : UnitIsOpened receiver_plan receiver v
+  pub chunks : AreLinkChunks sender receiver number s v ((number + (CHUNK - 1)) / CHUNK) t w answers counts
+
+-- ---- all frames
+
+-- of the first frames of a drill, so many, those that the link loses
+abbrev pub lost_of : ℕ → ℕ
+lost_of zero = 0
+lost_of (suc frame) = lost_of frame + (if is_lost (fate_of (frame % CHUNK)) then 1 else 0)
+
+-- how often they arrive
+abbrev pub arrived_of : ℕ → ℕ
+arrived_of zero = 0
+arrived_of (suc frame) = arrived_of frame + times (fate_of (frame % CHUNK))
+
+-- Each frame is protected, those that the link loses are lost, and each that arrives is accepted or rejected.
+pub record AreAllCounted (number : ℕ) (counts : LinkCounts) : Type 0 where
+  pub protected : counts.protected ≡ number
+  pub lost : counts.lost ≡ lost_of number
+  pub told : counts.accepted + counts.rejected ≡ arrived_of number
+
+-- if no answer says that memory ran out, all are counted
+abbrev pub IsLinkComplete : ℕ → List Answer → LinkCounts → Type 0
+IsLinkComplete number answers counts = list_any tells_want answers ≡ false → AreAllCounted number counts

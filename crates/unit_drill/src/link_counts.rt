@@ -1,0 +1,43 @@
+ghost use Rattle.std.specs.Prelude.{◌≡◌, ◌+◌, ◌<◌, ◌^◌};
+ghost use Rattle.unit_drill.specs.Arriving.{link_sum_of, no_link_counts};
+
+/// What is counted of the answers of a drill over a link.
+#[derive(Clone, Copy, Debug, PartialEq, Eq)]
+pub struct LinkCounts {
+    /// Frames that the first unit protected.
+    pub protected: u64,
+    /// Frames of these that the link lost.
+    pub lost: u64,
+    /// Frames that the second unit accepted, with the data field that they were made with.
+    pub accepted: u64,
+    /// Frames that the second unit refused for their number.
+    pub rejected: u64,
+}
+
+impl LinkCounts {
+    pub fn none() -> LinkCounts
+        ensures { result ≡ no_link_counts }
+    {
+        LinkCounts {
+            protected: 0,
+            lost: 0,
+            accepted: 0,
+            rejected: 0,
+        }
+    }
+
+    pub fn plus(self, other: LinkCounts) -> LinkCounts
+        requires protected { self.protected + other.protected < 2 ^ 64 }
+        requires lost { self.lost + other.lost < 2 ^ 64 }
+        requires accepted { self.accepted + other.accepted < 2 ^ 64 }
+        requires rejected { self.rejected + other.rejected < 2 ^ 64 }
+        ensures { result ≡ link_sum_of self other }
+    {
+        LinkCounts {
+            protected: self.protected + other.protected,
+            lost: self.lost + other.lost,
+            accepted: self.accepted + other.accepted,
+            rejected: self.rejected + other.rejected,
+        }
+    }
+}
