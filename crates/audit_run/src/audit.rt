@@ -1,6 +1,7 @@
 //! The word `audit`.
 ghost use Rattle.std.specs.Prelude.{◌≡◌, ◌≢◌, [], IfOk, IsTrue, take};
 ghost use Rattle.sdls_outside.specs.Faults.{Rose};
+ghost use Rattle.sdls_outside.specs.Output.{OnlySinks};
 ghost use Rattle.record_io.specs.Input.{MOST_OCTETS};
 ghost use Rattle.record_io.specs.Outcome.{Ends};
 ghost use Rattle.record_io.specs.declared.status.TheConstants.{SITE_FAULT, SOURCE_FAULT};
@@ -11,10 +12,11 @@ ghost use Rattle.audit_run.specs.Ends.{EndsAudit};
 ghost use Rattle.audit_run.specs.Text.{audit_status, audit_text};
 
 use crate::text::{audit_line, status_of};
+use command_words::end_with;
 use pair_audit::{AuditStop, audit_recording};
 use record_io::Outcome;
-use record_io::status::{NO_MEMORY, SITE_FAULT, SOURCE_FAULT};
-use sdls_outside::{Failed, Site, Source};
+use record_io::status::{NO_MEMORY, SOURCE_FAULT};
+use sdls_outside::{Site, Source};
 use std::alloc::Global;
 
 /// Audits the input, and returns the line and the status that say what was found.
@@ -29,27 +31,6 @@ fn line_and_status<S: Source>(alloc: Global, source: &mut S) -> Result<(Vec<u8>,
     Ok((line, status_of(end)))
 }
 
-/// Ends with this line and this status.
-fn finish<O: Site>(alloc: Global, mut site: O, line: &[u8], status: u8) -> Outcome<O>
-    ensures ends { Ends O.told (O.trace site) (O.trace result.site) (Rose (O.faults site) (O.faults result.site))
-        line.now status result.status }
-    ensures quiet { result.status ≢ SITE_FAULT → O.faults result.site ≡ O.faults site }
-    ensures no_history { result.entries.items ≡ [] }
-{
-    match site.put(line) {
-        Ok(()) => Outcome {
-            status,
-            site,
-            entries: Vec::new(alloc),
-        },
-        Err(Failed) => Outcome {
-            status: SITE_FAULT,
-            site,
-            entries: Vec::new(alloc),
-        },
-    }
-}
-
 /// Runs `audit`: reads the source to its end, at most 2^64 - 1 octets of it, as a recording of runs, and writes a line
 /// that says what an audit of it says. It takes memory for that line and for the numbers that were used or accepted,
 /// and none for the input.
@@ -60,6 +41,7 @@ pub fn run_audit<S: Source, O: Site>(alloc: Global, source: &mut S, site: O) -> 
     ensures ends { EndsAudit (λ input. IsTrue S.told → input ≡ take MOST_OCTETS (S.left source.old))
         (Rose (S.faults source.old) (S.faults source.new))
         O.told (O.trace site) (O.trace result.site) (Rose (O.faults site) (O.faults result.site)) result.status }
+    ensures only_sinks { IsTrue O.told → OnlySinks (O.trace site) (O.trace result.site) }
     // A fault is never hidden: with another status the counts stood.
     ensures quiet { result.status ≢ SITE_FAULT → O.faults result.site ≡ O.faults site }
     ensures heard { result.status ≢ SOURCE_FAULT → result.status ≢ SITE_FAULT
@@ -67,8 +49,8 @@ pub fn run_audit<S: Source, O: Site>(alloc: Global, source: &mut S, site: O) -> 
     ensures no_history { result.entries.items ≡ [] }
 {
     match line_and_status(alloc, source) {
-        Ok((line, status)) => finish(alloc, site, &line, status),
-        Err(AuditStop::SourceFault) => finish(alloc, site, b"source fault\n", SOURCE_FAULT),
-        Err(AuditStop::NoMemory) => finish(alloc, site, b"no memory\n", NO_MEMORY),
+        Ok((line, status)) => end_with(alloc, site, &line, status),
+        Err(AuditStop::SourceFault) => end_with(alloc, site, b"source fault\n", SOURCE_FAULT),
+        Err(AuditStop::NoMemory) => end_with(alloc, site, b"no memory\n", NO_MEMORY),
     }
 }

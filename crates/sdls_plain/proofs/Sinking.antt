@@ -1,10 +1,13 @@
 -- Where nothing was done but to put octets, a crash leaves what one before may have left, for `run_stat`.
-use Rattle.std.proofs.Common.{◌≡◌, ◌⊎◌, inl, inr, ℕ, ◌<◌, ◌≤◌, List, [], ◌∷◌, ◌++◌, length, drop, get_or, refl, sym, ◌∙◌, ap, subst, arith, append_assoc, append-nil}
+use Rattle.std.proofs.Common.{◌≡◌, ◌≢◌, ◌⊎◌, inl, inr, Some, None, ℕ, ◌<◌, ◌≤◌, List, [], ◌∷◌, ◌++◌, length, drop, get_or, refl, sym, ◌∙◌, ap, subst, arith, append_assoc, append-nil}
 use Rattle.std.proofs.lemmas.List.{drop_at, drop_all, length-append}
 use Rattle.sdls_outside.specs.Disk.{Disk, Leaves, Outside}
 use Rattle.sdls_outside.specs.Moments.{Trace, clock, Moments, MomentSince, EachMoment, Continues}
 use Rattle.sdls_outside.proofs.Moments.{moment_split}
 use Rattle.sdls_outside.specs.Output.{states, SameDisk, AllSameDisk, OnlySinks}
+use Rattle.disk_journal.proofs.Refused.{short_verdict}
+use Rattle.unit_state.specs.declared.state.State.{State}
+use Rattle.unit_image.specs.Shows.{Shows}
 
 leaves_back : (old new : Disk) → SameDisk old new → (image : List ℕ) → Leaves new image → Leaves old image
 leaves_back old new same image leaves = record {
@@ -101,3 +104,12 @@ sinks_leave old new sinks =
         | inr rest ↦ inr (each_back old new sinks on image sunk rest)
       ];
     }
+
+some_none : (offset : ℕ) → None ≡ Some offset → ⊥
+some_none offset is = cc
+
+-- an image that shows a state is there
+pub is_there : (image : List ℕ) (state : State) → Shows image state → image ≢ []
+is_there image state shows none =
+    let sized : length image ≡ 0 = ap length none in
+    some_none 0 (sym shows.holds.opens ∙ short_verdict image (omega arith))

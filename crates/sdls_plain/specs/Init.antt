@@ -17,7 +17,7 @@ use Rattle.sdls_plain.specs.declared.init.InitEnd.{InitEnd}
 use Rattle.sdls_plain.specs.declared.init.InitEnd.TheVariants.{Made, ImageExists, Refused, SourceFault, SiteFault}
 use Rattle.sdls_plain.specs.declared.init.InitEnd.TheVariants.{NoMemory}
 use Rattle.record_io.specs.declared.status.TheConstants as statuses
-use Rattle.sdls_plain.specs.Answer.{source_fault_text}
+use Rattle.command_words.specs.Lines.{source_fault_text}
 use Rattle.record_io.specs.Outcome.{Ends, line}
 
 -- The first line of a text that has a cause: of those that reading finds, or where there is none, the first that the

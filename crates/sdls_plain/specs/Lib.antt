@@ -1,6 +1,4 @@
-pub mod Check
-pub mod Answer
 pub mod Init
 pub mod Stat
-pub mod Words
 pub mod Taking
+pub mod Unserved

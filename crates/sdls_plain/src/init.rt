@@ -6,12 +6,12 @@ ghost use Rattle.sdls_plain.specs.Init.{IsNoneOrInitial, LeavesNoOther, plan_fau
 ghost use Rattle.sdls_outside.specs.Intake.{TakesAtMost};
 ghost use Rattle.sdls_outside.specs.Output.{Delivers, OnlySinks};
 
-use crate::output::put_text;
-use crate::status::{DONE, MALFORMED, NO_MEMORY, NO_STATE, SITE_FAULT, SOURCE_FAULT};
+use command_words::put_text;
 use image_beginning::create_image;
 use itoa::Buffer;
 use law_image::cut_beginning;
 use record_io::Outcome;
+use record_io::status::{DONE, MALFORMED, NO_MEMORY, NO_STATE, SITE_FAULT, SOURCE_FAULT};
 use sdls_base::CONTENT_LENGTH_TWO;
 use sdls_outside::{Failed, Site, Source, collect};
 use std::alloc::{AllocError, Global};

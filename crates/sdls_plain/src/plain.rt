@@ -1,135 +1,94 @@
 //! The words that need no threads.
-ghost use Rattle.std.specs.Prelude.{◌≡◌, ◌≢◌, ℕ, ◌+◌, List, [], IsTrue};
+ghost use Rattle.std.specs.Prelude.{◌≡◌, ◌≢◌, ℕ, List, [], IsTrue, take};
 ghost use Rattle.sdls_outside.specs.Faults.{Rose};
-ghost use Rattle.sdls_outside.specs.Intake.{TakesAtMost};
 ghost use Rattle.sdls_outside.specs.Output.{OnlySinks};
-ghost use Rattle.sdls_plain.specs.Answer.{EndsCheck, usage_text};
+ghost use Rattle.record_io.specs.Input.{MOST_OCTETS};
 ghost use Rattle.record_io.specs.Outcome.{Ends};
-ghost use Rattle.record_io.specs.declared.status.TheConstants.{SOURCE_FAULT};
+ghost use Rattle.record_io.specs.declared.status.TheConstants.{SITE_FAULT, SOURCE_FAULT, USAGE};
+ghost use Rattle.command_words.specs.Lines.{usage_text};
+ghost use Rattle.command_words.specs.Words.{IsUnread, command_of};
+ghost use Rattle.check_run.specs.Answer.{EndsCheck};
+ghost use Rattle.audit_run.specs.Ends.{EndsAudit};
 ghost use Rattle.sdls_plain.specs.Init.{EndsInit};
 ghost use Rattle.sdls_plain.specs.Stat.{EndsStat};
-ghost use Rattle.sdls_plain.specs.Taking.{TakesFew};
-ghost use Rattle.sdls_plain.specs.Words.{IsCheck, IsInit, IsNoCommand, IsStat};
+ghost use Rattle.sdls_plain.specs.Taking.{TakesFrame, TakesPlan};
+ghost use Rattle.sdls_plain.specs.Unserved.{IsUnserved};
 
-use crate::check::put_check;
-use crate::frame_check::GREATEST_LENGTH;
 use crate::init::run_init;
-use crate::output::put_text;
 use crate::stat::run_stat;
-use crate::status::{SITE_FAULT, USAGE};
-use crate::words::{check_key, is_init, is_stat};
-use aes_block::Schedule;
+use audit_run::run_audit;
+use check_run::run_check;
+use command_words::{Command, command_of, end_with_usage};
 use record_io::Outcome;
-use sdls_outside::{Failed, Site, Source};
+use sdls_outside::{Site, Source};
 use std::alloc::Global;
 
-const USAGE_TEXT: &[u8] = b"usage: sdls check KEY, init, run, stat, drill N, drill link N, audit\n";
-
-/// Runs `check KEY`.
-fn run_check<S: Source, O: Site>(
-    alloc: Global,
-    key: &Schedule,
-    source: &mut S,
-    mut site: O,
-) -> Outcome<O>
-    ensures due { EndsCheck key.now
-        (λ input. IsTrue S.told → input ≡ S.left source.old) (Rose (S.faults source.old) (S.faults source.new))
-        O.told (O.trace site) (O.trace result.site) (Rose (O.faults site) (O.faults result.site)) result.status }
-    ensures taken { IsTrue S.told → TakesAtMost (GREATEST_LENGTH + 1) (S.left source.old) (S.left source.new) }
-    ensures quiet { result.status ≢ SITE_FAULT → O.faults result.site ≡ O.faults site }
-    ensures heard { result.status ≢ SOURCE_FAULT → result.status ≢ SITE_FAULT
-        → S.faults source.new ≡ S.faults source.old }
-    ensures no_history { result.entries.items ≡ [] }
-{
-    match put_check(key, source, &mut site) {
-        Ok(status) => Outcome {
-            status,
-            site,
-            entries: Vec::new(alloc),
-        },
-        Err(Failed) => Outcome {
-            status: SITE_FAULT,
-            site,
-            entries: Vec::new(alloc),
-        },
-    }
-}
-
-/// Answers words that are no command.
-fn run_usage<O: Site>(alloc: Global, mut site: O) -> Outcome<O>
-    ensures ends { Ends O.told (O.trace site) (O.trace result.site) (Rose (O.faults site) (O.faults result.site))
-        usage_text USAGE result.status }
-    ensures quiet { result.status ≢ SITE_FAULT → O.faults result.site ≡ O.faults site }
-    ensures no_history { result.entries.items ≡ [] }
-{
-    match put_text(&mut site, USAGE_TEXT) {
-        Ok(()) => Outcome {
-            status: USAGE,
-            site,
-            entries: Vec::new(alloc),
-        },
-        Err(Failed) => Outcome {
-            status: SITE_FAULT,
-            site,
-            entries: Vec::new(alloc),
-        },
-    }
-}
-
-/// Serves the words that need no threads: `check KEY`, `init` and `stat`. Other words, `run` among them, are answered
-/// with the usage line.
+/// Serves the words that need no threads: `check KEY`, `init`, `stat` and `audit`. All others are answered with the
+/// usage line, `run` and drills among them.
 ///
-/// `check KEY` reads one AOS transfer frame from the source and puts `ok` with its data field in
-/// hexadecimal digits, or `refused` with the first check that fails. It takes no memory.
+/// `check KEY` reads one AOS transfer frame from the source and writes `ok` with its data field in hexadecimal digits,
+/// or `refused` with the first check that fails. It takes no memory.
 ///
-/// `init` reads a plan from the source and makes the image of it, where there is none, and puts
-/// nothing; or it puts why not, and the image is as it was, except after a fault of the site.
+/// `init` reads a plan from the source and makes the image of it, if there is none, and writes nothing; or it writes why
+/// not, and the image is as it was, except after a fault of the site.
 ///
-/// `stat` puts the state that the image shows as text, or why there is none. It brings the image to rest as each
+/// `stat` writes the state that the image shows as text, or why there is none. It brings the image to rest as each
 /// opening does, and changes nothing else.
 ///
-/// Nothing is put after a failed put.
+/// `audit` reads a recording of runs, and writes that all is well, the first repeat of a number under a key, or where
+/// the recording is malformed. It leaves the image as it was.
+///
+/// Nothing is written after a failed write.
 pub fn run_plain<S: Source, O: Site>(
     alloc: Global,
     words: &[String],
     source: &mut S,
     site: O,
 ) -> Outcome<O>
-    ensures check { (key : List ℕ) → IsCheck words.now key → EndsCheck key
+    ensures check { (key : List ℕ) → command_of words.now ≡ Command.Check key → EndsCheck key
         (λ input. IsTrue S.told → input ≡ S.left source.old) (Rose (S.faults source.old) (S.faults source.new))
         O.told (O.trace site) (O.trace result.site) (Rose (O.faults site) (O.faults result.site)) result.status }
-    ensures taken { IsTrue S.told → TakesFew words.now (S.left source.old) (S.left source.new) }
+    ensures check_takes { (key : List ℕ) → command_of words.now ≡ Command.Check key → IsTrue S.told
+        → TakesFrame (S.left source.old) (S.left source.new) }
 
-    ensures init { IsInit words.now → EndsInit
+    ensures init { command_of words.now ≡ Command.Init → EndsInit
         (λ input. IsTrue S.told → input ≡ S.left source.old) (source.new ≡ source.old)
         (Rose (S.faults source.old) (S.faults source.new))
         O.told (O.trace site) (O.trace result.site) (Rose (O.faults site) (O.faults result.site)) result.status }
-    ensures init_leaves { IsInit words.now → IsTrue O.told → (O.trace site).now.image ≢ []
-        → OnlySinks (O.trace site) (O.trace result.site) }
+    ensures init_takes { command_of words.now ≡ Command.Init → IsTrue S.told
+        → TakesPlan (S.left source.old) (S.left source.new) }
 
-    ensures stat { IsStat words.now
+    ensures stat { command_of words.now ≡ Command.Stat
         → EndsStat O.told (O.trace site) (O.trace result.site) (Rose (O.faults site) (O.faults result.site))
         result.status }
-    ensures unread { IsStat words.now → source.new ≡ source.old }
 
-    ensures usage { IsNoCommand words.now
+    // An audit writes what is said of the whole input, and does nothing else to the site.
+    ensures audit { command_of words.now ≡ Command.Audit → EndsAudit
+        (λ input. IsTrue S.told → input ≡ take MOST_OCTETS (S.left source.old))
+        (Rose (S.faults source.old) (S.faults source.new))
+        O.told (O.trace site) (O.trace result.site) (Rose (O.faults site) (O.faults result.site)) result.status }
+
+    ensures usage { IsUnserved (command_of words.now)
         → Ends O.told (O.trace site) (O.trace result.site) (Rose (O.faults site) (O.faults result.site))
         usage_text USAGE result.status }
-    ensures untouched { IsNoCommand words.now → source.new ≡ source.old }
+    ensures unread { IsUnread (command_of words.now) → source.new ≡ source.old }
+    ensures untouched { IsUnserved (command_of words.now) → source.new ≡ source.old }
+    // With other words than `stat` nothing is done to an image that stands, whatever the end.
+    ensures only_sinks { command_of words.now ≢ Command.Stat → IsTrue O.told → (O.trace site).now.image ≢ []
+        → OnlySinks (O.trace site) (O.trace result.site) }
     // A fault is never hidden: with another status the counts stood.
     ensures quiet { result.status ≢ SITE_FAULT → O.faults result.site ≡ O.faults site }
     ensures heard { result.status ≢ SOURCE_FAULT → result.status ≢ SITE_FAULT
         → S.faults source.new ≡ S.faults source.old }
     ensures no_history { result.entries.items ≡ [] }
 {
-    if is_init(words) {
-        return run_init(alloc, source, site);
-    }
-    if is_stat(words) {
-        return run_stat(alloc, site);
-    }
-    match check_key(words) {
-        Some(key) => run_check(alloc, &key, source, site),
-        None => run_usage(alloc, site),
+    match command_of(words) {
+        Command::Check(key) => run_check(alloc, &key, source, site),
+        Command::Init => run_init(alloc, source, site),
+        Command::Stat => run_stat(alloc, site),
+        Command::Audit => run_audit(alloc, source, site),
+        Command::Run | Command::Drill(_) | Command::LinkDrill(_) | Command::Usage => {
+            end_with_usage(alloc, site)
+        }
     }
 }

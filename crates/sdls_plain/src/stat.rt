@@ -9,10 +9,10 @@ ghost use Rattle.sdls_outside.specs.Output.{Delivers};
 ghost use Rattle.sdls_plain.specs.Stat.{EndsStat, PutsText, ShowsAlone, TellsBook, end_of_open, fault_text, image_text};
 ghost use Rattle.sdls_plain.specs.Stat.{stat_status};
 
-use crate::output::put_text;
-use crate::status::{DONE, NO_MEMORY, NO_STATE, SITE_FAULT};
+use command_words::put_text;
 use itoa::Buffer;
 use record_io::Outcome;
+use record_io::status::{DONE, NO_MEMORY, NO_STATE, SITE_FAULT};
 use sdls_base::NoMemory;
 use sdls_outside::{Failed, Site};
 use status_text::status_text;

@@ -1,9 +1,19 @@
--- `stat` reads an image and stores nothing: for `stat_keeps_lives`.
-use Rattle.std.proofs.Common.{ℕ, List, inl, inr}
+-- What a call leaves that stores nothing: for `stat_keeps_lives` and `sinking_keeps_lives`.
+use Rattle.std.proofs.Common.{◌≡◌, ◌≢◌, ◌⊎◌, ℕ, List, [], inl, inr, refl}
+use Rattle.sdls_outside.specs.Disk.{Leaves}
 use Rattle.sdls_outside.specs.Faults.{Rose}
 use Rattle.sdls_outside.proofs.Moments.{each_weaker}
-use Rattle.run_promise.specs.Call.{CallSeen}
-use Rattle.law_runs.specs.Reads.{IsRead, ReadsAlone}
+use Rattle.sdls_outside.specs.Output.{OnlySinks}
+use Rattle.unit_plan.specs.PlanLines.{PlanLines}
+use Rattle.unit_state.specs.declared.state.State.{State}
+use Rattle.run_promise.specs.Account.{course_of}
+use Rattle.run_promise.specs.Call.{CallSeen, ShowsAtEntry, image_at_entry}
+use Rattle.run_promise.specs.Lives.{no_account}
+use Rattle.run_promise.specs.Sound.{SoundMoment}
+use Rattle.law_runs.specs.Reads.{IsRead, ReadsAlone, ReadsSoundly}
+use Rattle.command_words.specs.declared.command.Command.{Command}
+use Rattle.command_words.specs.declared.command.Command.TheVariants.{Check, Init, Stat, Run, Audit, Drill, LinkDrill, Usage}
+use Rattle.sdls_plain.proofs.Sinking.{is_there, sinks_leave}
 use Rattle.sdls_plain.specs.Stat.{EndsStat, StatMoment}
 
 is_read : (call : CallSeen) (image : List ℕ) → StatMoment call.site.trace image → IsRead call image
@@ -16,3 +26,27 @@ pub reads_alone : (call : CallSeen)
 reads_alone call ends is_told =
     each_weaker call.site.trace call.site_after.trace (λ image sunk. StatMoment call.site.trace image) (λ image sunk. IsRead call image)
     (λ image sunk moment. is_read call image moment) (ends.moments is_told)
+
+-- if nothing was done but to write output, a crash leaves what one at the entry may leave
+pub sinks_soundly : (call : CallSeen) (plan : PlanLines) (state : State) → ShowsAtEntry call plan state
+    → (image_at_entry call ≢ [] → OnlySinks call.site.trace call.site_after.trace) → ReadsSoundly call plan state
+sinks_soundly call plan state shows sinks =
+    each_weaker call.site.trace call.site_after.trace (λ image sunk. Leaves call.site.trace.now image)
+    (λ image sunk. Leaves call.site.trace.now image
+    ⊎ SoundMoment (course_of call (no_account call) plan state) [] [] (image_at_entry call) image [])
+    (λ image sunk leaves. inl leaves)
+    (sinks_leave call.site.trace call.site_after.trace (sinks (is_there (image_at_entry call) state shows.shows)))
+
+-- a command is `stat` or another
+pub by_stat : {X : Type 0} (command : Command) → (command ≡ Stat → X) → (command ≢ Stat → X) → X
+by_stat (Check key) is_stat other = other (λ is. cc)
+by_stat Init is_stat other = other (λ is. cc)
+by_stat Stat is_stat other = is_stat refl
+by_stat Run is_stat other = other (λ is. cc)
+by_stat Audit is_stat other = other (λ is. cc)
+by_stat (Drill number) is_stat other = other (λ is. cc)
+by_stat (LinkDrill number) is_stat other = other (λ is. cc)
+by_stat Usage is_stat other = other (λ is. cc)
+
+pub init_is_not_stat : Init ≡ Stat → ⊥
+init_is_not_stat is = cc

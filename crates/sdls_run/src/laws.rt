@@ -1,9 +1,9 @@
 //! The laws that join `stat` and `audit` to the lives of a unit.
-ghost use Rattle.std.specs.Prelude.{◌≡◌, ◌⊎◌, ◌≤◌, ℕ, Bool, IsTrue, List, [], length, take};
+ghost use Rattle.std.specs.Prelude.{◌≡◌, ◌≢◌, ◌⊎◌, ◌≤◌, ℕ, Bool, IsTrue, List, [], length, take};
 ghost use Rattle.std.specs.List.{All};
 ghost use Rattle.sdls_outside.specs.Faults.{Rose};
 ghost use Rattle.sdls_outside.specs.Moments.{Trace};
-ghost use Rattle.sdls_outside.specs.Output.{Sinks};
+ghost use Rattle.sdls_outside.specs.Output.{OnlySinks, Sinks};
 ghost use Rattle.record_io.specs.declared.answers.Answer.{Answer};
 ghost use Rattle.record_io.specs.declared.status.TheConstants.{DONE, NO_MEMORY};
 ghost use Rattle.record_io.specs.Input.{MOST_OCTETS};
@@ -13,12 +13,12 @@ ghost use Rattle.pair_audit.specs.Recording.{RunsCount, recording};
 ghost use Rattle.law_audit.specs.Recorded.{IsSpelled, SankFew, sunk_by};
 ghost use Rattle.audit_run.specs.Ends.{EndsAudit};
 ghost use Rattle.audit_run.specs.Text.{clean_text};
-ghost use Rattle.run_promise.specs.Call.{CallSeen};
+ghost use Rattle.run_promise.specs.Call.{CallSeen, image_at_entry};
 ghost use Rattle.run_promise.specs.Lives.{KeepsLivesReading};
 ghost use Rattle.sdls_plain.specs.Stat.{EndsStat};
 
 use law_audit::recorded_life_is_clean;
-use law_runs::reading_keeps_lives;
+use law_runs::{no_records_are_sound, reading_keeps_lives, sound_reading_keeps_lives};
 
 /// Law: a call that ends as `stat` does, and makes no entry, continues each life that left the image at its entry.
 pub fn stat_keeps_lives()
@@ -28,6 +28,17 @@ pub fn stat_keeps_lives()
         → KeepsLivesReading call }
 {
     reading_keeps_lives();
+}
+
+/// Law: a call that makes no entry, and does nothing to an image that stands but to write output, continues each life that
+/// left the image at its entry.
+pub fn sinking_keeps_lives()
+    ensures { (call : CallSeen) → call.entries ≡ []
+        → (IsTrue call.told → image_at_entry call ≢ [] → OnlySinks call.site.trace call.site_after.trace)
+        → KeepsLivesReading call }
+{
+    no_records_are_sound();
+    sound_reading_keeps_lives();
 }
 
 /// Law: of the runs of a life that were kept, an audit of what they sank ends with the line that all is well and status

@@ -1,4 +1,3 @@
-pub mod DrillWords
 pub mod Fields
 pub mod MoreTasks
 pub mod Counted

@@ -1,4 +1,3 @@
-pub mod Words
 pub mod Plans
 pub mod Frames
 pub mod Counting

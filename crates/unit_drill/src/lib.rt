@@ -2,9 +2,8 @@
 //! numbers alone. In chunks of 256 they are protected, opened, and the first of each opened again; one line has the
 //! counts of the answers.
 //!
-//! [`drill`] is the call, and [`drill_number`] reads the words that ask for it. Read `specs/Chunks.antt` first: what
-//! the units were handed, and what is counted of their answers. With [`drill_link`] the frames go over a link that
-//! loses, repeats and delays them (crate `link_world`); [`link_drill_number`] reads its words.
+//! [`drill`] is the call. Read `specs/Chunks.antt` first: what the units were handed, and what is counted of their
+//! answers. With [`drill_link`] the frames go over a link that loses, repeats and delays them (crate `link_world`).
 #![tactic(auto)]
 
 mod arriving;
@@ -21,11 +20,9 @@ mod linking;
 mod records;
 mod running;
 mod unit;
-mod words;
 
 pub use counts::Counts;
 pub use laws::{drill_is_complete, link_drill_is_complete, plans_are_read};
 pub use link_counts::LinkCounts;
 pub use linking::drill_link;
 pub use running::drill;
-pub use words::{MOST_FRAMES, drill_number, link_drill_number};

@@ -13,9 +13,9 @@ use crate::laws::link_drill_is_complete;
 use crate::line::link_line;
 use crate::link_counts::LinkCounts;
 use crate::records::CHUNK;
-use crate::running::{end_of, end_with};
+use crate::running::{end_made, end_of};
 use crate::unit::DrillUnit;
-use crate::words::MOST_FRAMES;
+use command_words::MOST_FRAMES;
 use frame_workers::Gate;
 use record_io::Outcome;
 use record_io::status::SITE_FAULT;
@@ -84,5 +84,5 @@ pub fn drill_link<R: Threads + Wait + Sync, O: Site, G: Gate + Sync>(
     ensures quiet { result.status ≢ SITE_FAULT → O.faults result.site ≡ O.faults site }
     ensures no_history { result.entries.items ≡ [] }
 {
-    end_with(alloc, link_line_of(rt, alloc, number, gate), site)
+    end_made(alloc, link_line_of(rt, alloc, number, gate), site)
 }

@@ -15,12 +15,12 @@ use crate::laws::drill_is_complete;
 use crate::line::drill_line;
 use crate::records::CHUNK;
 use crate::unit::DrillUnit;
-use crate::words::MOST_FRAMES;
+use command_words::{MOST_FRAMES, end_with};
 use frame_workers::Gate;
 use record_io::Outcome;
 use record_io::status::{DONE, NO_MEMORY, SITE_FAULT};
 use sdls_base::NoMemory;
-use sdls_outside::{Failed, Site};
+use sdls_outside::Site;
 use std::alloc::Global;
 use std::sync::Wait;
 use std::thread::Threads;
@@ -73,23 +73,11 @@ fn line_of<R: Threads + Wait + Sync, G: Gate + Sync>(
     drill_line(alloc, number, counts)
 }
 
-/// Puts a text, and answers the status: this one, or that of a put that failed.
-fn put_text<O: Site>(site: &mut O, text: &[u8], status: u8) -> u8
-    ensures ends { Ends O.told (O.trace site.old) (O.trace site.new)
-        (Rose (O.faults site.old) (O.faults site.new)) text.now status result }
-    ensures quiet { result ≢ SITE_FAULT → O.faults site.new ≡ O.faults site.old }
-{
-    match site.put(text) {
-        Ok(()) => status,
-        Err(Failed) => SITE_FAULT,
-    }
-}
-
 /// Ends a drill: writes the line that was made, or that memory ran out. To the site nothing else is done.
-pub(crate) fn end_with<O: Site>(
+pub(crate) fn end_made<O: Site>(
     alloc: Global,
     made: Result<Vec<u8>, NoMemory>,
-    mut site: O,
+    site: O,
 ) -> Outcome<O>
     ensures written { IfOk made (λ text. Ends O.told (O.trace site) (O.trace result.site)
         (Rose (O.faults site) (O.faults result.site)) text.items DONE result.status) }
@@ -98,14 +86,9 @@ pub(crate) fn end_with<O: Site>(
     ensures quiet { result.status ≢ SITE_FAULT → O.faults result.site ≡ O.faults site }
     ensures no_history { result.entries.items ≡ [] }
 {
-    let status = match made {
-        Ok(text) => put_text(&mut site, &text, DONE),
-        Err(NoMemory) => put_text(&mut site, b"no memory\n", NO_MEMORY),
-    };
-    Outcome {
-        status,
-        site,
-        entries: Vec::new(alloc),
+    match made {
+        Ok(text) => end_with(alloc, site, &text, DONE),
+        Err(NoMemory) => end_with(alloc, site, b"no memory\n", NO_MEMORY),
     }
 }
 
@@ -128,5 +111,5 @@ pub fn drill<R: Threads + Wait + Sync, O: Site, G: Gate + Sync>(
     ensures quiet { result.status ≢ SITE_FAULT → O.faults result.site ≡ O.faults site }
     ensures no_history { result.entries.items ≡ [] }
 {
-    end_with(alloc, line_of(rt, alloc, number, gate), site)
+    end_made(alloc, line_of(rt, alloc, number, gate), site)
 }
