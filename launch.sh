@@ -286,7 +286,7 @@ HELP
     else
         cat <<'HELP'
 usage: sdls check KEY | init | stat | run | drill N | drill link N | audit
-A space link security unit by CCSDS 355.0-B-2. Its procedures serve the purposes of 355.1-B-1 in formats of their own.
+A space link security unit: a profile of CCSDS 355.0-B-2, and the procedures of 355.1-B-1 by purpose, in own formats.
 It works on the file unit.img in the current folder.
 
   check KEY    reads one AOS transfer frame, and prints its data field or the first check that failed;
