@@ -285,7 +285,13 @@ Examples:
 HELP
     else
         cat <<'HELP'
-usage: sdls check KEY | init | stat | run | drill N | drill link N | audit
+usage: sdls check KEY < FRAME
+       sdls init < PLAN
+       sdls stat
+       sdls run < INPUT > ANSWERS
+       sdls drill N
+       sdls drill link N
+       sdls audit < RECORDING
 A space link security unit: a profile of CCSDS 355.0-B-2, and the procedures of 355.1-B-1 by purpose, in own formats.
 It works on the file unit.img in the current folder.
 
