@@ -2,8 +2,9 @@
 # first if a source of it has changed. In a folder that `./install` made they need no kit.
 #
 # Standard input, standard output and the exit status are the program's. On standard error a launcher prints how far
-# building is, and a sentence for people if `sdls` ends with a status from 3 to 8. Its own statuses are 70 (the program
-# could not be built), 71 (the folder or the image could not be locked) and 75 (another unit holds one of them).
+# building is, that a word reads from a terminal, what is wrong with the words if the status is 2, and a sentence for
+# people if `sdls` ends with a status from 3 to 8. Its own statuses are 70 (the program could not be built), 71 (the
+# folder or the image could not be locked) and 75 (another unit holds one of them).
 set -u
 parts=$(cd "$(dirname "${BASH_SOURCE[0]}")" && pwd)
 name=
@@ -37,8 +38,15 @@ launch() {
         keep_others_out
         ;;
     esac
+    find_input "${1-}"
+    find_fault "$@"
+    announce_input "${1-}"
     run_through exec "$program" "$@"
-    [ "$name" = sdls ] && explain "${1-}"
+    if [ "$status" = 2 ]; then
+        say "${fault:-these words are none that it serves}; see \`$name --help\`"
+    elif [ "$name" = sdls ]; then
+        explain "${1-}"
+    fi
     end_alike
 }
 
@@ -145,6 +153,83 @@ take_lock() {
 }
 
 # -- words for people -----------------------------------------------------------------------------------------------
+
+# Sets `reads` to what the word reads from standard input, and `call` to how it reads a file. Of a word that reads none
+# both are empty.
+find_input() {
+    reads= call=
+    case "$name $1" in
+    "sdls check") reads="an AOS transfer frame" call="sdls check KEY < FRAME" ;;
+    "sdls init") reads="a plan" call="sdls init < PLAN" ;;
+    "sdls run") reads="recorded input" call="sdls run < INPUT > ANSWERS" ;;
+    "sdls audit") reads="a recording of runs" call="sdls audit < RECORDING" ;;
+    "sdls_text records") reads="lines of text" call="sdls_text records < TEXT > INPUT" ;;
+    "sdls_text show") reads="recorded input" call="sdls_text show < INPUT" ;;
+    "sdls_text answers") reads="answers" call="sdls_text answers < ANSWERS" ;;
+    "sdls_text plan") reads="a plan" call="sdls_text plan < PLAN" ;;
+    esac
+}
+
+# Sets `fault` to what is wrong with the words, or to nothing. The program alone decides which words it serves. No word
+# is printed that may be the digits of a key.
+find_fault() {
+    local LC_ALL=C
+    fault=
+    case "$name ${1-}" in
+    "$name ") fault="a word is missing" ;;
+    "sdls check") find_key_fault "$@" ;;
+    "sdls drill") find_number_fault "$@" ;;
+    "sdls init" | "sdls stat" | "sdls run" | "sdls audit" | "sdls_text records" | "sdls_text show" | "sdls_text plan")
+        [ "$#" = 1 ] || fault="$1 takes no further word${call:+, and reads standard input: \`$call\`}"
+        ;;
+    "sdls_text answers")
+        [ "$#" = 1 ] || [ "$# $2" = "2 --json" ] || fault="behind answers stands --json or nothing"
+        ;;
+    "sdls_text recording") [ "$#" -gt 1 ] || fault="recording needs names of files" ;;
+    "$name --help" | "$name --version") fault="$1 stands alone" ;;
+    *)
+        fault="the first word is none that it serves"
+        [[ $1 =~ ^[a-z-]{1,20}$ ]] && fault="there is no word \`$1\`"
+        ;;
+    esac
+}
+
+# What is wrong with the words of `check`.
+find_key_fault() {
+    local digits="32 or 64 hexadecimal digits"
+    if [ "$#" = 1 ]; then
+        fault="check needs a KEY of $digits"
+    elif [ "$#" -gt 2 ]; then
+        fault="check takes one further word, a KEY of $digits"
+    elif [[ $2 = *[![:xdigit:]]* ]]; then
+        fault="a KEY has $digits, and this one has another character"
+    elif [ "${#2}" != 32 ] && [ "${#2}" != 64 ]; then
+        fault="a KEY has $digits, and this one has ${#2}"
+    fi
+}
+
+# What is wrong with the words of `drill`.
+find_number_fault() {
+    local drill=drill
+    [ "${2-}" = link ] && drill="drill link" && shift
+    if [ "$#" = 1 ]; then
+        fault="$drill needs a number of frames, 1 to 100000"
+    elif [ "$#" -gt 2 ]; then
+        fault="$drill takes one further word, a number of frames"
+    elif ! [[ $2 =~ ^[1-9][0-9]{0,5}$ ]] || [ "$2" -gt 100000 ]; then
+        fault="the number of frames is 1 to 100000, without a leading zero"
+    fi
+}
+
+# Says that the word reads from standard input, if that is a terminal, and if the program will read.
+announce_input() {
+    [ -n "$reads" ] && [ -z "$fault" ] && [ -t 0 ] || return 0
+    case "$name $1" in
+    "sdls init") [ -z "$had_image" ] || return 0 ;;
+    "sdls run") [ -e unit.img ] || return 0 ;;
+    esac
+    say "$1 reads $reads from standard input, which is a terminal: Ctrl-D ends it, and \`$call\` reads a file"
+}
 
 # Says in one sentence what happened and what to do, by the word, the status and a look at the folder.
 explain() {
