@@ -6,8 +6,9 @@ it tries all of them on units that it makes in a temporary folder, and prints wh
 
     python3 examples/ground.py [--sdls PROGRAM]
 
-PROGRAM is the launcher `sdls` of the clone, or else the one on the path. The keys are published test keys: never use
-them on a link. The ciphers are written to be read. They are slow, and how long they take depends on the key.
+PROGRAM is the launcher `sdls` of the clone or of the installed copy, or else the one on the path. The keys are
+published test keys: never use them on a link. The ciphers are written to be read. They are slow, and how long they take
+depends on the key.
 """
 import argparse
 import hmac
@@ -621,8 +622,10 @@ def crash_and_start(unit):
 
 
 def find_program():
-    beside = pathlib.Path(__file__).absolute().parent.parent / "sdls"
-    return str(beside) if os.access(beside, os.X_OK) else shutil.which("sdls")
+    """The launcher of the clone, or of the copy that `./install PREFIX` made, or the one on the path."""
+    here = pathlib.Path(__file__)
+    places = here.absolute().parent.parent / "sdls", here.resolve().parent / "../../../../bin/sdls"
+    return next((str(place) for place in places if os.access(place, os.X_OK)), None) or shutil.which("sdls")
 
 
 def main():
