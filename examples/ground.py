@@ -2,9 +2,17 @@
 """The other end of a link, written from docs/FORMATS.md in plain Python: nothing but the standard library.
 
 As a module it has ciphers, frames and messages, and `Unit`, which holds a running `sdls run` over pipes. As a program
-it tries all of them on units that it makes in a temporary folder, and prints what came out:
+it tries all of them on units that it makes in a temporary folder, and prints what came out. With a word it is the
+ground's side of a verification of keys:
 
     python3 examples/ground.py [--sdls PROGRAM]
+    python3 examples/ground.py challenge KEY
+    python3 examples/ground.py verify COMMANDS KEYS < ANSWERS
+
+`challenge` prints a line of recorded input that asks to verify a key by 16 octets that nobody can foresee. `verify`
+takes the files COMMANDS, which has such lines, and KEYS, which has the `key` lines of a plan. It looks for the replies
+among the lines of `sdls_text answers`. The status is 0 if each challenge has a right reply, 1 if one has none, and 2 if
+a file or the words are at fault.
 
 PROGRAM is the launcher `sdls` of the clone or of the installed copy, or else the one on the path. The keys are
 published test keys: never use them on a link. The ciphers are written to be read. They are slow, and how long they take
@@ -335,6 +343,83 @@ def is_verified(reply, key, octets, challenge):
     return hmac.compare_digest(tag, wanted) and hmac.compare_digest(text, challenge)
 
 
+# -- verification in lines of text: docs/FORMATS.md, "Recorded input as text" and "Answers as text" -------------------
+
+
+class Fault(Exception):
+    """Why there is no verdict."""
+
+
+def challenges_of(commands):
+    """The key and the challenge of each line of recorded input that asks to verify a key."""
+    lines = [line.split("#")[0].replace(",", " ").lower().split() for line in commands.splitlines()]
+    asked = [words[3:] for words in lines if words[:1] == ["command"] and words[2:3] == ["verify"]]
+    try:
+        found = [(int(key), bytes.fromhex(challenge)) for key, challenge in asked]
+    except ValueError as error:
+        raise Fault(f"a line that asks to verify a key is at fault: {error}") from error
+    if not found:
+        raise Fault("no line asks to verify a key")
+    return found
+
+
+def replies_of(answers):
+    """The key and the octets of each reply of Verify."""
+    lines = [line.split() for line in answers.splitlines()]
+    # behind the number of the record: done verify entry P drawn K N, and then the names and values of the reply
+    replies = [dict(zip(words[8::2], words[9::2])) for words in lines if words[1:3] == ["done", "verify"]]
+    try:
+        return [(int(values["key"]), reply_of(values)) for values in replies]
+    except (KeyError, ValueError, OverflowError) as error:
+        raise Fault(f"an answer to verify is at fault: {error}") from error
+
+
+def reply_of(values):
+    """The octets of a reply of Verify, by its names and values."""
+    sealed = [bytes.fromhex(values[name]) for name in ("vector", "sealed", "tag") if name in values]
+    if not sealed:
+        sealed = [octets_of(int(values["number"]), 4), bytes.fromhex(values["mac"])]
+    octets = message("verify", int(values["key"]), *sealed)
+    return bytes([0x80 | octets[0]]) + octets[1:]
+
+
+def verify(commands, keys, answers):
+    """Prints of each challenge whether it has a right reply. Returns whether each has."""
+    replies, all_right = replies_of(answers), True
+    for key, challenge in challenges_of(commands):
+        octets = key_of(keys, key)
+        of_key = [reply for replied, reply in replies if replied == key]
+        right = [reply for reply in of_key if is_verified(reply, key, octets, challenge)]
+        if right:
+            print(f"key {key}: verified, {number_used(right[0], key)}")
+        elif of_key:
+            print(f"key {key}: NOT verified: the unit has other octets, or replied to another challenge")
+        else:
+            print(f"key {key}: NOT verified: there is no reply")
+        all_right = all_right and bool(right)
+    return all_right
+
+
+def number_used(reply, key):
+    """The number or the vector of a reply; the vector begins with the device field of the unit that replied."""
+    return f"number {number_of(reply[5:9])}" if key >= 32768 else f"vector {reply[5:17].hex()}"
+
+
+def key_of(plan, identifier):
+    """The octets of a key in the text of a plan. No digit of it is printed."""
+    lines = (line.split() for line in plan.splitlines())
+    found = [words[3] for words in lines if words[:2] == ["key", str(identifier)] and len(words) == 4]
+    if len(found) != 1:
+        raise Fault(f"of {identifier} there is not one key line, but {len(found)}")
+    try:
+        octets = bytes.fromhex(found[0])
+    except ValueError:
+        octets = b""
+    if len(octets) not in (16, 32):
+        raise Fault(f"the line of key {identifier} has not 32 or 64 hexadecimal digits")
+    return octets
+
+
 # -- a unit over pipes: docs/FORMATS.md, "The recorded input" and "An answer" -----------------------------------------
 
 CODES = {
@@ -534,12 +619,6 @@ def try_up(unit, link, clear, data, far):
     expect("a second time", unit.open(link, frame).word, "number")
 
 
-def key_of(plan, identifier):
-    """The octets of a key in the text of a plan."""
-    lines = (line.split() for line in plan.splitlines())
-    return next(bytes.fromhex(words[3]) for words in lines if words[:2] == ["key", str(identifier)])
-
-
 def try_messages(program, folder, plan):
     """A key is made here, loaded and verified on board, and taken by the telemetry."""
     board = Unit(program, folder / "messages", plan)
@@ -550,9 +629,12 @@ def try_messages(program, folder, plan):
     expect("rekeying", board.ask((COMMAND, 0, loading))[0].word, "done")
     expect("activate", board.command("activate", 300).word, "done")
     challenge = os.urandom(16)
-    expect("verify 300", is_verified(board.command("verify", 300, challenge).body, 300, new_key, challenge), True)
-    reply = board.command("verify", 32769, challenge).body
-    expect("verify 32769", is_verified(reply, 32769, key_of(plan, 32769), challenge), True)
+    other_challenge = with_bit_changed(challenge, 15)
+    for key, octets in (300, new_key), (1, key_of(plan, 1)), (32769, key_of(plan, 32769)):
+        reply = board.command("verify", key, challenge).body
+        expect(f"verify {key}", is_verified(reply, key, octets, challenge), True)
+        expect(f"verify {key}: other octets", is_verified(reply, key, with_bit_changed(octets, 0), challenge), False)
+        expect(f"verify {key}: another challenge", is_verified(reply, key, octets, other_challenge), False)
     for words in ("stop", 9), ("expire", 9), ("rekey", 9, 300, octets_of(2, 8)), ("start", 9), ("destroy", 256):
         expect(words[0], board.command(*words).word, "refused" if words[0] == "destroy" else "done")
     answer = board.protect(1, tm_frame(42, 2, 0, bytes(26)))
@@ -628,10 +710,41 @@ def find_program():
     return next((str(place) for place in places if os.access(place, os.X_OK)), None) or shutil.which("sdls")
 
 
-def main():
-    words = argparse.ArgumentParser(description=__doc__.splitlines()[0])
+def identifier(word):
+    """The identifier of a key, as a word of the command line."""
+    number = int(word)
+    if not 1 <= number <= 65535:
+        raise argparse.ArgumentTypeError("a key is 1 to 65535")
+    return number
+
+
+def read_words():
+    words = argparse.ArgumentParser(description=__doc__.splitlines()[0], epilog="Without a word all is tried on units.")
     words.add_argument("--sdls", default=find_program(), help="the program, or its launcher")
-    program = words.parse_args().sdls
+    further = words.add_subparsers(dest="word")
+    challenge = further.add_parser("challenge", help="print a line that asks to verify a key")
+    challenge.add_argument("key", type=identifier)
+    verifying = further.add_parser("verify", help="check the replies among the answers on standard input")
+    verifying.add_argument("commands", type=pathlib.Path, help="a file with the lines of `challenge`")
+    verifying.add_argument("keys", type=pathlib.Path, help="a file with the key lines of a plan")
+    return words.parse_args()
+
+
+def main():
+    words = read_words()
+    if words.word == "challenge":
+        print(f"command 0 verify {words.key} {os.urandom(16).hex()}")
+        return 0
+    if words.word == "verify":
+        try:
+            return 0 if verify(words.commands.read_text(), words.keys.read_text(), sys.stdin.read()) else 1
+        except (Fault, OSError, UnicodeDecodeError) as error:
+            print(f"ground.py: {error}", file=sys.stderr)
+            return 2
+    return try_all(words.sdls)
+
+
+def try_all(program):
     if program is None:
         raise SystemExit("there is no `sdls` beside this folder or on the path: name it by --sdls")
     plans = pathlib.Path(__file__).absolute().parent
@@ -642,6 +755,7 @@ def main():
         try_frames(program, folder)
         try_messages(program, folder, board_plan)
         try_link(program, folder, ground_plan, board_plan)
+    return 0
 
 
 if __name__ == "__main__":
