@@ -16,8 +16,7 @@ use Rattle.link_world.proofs.Counting.{few_arrive, few_delivered}
 use Rattle.record_io.specs.declared.answers.Answer.{Answer}
 use Rattle.record_io.specs.declared.code.TheConstants.{PROTECTED}
 use Rattle.record_io.specs.declared.records.Record.{Record}
-use Rattle.unit_drill.specs.Arriving.{arrived_task, arrived_tasks, chunk_events, count_given, count_lost, octets_in, releases}
-use Rattle.unit_drill.specs.Counting.{gives_field}
+use Rattle.unit_drill.specs.Arriving.{arrived_task, arrived_tasks, chunk_events, count_lost, octets_in, releases}
 
 -- ---- releases
 
@@ -108,10 +107,4 @@ pub few_lost : (sent : List Answer) → count_lost sent ≤ length sent
 few_lost sent =
     let few = count_by-le-length (λ (p : ℕ × Answer). (p.1.code == PROTECTED) && is_lost (fate_of p.0)) (zip (range_with_len 0 (length sent)) sent) in
     let many = length-zip (range_with_len 0 (length sent)) sent in
-    omega arith
-
-pub few_given : (numbers : List ℕ) (answers : List Answer) → count_given numbers answers ≤ length answers
-few_given numbers answers =
-    let few = count_by-le-length (λ (p : ℕ × Answer). gives_field p.0 p.1) (zip numbers answers) in
-    let many = length-zip numbers answers in
     omega arith

@@ -15,7 +15,7 @@ use Rattle.record_io.specs.declared.answers.Answer.{Answer}
 use Rattle.record_io.specs.declared.code.TheConstants as codes_of
 use Rattle.unit_drill.specs.Arriving.{arrived_frames, chunk_events, count_lost, releases}
 use Rattle.unit_drill.proofs.OpenedChunks.{IsSent}
-use Rattle.unit_drill.specs.LinkChunks.{arrived_of, lost_of}
+use Rattle.unit_drill.specs.OverLink.{arrived_of, lost_of}
 
 -- ---- which arrive
 

@@ -23,6 +23,10 @@ pub mod ArrivedRecords
 pub mod Told
 pub mod OpenedLinkChunks
 pub mod WholeLinkDrill
+pub mod SoFar
+pub mod Joined
+pub mod RanDrill
+pub mod RanLinkDrill
 pub mod OpenedUnit
 pub mod Served
 pub mod Ending

@@ -20,7 +20,8 @@ use Rattle.law_workers.proofs.Handling as handling
 use Rattle.law_workers.specs.Opened.{IsJustOpened}
 use Rattle.unit_drill.specs.Counting.{count_accepted, count_code, count_fields, gives_field}
 use Rattle.unit_drill.specs.Frames.{data_field, open_task, open_tasks, replay_tasks}
-use Rattle.unit_drill.specs.Chunks.{HandlesSegment, tells_want}
+use Rattle.unit_drill.specs.Chunks.{HandlesSegment}
+use Rattle.unit_drill.specs.UnitRun.{says_no_memory}
 use Rattle.unit_drill.proofs.Read.{receiver_bare}
 use Rattle.unit_drill.proofs.Judging.{receiving}
 use Rattle.unit_drill.proofs.Lanes.{begun, each}
@@ -195,7 +196,7 @@ module _ (once : OpensOnce) (begin : Begin) (first now mid next : View) (chunk :
     (sent : AreSent (256 * chunk + length (head ∷ rest)) numbers longer)
     (opened again : List Answer) (opens : HandlesSegment begin now mid (open_tasks chunk (256 * chunk) (head ∷ rest)) opened)
     (replays : HandlesSegment begin mid next (replay_tasks chunk (256 * chunk) (head ∷ rest)) again)
-    (open_wants : list_any tells_want opened ≡ false) (again_wants : list_any tells_want again ≡ false) where
+    (open_wants : list_any says_no_memory opened ≡ false) (again_wants : list_any says_no_memory again ≡ false) where
   abbrev total : ℕ
   total = 256 * chunk + length (head ∷ rest)
 
@@ -234,7 +235,7 @@ module _ (once : OpensOnce) (begin : Begin) (first now mid next : View) (chunk :
   all_opened =
       let e = few_made IsTurn once receiver_layout begin first mid (old ++ new) _ done_mid starts.plan starts.start
       total few_mid numbers longer sent handed_mid (all_lanes total longer (old ++ new) handed_mid) in
-      all_answered begin now mid new opened opens.full opens.ends e
+      all_answered begin now mid new opened opens.full opens.ends (omega arith)
 
   -- the first frame again
   abbrev repeated : Record
@@ -305,7 +306,7 @@ module _ (once : OpensOnce) (begin : Begin) (first now mid next : View) (chunk :
   all_again =
       let e = few_made IsTurn once receiver_layout begin first next every _ done_all starts.plan starts.start
       total few_all numbers longer sent handed_all (all_lanes total longer every handed_all) in
-      all_answered begin mid next (repeated ∷ []) again replays_one.full replays_one.ends e
+      all_answered begin mid next (repeated ∷ []) again replays_one.full replays_one.ends (omega arith)
 
   -- ---- what is counted
 

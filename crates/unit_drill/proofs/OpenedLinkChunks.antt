@@ -19,9 +19,10 @@ use Rattle.run_promise.specs.Deed.{Deed, deed_of}
 use Rattle.law_workers.specs.Deeds.{Ascend, course_in, deeds_of}
 use Rattle.law_workers.specs.Opened.{IsJustOpened}
 use Rattle.law_workers.proofs.Handling as handling
-use Rattle.unit_drill.specs.Arriving.{arrived_frames, arrived_task, arrived_tasks, count_given, octets_in}
-use Rattle.unit_drill.specs.Counting.{count_code}
-use Rattle.unit_drill.specs.Chunks.{HandlesSegment, tells_want}
+use Rattle.unit_drill.specs.Arriving.{arrived_frames, arrived_task, arrived_tasks, octets_in}
+use Rattle.unit_drill.specs.Counting.{count_code, count_given}
+use Rattle.unit_drill.specs.Chunks.{HandlesSegment}
+use Rattle.unit_drill.specs.UnitRun.{says_no_memory}
 use Rattle.unit_drill.proofs.Read.{receiver_bare}
 use Rattle.unit_drill.proofs.Judging.{receiving}
 use Rattle.unit_drill.proofs.Lanes.{begun, each}
@@ -78,7 +79,7 @@ module _ (once : OpensOnce) (begin : Begin) (first now next : View) (chunk : ℕ
     (same : (i : ℕ) → i < 256 * chunk → octets i ≡ longer i) (own : (j : ℕ) → j < length later → longer (256 * chunk + j) ≡ (at later j).body)
     (sent : AreSent (256 * chunk + length later) numbers longer) (opened : List Answer)
     (opens : HandlesSegment begin now next (arrived_tasks (1024 * chunk) (256 * chunk) later (arrived_frames (256 * chunk) later)) opened)
-    (wants : list_any tells_want opened ≡ false) where
+    (wants : list_any says_no_memory opened ≡ false) where
   abbrev total : ℕ
   total = 256 * chunk + length later
 
@@ -162,7 +163,7 @@ module _ (once : OpensOnce) (begin : Begin) (first now next : View) (chunk : ℕ
   answered : length opened ≡ length new
   answered =
       let e = few_made Any once (drill_layout 0) begin first next every every_deed done_all starts.plan starts.start total few_all numbers longer sent handed_all on_lanes in
-      all_answered begin now next new opened opens_new.full opens_new.ends e
+      all_answered begin now next new opened opens_new.full opens_new.ends (omega arith)
 
   abbrev FitsHere : Deed → Type 0
   FitsHere deed = Fits (near Any once (drill_layout 0) begin first next every every_deed done_all starts.plan starts.start total few_all numbers longer sent handed_all on_lanes) (course_in begin next) deed.task deed.answer

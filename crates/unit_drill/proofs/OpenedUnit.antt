@@ -18,8 +18,7 @@ use Rattle.unit_book.specs.Book.{BookView}
 use Rattle.shared_unit.specs.Sharing.{Begins}
 use Rattle.shared_unit.specs.Sharing as sharing
 use Rattle.run_promise.specs.Begin.{Begin}
-use Rattle.unit_drill.specs.Chunks.{UnitIsOpened}
-use Rattle.unit_drill.specs.Drilled.{MayServe}
+use Rattle.unit_drill.specs.Chunks.{MayServe, UnitIsOpened}
 
 module _ {B : Type 0} (site : SiteSeen) (book : BookView) (counters : Counters B) (planned : PlanLines)
     (worker : Worker B) (opened : sharing.BookIsOpened true site book)

@@ -22,7 +22,8 @@ use Rattle.law_workers.proofs.Handling as handling
 use Rattle.law_workers.specs.Opened.{IsJustOpened}
 use Rattle.law_workers.specs.Ends.{EndsSegment}
 use Rattle.unit_drill.specs.Frames.{protect_task, protect_tasks}
-use Rattle.unit_drill.specs.Chunks.{HandlesSegment, tells_fault, tells_want}
+use Rattle.unit_drill.specs.Chunks.{HandlesSegment}
+use Rattle.unit_drill.specs.UnitRun.{says_fault, says_no_memory}
 use Rattle.unit_drill.proofs.Read.{sender_bare}
 use Rattle.unit_drill.proofs.Lanes.{each, key_on}
 use Rattle.unit_drill.proofs.Lists.{Below, From, ascend_once, ascend_then, come_before, deed_at, deeds_all, deeds_both, deeds_long, deeds_then, none_pass}
@@ -52,7 +53,7 @@ done_more layout begin first now next tasks later deeds more bound done handled 
 -- the history is not full, so all records are answered
 pub all_answered : (begin : Begin) (now next : View) (tasks : List Record) (answers : List Answer) (full : Bool)
     → EndsSegment begin now next tasks answers full
-    → length (entries_in next) ≤ 400000 → length answers ≡ length tasks
+    → length (entries_in next) ≤ 1000000 → length answers ≡ length tasks
 all_answered begin now next tasks answers false ends few = ends
 all_answered begin now next tasks answers true ends few = let full = ends.2.full in absurd (omega arith)
 
@@ -70,7 +71,7 @@ pub record IsGood (answer : Answer) : Type 0 where
   pub not_stopped : answer.code ≢ codes_of.STOPPED
   pub not_wanting : answer.code ≢ codes_of.NO_MEMORY
 
-is_good : (answer : Answer) → tells_fault answer ≡ false → tells_want answer ≡ false → IsGood answer
+is_good : (answer : Answer) → says_fault answer ≡ false → says_no_memory answer ≡ false → IsGood answer
 is_good answer quiet wants =
     let both = or_parts (answer.code == codes_of.SITE_FAULT) (answer.code == codes_of.STOPPED) quiet in
     record {
@@ -79,10 +80,10 @@ is_good answer quiet wants =
       not_wanting = λ is. (let t = sym wants ∙ eq-eqb answer.code codes_of.NO_MEMORY is in let k : false ≡ true = t in cc);
     }
 
-pub all_good : (answers : List Answer) → list_any tells_fault answers ≡ false → list_any tells_want answers ≡ false → All IsGood answers
+pub all_good : (answers : List Answer) → list_any says_fault answers ≡ false → list_any says_no_memory answers ≡ false → All IsGood answers
 all_good answers quiet wants =
-    let a = none_pass tells_fault answers quiet in
-    let b = none_pass tells_want answers wants in
+    let a = none_pass says_fault answers quiet in
+    let b = none_pass says_no_memory answers wants in
     λ k d low. is_good (get_or answers k d) (a k d low) (b k d low)
 
 -- ---- the sender
@@ -103,7 +104,7 @@ protects_below m =
     All-map (Below m) protect_task (range_with_len 0 m)
     (λ k d low. let many = length-range_with_len 0 m in let is = get_or-range_with_len 0 m k d (omega arith) in omega arith)
 
-protects_from : (m n : ℕ) → All (From m) (protect_tasks m n)
+pub protects_from : (m n : ℕ) → All (From m) (protect_tasks m n)
 protects_from m n =
     All-map (From m) protect_task (range_with_len m n)
     (λ k d low. let many = length-range_with_len m n in let is = get_or-range_with_len m n k d (omega arith) in omega arith)
@@ -146,7 +147,7 @@ none_sent begin first opened rows whole starts = record {
 
 module _ (begin : Begin) (first now next : View) (m n : ℕ) (sent later : List Answer) (starts : Starts begin sender_bare (sending (each 1)))
     (so_far : SentAll begin first now m sent) (serves : HandlesSegment begin now next (protect_tasks m n) later) (few : m + n ≤ 100000)
-    (wants : list_any tells_want later ≡ false) where
+    (wants : list_any says_no_memory later ≡ false) where
   abbrev both_tasks : List Record
   both_tasks = protect_tasks 0 m ++ protect_tasks m n
 

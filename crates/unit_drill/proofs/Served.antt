@@ -13,14 +13,15 @@ use Rattle.law_workers.specs.Deeds.{deeds_of}
 use Rattle.law_workers.specs.Order.{Handled, Layout, LiesIn}
 use Rattle.law_workers.specs.Began.{BeganWith}
 use Rattle.law_workers.specs.Ends.{EndsSegment}
-use Rattle.unit_drill.specs.Chunks.{HandlesSegment, tells_fault}
+use Rattle.unit_drill.specs.Chunks.{HandlesSegment}
+use Rattle.unit_drill.specs.UnitRun.{says_fault}
 use Rattle.unit_drill.proofs.Tasks.{OnLane, drill_layout, drill_lies}
 
 pub served : (v w : View) (tasks : List Record) (answers : List Answer) (full : Bool) (ahead : ℕ) → All (OnLane ahead) tasks
     → ((begin : Begin) (layout : Layout) (number : ℕ) → BeganWith true begin v.turn.known.opening → LiesIn layout number tasks
     → Handled layout begin v w tasks (deeds_of number tasks answers))
     → ((begin : Begin) → BeganWith true begin v.turn.known.opening → EndsSegment begin v w tasks answers full)
-    → list_any tells_fault answers ≡ false → IsWhole MOST_KEYS w
+    → list_any says_fault answers ≡ false → IsWhole MOST_KEYS w
     → (begin : Begin) → BeganWith true begin v.turn.known.opening
     → HandlesSegment begin v w tasks answers × BeganWith true begin w.turn.known.opening
 served v w tasks answers full ahead lanes handled ends quiet whole begin began = (

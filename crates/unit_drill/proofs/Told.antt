@@ -6,8 +6,7 @@ use Rattle.std.proofs.lemmas.Bool.{and_from, and_left, eq-eqb}
 use Rattle.std.proofs.lemmas.List.Sums.{sum_by-cons}
 use Rattle.record_io.specs.declared.answers.Answer.{Answer}
 use Rattle.record_io.specs.declared.code.TheConstants as codes_of
-use Rattle.unit_drill.specs.Arriving.{count_given}
-use Rattle.unit_drill.specs.Counting.{count_code, gives_field}
+use Rattle.unit_drill.specs.Counting.{count_code, count_given, gives_field}
 use Rattle.unit_drill.specs.Frames.{data_field}
 use Rattle.unit_drill.proofs.OpenedChunks.{bytes_same}
 use Rattle.unit_drill.proofs.SentChunks.{at}

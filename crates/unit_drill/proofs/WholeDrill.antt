@@ -12,7 +12,9 @@ use Rattle.run_promise.specs.Begin.{Begin}
 use Rattle.unit_drill.specs.declared.counts.Counts.{Counts}
 use Rattle.unit_drill.specs.Counting.{count_accepted, count_code, count_fields, no_counts, sum_of}
 use Rattle.unit_drill.specs.Frames.{open_tasks, protect_tasks, replay_tasks}
-use Rattle.unit_drill.specs.Chunks.{AreChunks, IsDrilled, UnitIsOpened, HandlesSegment, all_counts, tells_want}
+use Rattle.unit_drill.specs.Chunks.{AreChunks, HandlesDrill, HandlesSegment, UnitIsOpened}
+use Rattle.unit_drill.specs.Drilled.{all_counts}
+use Rattle.unit_drill.specs.UnitRun.{says_no_memory}
 use Rattle.unit_drill.specs.Plans.{receiver_plan, sender_plan}
 use Rattle.unit_drill.proofs.Read.{receiver_bare, sender_bare}
 use Rattle.unit_drill.proofs.Judging.{receiving}
@@ -47,8 +49,8 @@ module _ (once : OpensOnce) (one other : Begin) (s t0 t v w0 mid w : View) (chun
 
   served_by : (later opened again : List Answer) → HandlesSegment one t0 t (protect_tasks (256 * chunk) n) later
       → HandlesSegment other w0 mid (open_tasks chunk (256 * chunk) later) opened
-      → HandlesSegment other mid w (replay_tasks chunk (256 * chunk) later) again → list_any tells_want later ≡ false → list_any tells_want opened ≡ false
-      → list_any tells_want again ≡ false → more.protected ≡ count_code codes_of.PROTECTED later
+      → HandlesSegment other mid w (replay_tasks chunk (256 * chunk) later) again → list_any says_no_memory later ≡ false → list_any says_no_memory opened ≡ false
+      → list_any says_no_memory again ≡ false → more.protected ≡ count_code codes_of.PROTECTED later
       → more.accepted ≡ count_accepted chunk (open_tasks chunk (256 * chunk) later) opened + count_fields (256 * chunk) again
       → more.rejected ≡ count_code codes_of.NUMBER opened + count_code codes_of.NUMBER again
       → Served one other s t v w (256 * chunk + n) (chunk + 1) (sum_of before more)
@@ -96,7 +98,7 @@ module _ (once : OpensOnce) (one other : Begin) (s t0 t v w0 mid w : View) (chun
 module _ (once : OpensOnce) (one_state : ShowsOne) (one other : Begin) (number : ℕ) (s v : View) (few : number ≤ 100000) (sends : UnitIsOpened sender_plan one s)
     (receives : UnitIsOpened receiver_plan other v) where
   pub chunks_served : (chunks : ℕ) → 256 * chunks < number + 256 → (t w : View) (answers : List Answer) (counts : Counts)
-      → AreChunks one other number s v chunks t w answers counts → list_any tells_want answers ≡ false
+      → AreChunks one other number s v chunks t w answers counts → list_any says_no_memory answers ≡ false
       → Served one other s t v w (min number (256 * chunks)) chunks counts
   chunks_served zero low t w answers counts are wants =
       let none : min number (256 * 0) ≡ 0 = omega arith in
@@ -111,11 +113,11 @@ module _ (once : OpensOnce) (one_state : ShowsOne) (one other : Begin) (number :
       (subst (λ (x : View). Served one other s x v w 0 0 no_counts) (sym are.0) (subst (λ (x : View). Served one other s s v x 0 0 no_counts)
       (sym are.1) served)))
   chunks_served (suc chunks) low t w answers counts (t0, w0, earlier, before, more, prior, chunk, answers_are, counts_are) wants =
-      let split = or_parts (list_any tells_want earlier) (list_any tells_want (chunk.sent ++ (chunk.opened ++ chunk.again)))
-      (sym (list_any-append tells_want earlier (chunk.sent ++ (chunk.opened ++ chunk.again))) ∙ (ap (list_any tells_want) (sym answers_are) ∙ wants)) in
-      let first = or_parts (list_any tells_want chunk.sent) (list_any tells_want (chunk.opened ++ chunk.again))
-      (sym (list_any-append tells_want chunk.sent (chunk.opened ++ chunk.again)) ∙ split.1) in
-      let last = or_parts (list_any tells_want chunk.opened) (list_any tells_want chunk.again) (sym (list_any-append tells_want chunk.opened chunk.again)
+      let split = or_parts (list_any says_no_memory earlier) (list_any says_no_memory (chunk.sent ++ (chunk.opened ++ chunk.again)))
+      (sym (list_any-append says_no_memory earlier (chunk.sent ++ (chunk.opened ++ chunk.again))) ∙ (ap (list_any says_no_memory) (sym answers_are) ∙ wants)) in
+      let first = or_parts (list_any says_no_memory chunk.sent) (list_any says_no_memory (chunk.opened ++ chunk.again))
+      (sym (list_any-append says_no_memory chunk.sent (chunk.opened ++ chunk.again)) ∙ split.1) in
+      let last = or_parts (list_any says_no_memory chunk.opened) (list_any says_no_memory chunk.again) (sym (list_any-append says_no_memory chunk.opened chunk.again)
       ∙ first.1) in
       let so_far = chunks_served chunks (omega arith) t0 w0 earlier before prior split.0 in
       let whole : min number (256 * chunks) ≡ 256 * chunks = omega arith in
@@ -129,8 +131,8 @@ module _ (once : OpensOnce) (one_state : ShowsOne) (one other : Begin) (number :
       (subst (λ (m : ℕ). Served one other s t v w m (suc chunks) (sum_of before more)) frames
       (subst (λ (k : ℕ). Served one other s t v w (256 * chunks + n) k (sum_of before more)) next served))
 
-pub drill_complete : OpensOnce → ShowsOne → (number : ℕ) (answers : List Answer) (counts : Counts) → number ≤ 100000 → IsDrilled number answers counts
-    → list_any tells_want answers ≡ false → counts ≡ all_counts number
+pub drill_complete : OpensOnce → ShowsOne → (number : ℕ) (answers : List Answer) (counts : Counts) → number ≤ 100000 → HandlesDrill number answers counts
+    → list_any says_no_memory answers ≡ false → counts ≡ all_counts number
 drill_complete once one_state number answers counts few is wants =
     let served = chunks_served once one_state is.sender is.receiver number is.s is.v few is.sends is.receives ((number + 255) / 256)
     (omega arith) is.t is.w answers counts is.chunks wants in

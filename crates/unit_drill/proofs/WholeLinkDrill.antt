@@ -10,10 +10,10 @@ use Rattle.record_io.specs.declared.code.TheConstants as codes_of
 use Rattle.counter_table.specs.declared.view.View.{View}
 use Rattle.run_promise.specs.Begin.{Begin}
 use Rattle.unit_drill.specs.declared.link_counts.LinkCounts.{LinkCounts}
-use Rattle.unit_drill.specs.Arriving.{arrived_frames, arrived_tasks, count_given, count_lost, link_sum_of, no_link_counts}
-use Rattle.unit_drill.specs.Counting.{count_code}
+use Rattle.unit_drill.specs.Arriving.{arrived_frames, arrived_tasks, count_lost, link_sum_of, no_link_counts}
+use Rattle.unit_drill.specs.Counting.{count_code, count_given}
 use Rattle.unit_drill.specs.Frames.{protect_tasks}
-use Rattle.unit_drill.specs.Chunks.{HandlesSegment, UnitIsOpened, tells_want}
+use Rattle.unit_drill.specs.Chunks.{HandlesSegment, UnitIsOpened}
 use Rattle.unit_drill.specs.Plans.{receiver_plan, sender_plan}
 use Rattle.unit_drill.proofs.Read.{receiver_bare, sender_bare}
 use Rattle.unit_drill.proofs.Judging.{receiving}
@@ -25,7 +25,9 @@ use Rattle.unit_drill.proofs.Opening.{OpensOnce}
 use Rattle.unit_drill.proofs.Receiving.{AreSent}
 use Rattle.unit_drill.proofs.Reserving.{sending}
 use Rattle.unit_drill.proofs.SentChunks.{SentAll, answered, are_sent, at, blank, none_sent, numbers_in, octets_in, sent_more}
-use Rattle.unit_drill.specs.LinkChunks.{AreAllCounted, AreLinkChunks, IsLinkDrilled, arrived_of, lost_of}
+use Rattle.unit_drill.specs.LinkChunks.{AreLinkChunks, HandlesLinkDrill}
+use Rattle.unit_drill.specs.OverLink.{AreAllCounted, arrived_of, lost_of}
+use Rattle.unit_drill.specs.UnitRun.{says_no_memory}
 use Rattle.unit_drill.proofs.ArrivedFrames.{arrived_all, lost_all}
 use Rattle.unit_drill.proofs.OpenedLinkChunks.{TakenLink, none_taken, taken_chunk, told_all}
 
@@ -41,7 +43,7 @@ module _ (once : OpensOnce) (one other : Begin) (s t0 t v w0 w : View) (chunk n 
     (so_far : LinkServed one other s t0 v w0 (256 * chunk) chunk before) (short : n ≤ 256) (few : 256 * chunk + n ≤ 100000)
     (later opened : List Answer) (protects : HandlesSegment one t0 t (protect_tasks (256 * chunk) n) later)
     (opens : HandlesSegment other w0 w (arrived_tasks (1024 * chunk) (256 * chunk) later (arrived_frames (256 * chunk) later)) opened)
-    (want_later : list_any tells_want later ≡ false) (want_opened : list_any tells_want opened ≡ false)
+    (want_later : list_any says_no_memory later ≡ false) (want_opened : list_any says_no_memory opened ≡ false)
     (protected : more.protected ≡ count_code codes_of.PROTECTED later) (lost : more.lost ≡ count_lost later)
     (accepted : more.accepted ≡ count_given (arrived_frames (256 * chunk) later) opened) (rejected : more.rejected ≡ count_code codes_of.NUMBER opened) where
   abbrev sent : List Answer
@@ -108,7 +110,7 @@ module _ (once : OpensOnce) (one other : Begin) (s t0 t v w0 w : View) (chunk n 
 module _ (once : OpensOnce) (one_state : ShowsOne) (one other : Begin) (number : ℕ) (s v : View) (few : number ≤ 100000) (sends : UnitIsOpened sender_plan one s)
     (receives : UnitIsOpened receiver_plan other v) where
   pub chunks_served : (chunks : ℕ) → 256 * chunks < number + 256 → (t w : View) (answers : List Answer) (counts : LinkCounts)
-      → AreLinkChunks one other number s v chunks t w answers counts → list_any tells_want answers ≡ false
+      → AreLinkChunks one other number s v chunks t w answers counts → list_any says_no_memory answers ≡ false
       → LinkServed one other s t v w (min number (256 * chunks)) chunks counts
   chunks_served zero low t w answers counts are wants =
       let none : min number (256 * 0) ≡ 0 = omega arith in
@@ -123,10 +125,10 @@ module _ (once : OpensOnce) (one_state : ShowsOne) (one other : Begin) (number :
       (subst (λ (x : View). LinkServed one other s x v w 0 0 no_link_counts) (sym are.0)
       (subst (λ (x : View). LinkServed one other s s v x 0 0 no_link_counts) (sym are.1) served)))
   chunks_served (suc chunks) low t w answers counts (t0, w0, earlier, before, more, prior, chunk, answers_are, counts_are) wants =
-      let split = or_parts (list_any tells_want earlier) (list_any tells_want (chunk.sent ++ chunk.opened))
-      (sym (list_any-append tells_want earlier (chunk.sent ++ chunk.opened)) ∙ (ap (list_any tells_want) (sym answers_are) ∙ wants)) in
-      let both = or_parts (list_any tells_want chunk.sent) (list_any tells_want chunk.opened)
-      (sym (list_any-append tells_want chunk.sent chunk.opened) ∙ split.1) in
+      let split = or_parts (list_any says_no_memory earlier) (list_any says_no_memory (chunk.sent ++ chunk.opened))
+      (sym (list_any-append says_no_memory earlier (chunk.sent ++ chunk.opened)) ∙ (ap (list_any says_no_memory) (sym answers_are) ∙ wants)) in
+      let both = or_parts (list_any says_no_memory chunk.sent) (list_any says_no_memory chunk.opened)
+      (sym (list_any-append says_no_memory chunk.sent chunk.opened) ∙ split.1) in
       let so_far = chunks_served chunks (omega arith) t0 w0 earlier before prior split.0 in
       let whole : min number (256 * chunks) ≡ 256 * chunks = omega arith in
       let n : ℕ = min number (256 * (chunks + 1)) - 256 * chunks in
@@ -139,8 +141,8 @@ module _ (once : OpensOnce) (one_state : ShowsOne) (one other : Begin) (number :
       (subst (λ (m : ℕ). LinkServed one other s t v w m (suc chunks) (link_sum_of before more)) frames
       (subst (λ (k : ℕ). LinkServed one other s t v w (256 * chunks + n) k (link_sum_of before more)) next served))
 
-pub link_complete : OpensOnce → ShowsOne → (number : ℕ) (answers : List Answer) (counts : LinkCounts) → number ≤ 100000 → IsLinkDrilled number answers counts
-    → list_any tells_want answers ≡ false → AreAllCounted number counts
+pub link_complete : OpensOnce → ShowsOne → (number : ℕ) (answers : List Answer) (counts : LinkCounts) → number ≤ 100000 → HandlesLinkDrill number answers counts
+    → list_any says_no_memory answers ≡ false → AreAllCounted number counts
 link_complete once one_state number answers counts few is wants =
     let served = chunks_served once one_state is.sender is.receiver number is.s is.v few is.sends is.receives ((number + 255) / 256)
     (omega arith) is.t is.w answers counts is.chunks wants in

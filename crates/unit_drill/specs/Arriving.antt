@@ -12,7 +12,6 @@ use Rattle.record_io.specs.declared.code.TheConstants.{PROTECTED}
 use Rattle.record_io.specs.declared.records.Record.{Record}
 use Rattle.unit_drill.specs.declared.frames.TheConstants.{DRILL_LANES}
 use Rattle.unit_drill.specs.declared.link_counts.LinkCounts.{LinkCounts}
-use Rattle.unit_drill.specs.Counting.{gives_field}
 use Rattle.unit_drill.specs.Frames.{open_task}
 
 -- ---- the link
@@ -55,10 +54,6 @@ abbrev pub count_lost : List Answer → ℕ
 count_lost sent =
     count_by (λ (p : ℕ × Answer). (p.1.code == PROTECTED) && is_lost (fate_of p.0))
     (zip (range_with_len 0 (length sent)) sent)
-
--- the answers that give the data fields of these frames
-abbrev pub count_given : List ℕ → List Answer → ℕ
-count_given numbers answers = count_by (λ (p : ℕ × Answer). gives_field p.0 p.1) (zip numbers answers)
 
 abbrev pub no_link_counts : LinkCounts
 no_link_counts = record { protected = 0; lost = 0; accepted = 0; rejected = 0 }

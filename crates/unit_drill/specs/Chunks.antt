@@ -1,6 +1,5 @@
--- What the two units of a drill were handed, and what is counted of their answers (profile).
-use Rattle.std.specs.Prelude.{◌≡◌, ℕ, zero, suc, ◌+◌, ◌-◌, ◌*◌, ◌/◌, min, ◌==◌, ◌||◌, Bool, true, false, List, [], ◌++◌}
-use Rattle.std.specs.Prelude.{Ok}
+-- What the one worker of each unit of a drill did, by its views: for proofs alone (profile).
+use Rattle.std.specs.Prelude.{◌≡◌, ℕ, zero, suc, ◌+◌, ◌-◌, ◌*◌, min, Bool, true, false, List, [], ◌++◌, Ok}
 use Rattle.std.specs.List.{list_any}
 use Rattle.sdls_base.specs.declared.TheConstants.{MOST_KEYS}
 use Rattle.image_beginning.specs.Beginning.{SaysPlan, image_of_plan}
@@ -12,8 +11,13 @@ use Rattle.unit_plan.specs.Plan.{plan_of}
 use Rattle.unit_plan.specs.PlanLines.{PlanLines}
 use Rattle.unit_state.specs.declared.state.State.{State}
 use Rattle.unit_image.specs.Shows.{Shows}
+use Rattle.counter_table.specs.declared.counters.Counters.{Counters}
+use Rattle.counter_table.specs.declared.counters.Worker.{Worker}
 use Rattle.counter_table.specs.declared.view.View.{View}
+use Rattle.counter_table.specs.Numbers.{ALL_SHARES}
 use Rattle.counter_table.specs.Whole.{IsWhole}
+use Rattle.counter_table.specs.Worker.{view}
+use Rattle.shared_unit.specs.Turn.{IsReady}
 use Rattle.run_promise.specs.Begin.{Begin}
 use Rattle.law_workers.specs.Deeds.{deeds_of}
 use Rattle.law_workers.specs.Order.{Layout, LiesIn, Handled}
@@ -25,8 +29,14 @@ use Rattle.unit_drill.specs.declared.records.TheConstants.{CHUNK}
 use Rattle.unit_drill.specs.Counting.{count_accepted, count_code, count_fields, no_counts, sum_of}
 use Rattle.unit_drill.specs.Frames.{protect_tasks, open_tasks, replay_tasks}
 use Rattle.unit_drill.specs.Plans.{receiver_plan, sender_plan}
+use Rattle.unit_drill.specs.UnitRun.{chunks_of, says_fault}
 
 -- ---- the units
+
+-- the one worker of a unit, with all shares, may make calls on it
+pub record MayServe {B : Type 0} (counters : Counters B) (plan : PlanLines) (worker : Worker B) : Type 0 where
+  pub ready : IsReady counters plan worker
+  pub shares : (view worker).numbers.shares ≡ ALL_SHARES
 
 -- A unit was opened on the image that this plan begins with; its one worker, with all shares, has this view and did
 -- nothing yet: it spent no number, and each word `next` is its key's mark.
@@ -42,13 +52,6 @@ pub record UnitIsOpened (plan : List ℕ) (begin : Begin) (v : View) : Type 0 wh
   pub unspent : v.numbers.spent ≡ []
   pub opened : runs.IsJustOpened begin v
 
--- the answer says that the site of its unit has failed, or that memory ran out
-abbrev pub tells_fault : Answer → Bool
-tells_fault answer = (answer.code == codes_of.SITE_FAULT) || (answer.code == codes_of.STOPPED)
-
-abbrev pub tells_want : Answer → Bool
-tells_want answer = answer.code == codes_of.NO_MEMORY
-
 -- From the one view to the other the unit handled these records as a segment, with these answers: all of them are
 -- answered, or those before one for which its history was full. No answer tells a fault of its site, and the worker
 -- still did all.
@@ -57,7 +60,7 @@ pub record HandlesSegment (begin : Begin) (v w : View) (tasks : List Record) (an
       → Handled layout begin v w tasks (deeds_of number tasks answers)
   pub full : Bool
   pub ends : EndsSegment begin v w tasks answers full
-  pub quiet : list_any tells_fault answers ≡ false
+  pub quiet : list_any says_fault answers ≡ false
   pub whole : IsWhole MOST_KEYS w
 
 -- ---- chunks
@@ -87,7 +90,7 @@ AreChunks sender receiver number s v (suc chunks) t w answers counts =
     × (answers ≡ earlier ++ (chunk.sent ++ (chunk.opened ++ chunk.again))) × (counts ≡ sum_of before more)
 
 -- the counts of a drill: two units were opened, and handled its frames to the last chunk, with these answers
-pub record IsDrilled (number : ℕ) (answers : List Answer) (counts : Counts) : Type 0 where
+pub record HandlesDrill (number : ℕ) (answers : List Answer) (counts : Counts) : Type 0 where
   pub sender : Begin
   pub receiver : Begin
   pub s : View
@@ -96,12 +99,4 @@ pub record IsDrilled (number : ℕ) (answers : List Answer) (counts : Counts) : 
   pub w : View
   pub sends : UnitIsOpened sender_plan sender s
   pub receives : UnitIsOpened receiver_plan receiver v
-  pub chunks : AreChunks sender receiver number s v ((number + (CHUNK - 1)) / CHUNK) t w answers counts
-
--- each frame is protected and accepted, and the first of each chunk rejected the second time
-abbrev pub all_counts : ℕ → Counts
-all_counts number = record { protected = number; accepted = number; rejected = (number + (CHUNK - 1)) / CHUNK }
-
--- where no answer tells lack of memory, all are counted
-abbrev pub IsComplete : ℕ → List Answer → Counts → Type 0
-IsComplete number answers counts = list_any tells_want answers ≡ false → counts ≡ all_counts number
+  pub chunks : AreChunks sender receiver number s v (chunks_of number) t w answers counts

@@ -24,6 +24,10 @@ abbrev pub count_accepted : ℕ → List Record → List Answer → ℕ
 count_accepted ahead tasks answers =
     count_by (λ (p : Record × Answer). gives_field (p.0.index - ahead) p.1) (zip tasks answers)
 
+-- the answers that give the data fields of these frames, each of the frame at its place
+abbrev pub count_given : List ℕ → List Answer → ℕ
+count_given numbers answers = count_by (λ (p : ℕ × Answer). gives_field p.0 p.1) (zip numbers answers)
+
 abbrev pub no_counts : Counts
 no_counts = record { protected = 0; accepted = 0; rejected = 0 }
 

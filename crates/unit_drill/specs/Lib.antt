@@ -3,7 +3,8 @@ pub mod Frames
 pub mod Counting
 pub mod Arriving
 pub mod Line
-pub mod Chunks
-pub mod LinkChunks
+pub mod UnitRun
 pub mod Drilled
 pub mod OverLink
+pub mod Chunks
+pub mod LinkChunks

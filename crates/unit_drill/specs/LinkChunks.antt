@@ -1,8 +1,5 @@
--- What the two units of a drill over a link were handed, and what is counted of their answers (profile).
-use Rattle.std.specs.Prelude.{◌≡◌, ℕ, zero, suc, ◌+◌, ◌-◌, ◌*◌, ◌/◌, ◌%◌, min, if◌then◌else◌, false, List, [], ◌++◌}
-use Rattle.std.specs.List.{list_any}
-use Rattle.link_world.specs.Fate.{fate_of}
-use Rattle.link_world.specs.Chunk.{is_lost, times}
+-- What the one worker of each unit of a drill over a link did, by its views: for proofs alone (profile).
+use Rattle.std.specs.Prelude.{◌≡◌, ℕ, zero, suc, ◌+◌, ◌-◌, ◌*◌, min, List, [], ◌++◌}
 use Rattle.record_io.specs.declared.answers.Answer.{Answer}
 use Rattle.record_io.specs.declared.code.TheConstants as codes_of
 use Rattle.counter_table.specs.declared.view.View.{View}
@@ -10,12 +7,13 @@ use Rattle.run_promise.specs.Begin.{Begin}
 use Rattle.unit_drill.specs.declared.arriving.TheConstants.{CHUNK_PLACES}
 use Rattle.unit_drill.specs.declared.link_counts.LinkCounts.{LinkCounts}
 use Rattle.unit_drill.specs.declared.records.TheConstants.{CHUNK}
-use Rattle.unit_drill.specs.Arriving.{arrived_frames, arrived_tasks, count_given, count_lost}
+use Rattle.unit_drill.specs.Arriving.{arrived_frames, arrived_tasks, count_lost}
 use Rattle.unit_drill.specs.Arriving.{link_sum_of, no_link_counts}
-use Rattle.unit_drill.specs.Counting.{count_code}
+use Rattle.unit_drill.specs.Counting.{count_code, count_given}
 use Rattle.unit_drill.specs.Frames.{protect_tasks}
-use Rattle.unit_drill.specs.Chunks.{HandlesSegment, UnitIsOpened, tells_want}
+use Rattle.unit_drill.specs.Chunks.{HandlesSegment, UnitIsOpened}
 use Rattle.unit_drill.specs.Plans.{receiver_plan, sender_plan}
+use Rattle.unit_drill.specs.UnitRun.{chunks_of}
 
 -- ---- chunks
 
@@ -44,7 +42,7 @@ AreLinkChunks sender receiver number s v (suc chunks) t w answers counts =
 
 -- the counts of a drill over a link: two units were opened, and handled its frames to the last chunk, with these
 -- answers
-pub record IsLinkDrilled (number : ℕ) (answers : List Answer) (counts : LinkCounts) : Type 0 where
+pub record HandlesLinkDrill (number : ℕ) (answers : List Answer) (counts : LinkCounts) : Type 0 where
   pub sender : Begin
   pub receiver : Begin
   pub s : View
@@ -53,26 +51,4 @@ pub record IsLinkDrilled (number : ℕ) (answers : List Answer) (counts : LinkCo
   pub w : View
   pub sends : UnitIsOpened sender_plan sender s
   pub receives : UnitIsOpened receiver_plan receiver v
-  pub chunks : AreLinkChunks sender receiver number s v ((number + (CHUNK - 1)) / CHUNK) t w answers counts
-
--- ---- all frames
-
--- of the first frames of a drill, so many, those that the link loses
-abbrev pub lost_of : ℕ → ℕ
-lost_of zero = 0
-lost_of (suc frame) = lost_of frame + (if is_lost (fate_of (frame % CHUNK)) then 1 else 0)
-
--- how often they arrive
-abbrev pub arrived_of : ℕ → ℕ
-arrived_of zero = 0
-arrived_of (suc frame) = arrived_of frame + times (fate_of (frame % CHUNK))
-
--- Each frame is protected, those that the link loses are lost, and each that arrives is accepted or rejected.
-pub record AreAllCounted (number : ℕ) (counts : LinkCounts) : Type 0 where
-  pub protected : counts.protected ≡ number
-  pub lost : counts.lost ≡ lost_of number
-  pub told : counts.accepted + counts.rejected ≡ arrived_of number
-
--- if no answer says that memory ran out, all are counted
-abbrev pub IsLinkComplete : ℕ → List Answer → LinkCounts → Type 0
-IsLinkComplete number answers counts = list_any tells_want answers ≡ false → AreAllCounted number counts
+  pub chunks : AreLinkChunks sender receiver number s v (chunks_of number) t w answers counts

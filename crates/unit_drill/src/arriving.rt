@@ -5,13 +5,11 @@ ghost use Rattle.unit_drill.specs.Arriving.{
   arrived_task,
   arrived_tasks,
   chunk_events,
-  count_given,
   count_lost,
   octets_in,
   releases,
 };
 
-use crate::counting::gives_field;
 use crate::frames::DRILL_LANES;
 use crate::records::{CHUNK, open_task};
 use link_world::{LinkEvent, add_deliveries, is_lost, link_run};
@@ -127,18 +125,5 @@ pub(crate) fn count_lost(sent: &[Answer]) -> usize
     (0..sent.len() as u32)
         .zip(sent.iter())
         .filter(|(k, answer)| answer.code == PROTECTED && is_lost(*k))
-        .count()
-}
-
-/// How many of these frames were accepted, each with its own data field.
-#[tactic(auto, using(crate::proofs::Arrivals::few_given))]
-pub(crate) fn count_given(numbers: &[u64], answers: &[Answer]) -> usize
-    ensures count { result ≡ count_given numbers.now answers.now }
-    ensures few { result ≤ length answers.now }
-{
-    numbers
-        .iter()
-        .zip(answers.iter())
-        .filter(|(number, answer)| gives_field(answer, **number))
         .count()
 }

@@ -3,8 +3,7 @@ ghost use Rattle.std.specs.Prelude.{◌≡◌, ◌*◌, ◌+◌, ◌≤◌, true
 ghost use Rattle.counter_table.specs.Worker.{view};
 ghost use Rattle.run_promise.specs.Begin.{Begin};
 ghost use Rattle.law_workers.specs.Began.{BeganWith};
-ghost use Rattle.unit_drill.specs.Chunks.{IsChunk};
-ghost use Rattle.unit_drill.specs.Drilled.{MayServe};
+ghost use Rattle.unit_drill.specs.Chunks.{IsChunk, MayServe};
 
 use crate::counting::{count_accepted, count_code, count_fields};
 use crate::counts::Counts;

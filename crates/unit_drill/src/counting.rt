@@ -1,6 +1,6 @@
 //! What is counted of answers.
 ghost use Rattle.std.specs.Prelude.{◌≡◌, ◌≤◌, length};
-ghost use Rattle.unit_drill.specs.Counting.{count_accepted, count_code, count_fields, gives_field};
+ghost use Rattle.unit_drill.specs.Counting.{count_accepted, count_code, count_fields, count_given, gives_field};
 
 use crate::frames::data_field;
 use record_io::code::ACCEPTED;
@@ -17,7 +17,7 @@ pub(crate) fn count_code(answers: &[Answer], code: u8) -> usize
 }
 
 /// Whether the frame is accepted, and its data field is that with which the frame of this number was made.
-pub(crate) fn gives_field(answer: &Answer, number: u64) -> bool
+fn gives_field(answer: &Answer, number: u64) -> bool
     ensures { result ≡ gives_field number answer.now }
 {
     answer.code == ACCEPTED && same_octets(answer.body.as_slice(), &data_field(number))
@@ -45,5 +45,18 @@ pub(crate) fn count_accepted(tasks: &[Record], answers: &[Answer], ahead: u64) -
         .iter()
         .zip(answers.iter())
         .filter(|(task, answer)| gives_field(answer, task.index.saturating_sub(ahead)))
+        .count()
+}
+
+/// How many of these frames were accepted, each with its own data field.
+#[tactic(auto, using(crate::proofs::Counted::few_given))]
+pub(crate) fn count_given(numbers: &[u64], answers: &[Answer]) -> usize
+    ensures count { result ≡ count_given numbers.now answers.now }
+    ensures few { result ≤ length answers.now }
+{
+    numbers
+        .iter()
+        .zip(answers.iter())
+        .filter(|(number, answer)| gives_field(answer, **number))
         .count()
 }

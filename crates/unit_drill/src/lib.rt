@@ -2,8 +2,9 @@
 //! numbers alone. In chunks of 256 they are protected, opened, and the first of each opened again; one line has the
 //! counts of the answers.
 //!
-//! [`drill`] is the call. Read `specs/Chunks.antt` first: what the units were handed, and what is counted of their
-//! answers. With [`drill_link`] the frames go over a link that loses, repeats and delays them (crate `link_world`).
+//! [`drill`] is the call. Read `specs/UnitRun.antt` and `specs/Drilled.antt` first: with which records the two units
+//! ran, and what is counted of their answers. With [`drill_link`] the frames go over a link that loses, repeats and
+//! delays them (crate `link_world`).
 #![tactic(auto)]
 
 mod arriving;
@@ -22,7 +23,9 @@ mod running;
 mod unit;
 
 pub use counts::Counts;
-pub use laws::{drill_is_complete, link_drill_is_complete, plans_are_read};
+pub use laws::{
+    drill_is_complete, drill_is_sound, link_drill_is_complete, link_drill_is_sound, plans_are_read,
+};
 pub use link_counts::LinkCounts;
 pub use linking::drill_link;
 pub use running::drill;

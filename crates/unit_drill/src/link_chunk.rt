@@ -3,12 +3,12 @@ ghost use Rattle.std.specs.Prelude.{◌≡◌, ◌*◌, ◌+◌, ◌≤◌, true
 ghost use Rattle.counter_table.specs.Worker.{view};
 ghost use Rattle.run_promise.specs.Begin.{Begin};
 ghost use Rattle.law_workers.specs.Began.{BeganWith};
+ghost use Rattle.unit_drill.specs.Chunks.{MayServe};
 ghost use Rattle.unit_drill.specs.LinkChunks.{IsLinkChunk};
-ghost use Rattle.unit_drill.specs.Drilled.{MayServe};
 
-use crate::arriving::{CHUNK_PLACES, arrived_frames, arrived_tasks, count_given, count_lost};
+use crate::arriving::{CHUNK_PLACES, arrived_frames, arrived_tasks, count_lost};
 use crate::chunk::Pair;
-use crate::counting::count_code;
+use crate::counting::{count_code, count_given};
 use crate::link_counts::LinkCounts;
 use crate::records::{CHUNK, protect_tasks};
 use frame_workers::Gate;

@@ -4,12 +4,12 @@ ghost use Rattle.sdls_outside.specs.Faults.{Rose};
 ghost use Rattle.record_io.specs.declared.answers.Answer.{Answer};
 ghost use Rattle.unit_drill.specs.declared.link_counts.LinkCounts.{LinkCounts};
 ghost use Rattle.unit_drill.specs.Line.{link_text};
-ghost use Rattle.unit_drill.specs.LinkChunks.{IsLinkDrilled};
-ghost use Rattle.unit_drill.specs.OverLink.{AreLinkCounts, EndsLinkDrill};
+ghost use Rattle.unit_drill.specs.LinkChunks.{HandlesLinkDrill};
+ghost use Rattle.unit_drill.specs.OverLink.{EndsLinkDrill, IsLinkDrilled};
 
 use crate::chunk::Pair;
 use crate::image::{receiver_plan, sender_plan};
-use crate::laws::link_drill_is_complete;
+use crate::laws::link_drill_is_sound;
 use crate::line::link_line;
 use crate::link_counts::LinkCounts;
 use crate::records::CHUNK;
@@ -33,7 +33,7 @@ fn link_counts_of<R: Threads + Wait + Sync, G: Gate + Sync>(
     gate: &G,
 ) -> Result<LinkCounts, NoMemory>
     requires { number ≤ MOST_FRAMES }
-    ensures { IfOk result (λ counts. (answers : List Answer) × IsLinkDrilled number answers counts) }
+    ensures { IfOk result (λ counts. (answers : List Answer) × HandlesLinkDrill number answers counts) }
 {
     let mut pair = Pair {
         sender: DrillUnit::open(rt, alloc, sender_plan())?,
@@ -56,12 +56,12 @@ fn link_line_of<R: Threads + Wait + Sync, G: Gate + Sync>(
     gate: &G,
 ) -> Result<Vec<u8>, NoMemory>
     requires { number ≤ MOST_FRAMES }
-    ensures { IfOk result (λ line. (counts : LinkCounts) × AreLinkCounts number counts
+    ensures { IfOk result (λ line. (counts : LinkCounts) × IsLinkDrilled number counts
         × (line.items ≡ link_text number counts)) }
 {
     let counts = link_counts_of(rt, alloc, number, gate)?;
-    // For contracts alone: if no answer says that memory ran out, all frames are counted.
-    link_drill_is_complete();
+    // For contracts alone: what the units' workers did were two sound runs.
+    link_drill_is_sound();
     link_line(alloc, number, counts)
 }
 

@@ -5,13 +5,13 @@ ghost use Rattle.record_io.specs.Outcome.{Ends, line};
 ghost use Rattle.unit_drill.specs.declared.counts.Counts.{Counts};
 ghost use Rattle.unit_drill.specs.Line.{drill_text};
 ghost use Rattle.record_io.specs.declared.answers.Answer.{Answer};
-ghost use Rattle.unit_drill.specs.Chunks.{IsDrilled};
-ghost use Rattle.unit_drill.specs.Drilled.{AreCounts, EndsDrill};
+ghost use Rattle.unit_drill.specs.Chunks.{HandlesDrill};
+ghost use Rattle.unit_drill.specs.Drilled.{EndsDrill, IsDrilled};
 
 use crate::chunk::Pair;
 use crate::counts::Counts;
 use crate::image::{receiver_plan, sender_plan};
-use crate::laws::drill_is_complete;
+use crate::laws::drill_is_sound;
 use crate::line::drill_line;
 use crate::records::CHUNK;
 use crate::unit::DrillUnit;
@@ -41,7 +41,7 @@ fn counts_of<R: Threads + Wait + Sync, G: Gate + Sync>(
     gate: &G,
 ) -> Result<Counts, NoMemory>
     requires { number ≤ MOST_FRAMES }
-    ensures { IfOk result (λ counts. (answers : List Answer) × IsDrilled number answers counts) }
+    ensures { IfOk result (λ counts. (answers : List Answer) × HandlesDrill number answers counts) }
 {
     let mut pair = Pair {
         sender: DrillUnit::open(rt, alloc, sender_plan())?,
@@ -64,12 +64,12 @@ fn line_of<R: Threads + Wait + Sync, G: Gate + Sync>(
     gate: &G,
 ) -> Result<Vec<u8>, NoMemory>
     requires { number ≤ MOST_FRAMES }
-    ensures { IfOk result (λ line. (counts : Counts) × AreCounts number counts
+    ensures { IfOk result (λ line. (counts : Counts) × IsDrilled number counts
         × (line.items ≡ drill_text number counts)) }
 {
     let counts = counts_of(rt, alloc, number, gate)?;
-    // For contracts alone: where no answer told lack of memory, all frames are counted.
-    drill_is_complete();
+    // For contracts alone: what the units' workers did were two sound runs.
+    drill_is_sound();
     drill_line(alloc, number, counts)
 }
 

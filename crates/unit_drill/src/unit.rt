@@ -6,8 +6,8 @@ ghost use Rattle.record_io.specs.declared.records.Record.{Record};
 ghost use Rattle.run_promise.specs.Begin.{Begin};
 ghost use Rattle.law_workers.specs.Deeds.{Ascend};
 ghost use Rattle.law_workers.specs.Began.{BeganWith};
-ghost use Rattle.unit_drill.specs.Chunks.{UnitIsOpened, HandlesSegment, tells_fault};
-ghost use Rattle.unit_drill.specs.Drilled.{MayServe};
+ghost use Rattle.unit_drill.specs.Chunks.{HandlesSegment, MayServe, UnitIsOpened};
+ghost use Rattle.unit_drill.specs.UnitRun.{says_fault};
 
 use crate::image::site_of;
 use frame_workers::{Gate, run_segment};
@@ -33,16 +33,16 @@ impl Drop for DrillUnit {
 }
 
 /// Whether the answer says that the unit's site has failed.
-fn tells_fault(answer: &Answer) -> bool
-    ensures { result ≡ tells_fault answer.now }
+fn says_fault(answer: &Answer) -> bool
+    ensures { result ≡ says_fault answer.now }
 {
     answer.code == SITE_FAULT || answer.code == STOPPED
 }
 
 fn has_fault(answers: &[Answer]) -> bool
-    ensures { result ≡ list_any tells_fault answers.now }
+    ensures { result ≡ list_any says_fault answers.now }
 {
-    answers.iter().any(|answer| tells_fault(answer))
+    answers.iter().any(|answer| says_fault(answer))
 }
 
 impl DrillUnit {

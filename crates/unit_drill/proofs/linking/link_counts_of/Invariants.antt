@@ -3,8 +3,8 @@ use Rattle.record_io.specs.declared.answers.Answer.{Answer}
 use Rattle.counter_table.specs.Worker.{view}
 use Rattle.run_promise.specs.Begin.{Begin}
 use Rattle.law_workers.specs.Began.{BeganWith}
+use Rattle.unit_drill.specs.Chunks.{MayServe}
 use Rattle.unit_drill.specs.LinkChunks.{AreLinkChunks}
-use Rattle.unit_drill.specs.Drilled.{MayServe}
 use Rattle.unit_drill.proofs.linking.link_counts_of.Given as goal
 
 abbrev pub invariant-loop-chunk : goal.invariant-loop-chunk

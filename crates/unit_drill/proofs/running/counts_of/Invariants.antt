@@ -3,8 +3,7 @@ use Rattle.record_io.specs.declared.answers.Answer.{Answer}
 use Rattle.counter_table.specs.Worker.{view}
 use Rattle.run_promise.specs.Begin.{Begin}
 use Rattle.law_workers.specs.Began.{BeganWith}
-use Rattle.unit_drill.specs.Chunks.{AreChunks}
-use Rattle.unit_drill.specs.Drilled.{MayServe}
+use Rattle.unit_drill.specs.Chunks.{AreChunks, MayServe}
 use Rattle.unit_drill.proofs.running.counts_of.Given as goal
 
 abbrev pub invariant-loop-chunk : goal.invariant-loop-chunk

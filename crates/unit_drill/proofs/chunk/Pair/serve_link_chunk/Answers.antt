@@ -4,8 +4,8 @@ use Rattle.record_io.specs.declared.answers.Answer.{Answer}
 use Rattle.record_io.specs.declared.records.Record.{Record}
 use Rattle.counter_table.specs.Worker.{view}
 use Rattle.law_workers.specs.Deeds.{Ascend}
-use Rattle.unit_drill.specs.Arriving.{arrived_frames, arrived_tasks, count_given, count_lost}
-use Rattle.unit_drill.specs.Counting.{count_code}
+use Rattle.unit_drill.specs.Arriving.{arrived_frames, arrived_tasks, count_lost}
+use Rattle.unit_drill.specs.Counting.{count_code, count_given}
 use Rattle.unit_drill.specs.Chunks.{HandlesSegment}
 use Rattle.unit_drill.proofs.Tasks.{IsPlain, OnLane, protect_ascends, protect_lanes, protect_plain}
 use Rattle.unit_drill.proofs.ArrivedRecords.{arrived_ascends, arrived_lanes, arrived_plain}

@@ -1,7 +1,7 @@
 use Rattle.std.proofs.Common.{◌≡◌, false, length, ap, arith}
 use Rattle.std.specs.List.{list_any}
 use Rattle.counter_table.specs.Worker.{view}
-use Rattle.unit_drill.specs.Chunks.{tells_fault}
+use Rattle.unit_drill.specs.UnitRun.{says_fault}
 use Rattle.unit_drill.proofs.Served.{few_answers, served}
 use Rattle.unit_drill.proofs.unit.DrillUnit.serve.Goals as goal
 
@@ -9,7 +9,7 @@ pub returns-clause-serves : goal.returns-clause-serves
 returns-clause-serves g c =
     let same = c.deref.ensures.value in
     let test = c.if-has_fault.ensures in
-    let quiet : list_any tells_fault c.in_ok-segment.segment.answers.items ≡ false = cc in
+    let quiet : list_any says_fault c.in_ok-segment.segment.answers.items ≡ false = cc in
     served (view c.args.self.now.worker) (view c.run_segment.new.worker) c.args.records.now c.in_ok-segment.segment.answers.items
     c.in_ok-segment.segment.full c.requires.lanes.0 c.requires.lanes.1 c.in_ok-segment.ensures.handled c.in_ok-segment.ensures.full quiet
     (c.in_ok-segment.ensures.whole c.requires.may.shares)
