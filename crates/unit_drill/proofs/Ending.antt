@@ -3,7 +3,6 @@ use Rattle.std.proofs.Common.{◌≡◌, ℕ, Bool, List, Result, Ok, Err, IfOk,
 use Rattle.sdls_outside.specs.Moments.{Trace}
 use Rattle.record_io.specs.Outcome.{Ends, line}
 use Rattle.unit_drill.specs.declared.counts.Counts.{Counts}
-use Rattle.unit_drill.specs.declared.link_counts.LinkCounts.{LinkCounts}
 use Rattle.unit_drill.specs.Line.{drill_text, link_text}
 use Rattle.unit_drill.specs.Drilled.{EndsDrill, IsDrilled}
 use Rattle.unit_drill.specs.OverLink.{EndsLinkDrill, IsLinkDrilled}
@@ -16,7 +15,7 @@ module _ {T E : Type 0} (items : T → List ℕ) (number : ℕ) (told : Bool) (o
   ends_drill (Err fault) is written wanting = (line (codes "no memory"), 6, inr (refl, refl), wanting)
 
   pub ends_link_drill : (made : Result T E)
-      → IfOk made (λ text. (counts : LinkCounts) × IsLinkDrilled number counts × (items text ≡ link_text number counts))
+      → IfOk made (λ text. (counts : Counts) × IsLinkDrilled number counts × (items text ≡ link_text number counts))
       → IfOk made (λ text. Ends told old new rose (items text) 0 status)
       → IfErr made (λ fault. Ends told old new rose (line (codes "no memory")) 6 status) → EndsLinkDrill number told old new rose status
   ends_link_drill (Ok text) is written wanting = (items text, 0, inl (is.0, is.1, is.2, refl), written)

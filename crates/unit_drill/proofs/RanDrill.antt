@@ -65,6 +65,7 @@ pub record RanChunks (one other : Begin) (s t v w : View) (frames chunks : ℕ) 
   pub as_many : length received ≡ length (of_chunks opened_frames chunks sent)
   pub few : length received ≤ 257 * chunks
   pub protected : counts.protected ≡ count_code codes_of.PROTECTED sent
+  pub lost : counts.lost ≡ 0
   pub accepted : counts.accepted ≡ count_given (of_chunks opened_frames chunks sent) received
   pub rejected : counts.rejected ≡ count_code codes_of.NUMBER received
   pub wants : list_any says_no_memory (sent ++ received) ≡ false → list_any says_no_memory answers ≡ false
@@ -78,6 +79,7 @@ none_chunks one other s v sends receives = record {
   as_many = refl;
   few = omega arith;
   protected = refl;
+  lost = refl;
   accepted = refl;
   rejected = refl;
   wants = λ none. refl;
@@ -89,7 +91,7 @@ module _ (one other : Begin) (s t0 t v w0 mid w : View) (chunk n : ℕ) (earlier
     (protects : HandlesSegment one t0 t (protect_tasks (256 * chunk) n) later)
     (opens : HandlesSegment other w0 mid (open_tasks chunk (256 * chunk) later) opened)
     (replays : HandlesSegment other mid w (replay_tasks chunk (256 * chunk) later) again)
-    (protected : more.protected ≡ count_code codes_of.PROTECTED later)
+    (protected : more.protected ≡ count_code codes_of.PROTECTED later) (lost : more.lost ≡ 0)
     (accepted : more.accepted ≡ count_accepted chunk (open_tasks chunk (256 * chunk) later) opened + count_fields (256 * chunk) again)
     (rejected : more.rejected ≡ count_code codes_of.NUMBER opened + count_code codes_of.NUMBER again) where
   abbrev sent : List Answer
@@ -270,6 +272,7 @@ module _ (one other : Begin) (s t0 t v w0 mid w : View) (chunk n : ℕ) (earlier
         let h = replays_few.few in
         let many = many_later in omega arith);
     protected = sym all_protected;
+    lost = (let old = so_far.lost in let new = lost in omega arith);
     accepted = sym all_accepted;
     rejected = sym all_rejected;
     wants = all_wants;
@@ -296,7 +299,7 @@ module _ (one other : Begin) (number : ℕ) (s v : View) (few : number ≤ 10000
       let frames : 256 * chunks + n ≡ min number (256 * suc chunks) = omega arith in
       let ran = chunk_more one other s t0 t v w0 chunk.mid w chunks n earlier before more (founded_so sender_plan one s sends) (founded_so receiver_plan other v receives)
       (subst (λ (m : ℕ). RanChunks one other s t0 v w0 m chunks earlier before) whole so_far) (omega arith) (omega arith)
-      chunk.sent chunk.opened chunk.again chunk.protects chunk.opens chunk.replays chunk.protected chunk.accepted chunk.rejected in
+      chunk.sent chunk.opened chunk.again chunk.protects chunk.opens chunk.replays chunk.protected chunk.lost chunk.accepted chunk.rejected in
       subst (λ (c : Counts). RanChunks one other s t v w (min number (256 * suc chunks)) (suc chunks) answers c) (sym counts_are)
       (subst (λ (given : List Answer). RanChunks one other s t v w (min number (256 * suc chunks)) (suc chunks) given (sum_of before more)) (sym answers_are)
       (subst (λ (m : ℕ). RanChunks one other s t v w m (suc chunks) (earlier ++ (chunk.sent ++ (chunk.opened ++ chunk.again))) (sum_of before more)) frames ran))
@@ -315,6 +318,7 @@ drill_sound number answers counts few is complete =
       receives = runs_soundly receiver_plan is.receiver is.v is.w (257 * ((number + 255) / 256)) (of_chunks opened_places ((number + 255) / 256) ran.sent) ran.received
           is.receives ran.receives;
       protected = ran.protected;
+      lost = ran.lost;
       accepted = ran.accepted;
       rejected = ran.rejected;
       complete = λ none. complete (ran.wants none);

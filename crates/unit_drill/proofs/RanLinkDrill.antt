@@ -10,10 +10,10 @@ use Rattle.record_io.specs.declared.code.TheConstants as codes_of
 use Rattle.record_io.specs.declared.records.Record.{Record}
 use Rattle.record_io.specs.Places.{Place}
 use Rattle.run_promise.specs.Begin.{Begin}
-use Rattle.unit_drill.specs.declared.link_counts.LinkCounts.{LinkCounts}
-use Rattle.unit_drill.specs.Arriving.{arrived_frames, arrived_tasks, count_lost, link_sum_of, no_link_counts}
+use Rattle.unit_drill.specs.declared.counts.Counts.{Counts}
+use Rattle.unit_drill.specs.Arriving.{arrived_frames, arrived_tasks, count_lost}
 use Rattle.unit_drill.specs.Chunks.{HandlesSegment, UnitIsOpened}
-use Rattle.unit_drill.specs.Counting.{count_code, count_given}
+use Rattle.unit_drill.specs.Counting.{count_code, count_given, no_counts, sum_of}
 use Rattle.unit_drill.specs.Frames.{protect_tasks}
 use Rattle.unit_drill.specs.LinkChunks.{AreLinkChunks, HandlesLinkDrill}
 use Rattle.unit_drill.specs.OverLink.{IsLinkComplete, IsLinkDrilled, arrived_places, frames_arrived, lost_count}
@@ -31,7 +31,7 @@ sum_more xs n =
     let one = sum_by-cons (λ (x : ℕ). x) n [] in omega arith
 
 -- the first chunks are two runs, with these counts
-pub record RanLinkChunks (one other : Begin) (s t v w : View) (frames chunks : ℕ) (answers : List Answer) (counts : LinkCounts) : Type 0 where
+pub record RanLinkChunks (one other : Begin) (s t v w : View) (frames chunks : ℕ) (answers : List Answer) (counts : Counts) : Type 0 where
   pub sent : List Answer
   pub received : List Answer
   pub sends : RanSoFar one s t frames (sent_places frames) sent
@@ -44,7 +44,7 @@ pub record RanLinkChunks (one other : Begin) (s t v w : View) (frames chunks : �
   pub rejected : counts.rejected ≡ count_code codes_of.NUMBER received
   pub wants : list_any says_no_memory (sent ++ received) ≡ false → list_any says_no_memory answers ≡ false
 
-none_chunks : (one other : Begin) (s v : View) → RanSoFar one s s 0 [] [] → RanSoFar other v v 0 [] [] → RanLinkChunks one other s s v v 0 0 [] no_link_counts
+none_chunks : (one other : Begin) (s v : View) → RanSoFar one s s 0 [] [] → RanSoFar other v v 0 [] [] → RanLinkChunks one other s s v v 0 0 [] no_counts
 none_chunks one other s v sends receives = record {
   sent = [];
   received = [];
@@ -60,7 +60,7 @@ none_chunks one other s v sends receives = record {
 }
 
 -- a chunk more
-module _ (one other : Begin) (s t0 t v w0 w : View) (chunk n : ℕ) (earlier : List Answer) (before more : LinkCounts)
+module _ (one other : Begin) (s t0 t v w0 w : View) (chunk n : ℕ) (earlier : List Answer) (before more : Counts)
     (founded : IsFounded one s) (other_founded : IsFounded other v) (so_far : RanLinkChunks one other s t0 v w0 (256 * chunk) chunk earlier before)
     (small : n ≤ 256) (few : 256 * chunk + n ≤ 100000) (later opened : List Answer)
     (protects : HandlesSegment one t0 t (protect_tasks (256 * chunk) n) later)
@@ -156,7 +156,7 @@ module _ (one other : Begin) (s t0 t v w0 w : View) (chunk n : ℕ) (earlier : L
       let second = parts_want received opened units.1 in
       both_want earlier (later ++ opened) (so_far.wants (both_want sent received first.0 second.0)) (both_want later opened first.1 second.1)
 
-  chunk_more : RanLinkChunks one other s t v w (256 * chunk + n) (suc chunk) (earlier ++ (later ++ opened)) (link_sum_of before more)
+  chunk_more : RanLinkChunks one other s t v w (256 * chunk + n) (suc chunk) (earlier ++ (later ++ opened)) (sum_of before more)
   chunk_more = record {
     sent = sent ++ later;
     received = received ++ opened;
@@ -183,16 +183,16 @@ module _ (one other : Begin) (s t0 t v w0 w : View) (chunk n : ℕ) (earlier : L
 -- the whole drill
 module _ (one other : Begin) (number : ℕ) (s v : View) (few : number ≤ 100000) (sends : UnitIsOpened sender_plan one s)
     (receives : UnitIsOpened receiver_plan other v) where
-  chunks_ran : (chunks : ℕ) → 256 * chunks < number + 256 → (t w : View) (answers : List Answer) (counts : LinkCounts)
+  chunks_ran : (chunks : ℕ) → 256 * chunks < number + 256 → (t w : View) (answers : List Answer) (counts : Counts)
       → AreLinkChunks one other number s v chunks t w answers counts → RanLinkChunks one other s t v w (min number (256 * chunks)) chunks answers counts
   chunks_ran zero low t w answers counts are =
       let none : min number (256 * 0) ≡ 0 = omega arith in
       let ran = none_chunks one other s v (none_ran one s sends.opened sends.whole) (none_ran other v receives.opened receives.whole) in
       subst (λ (m : ℕ). RanLinkChunks one other s t v w m 0 answers counts) (sym none)
-      (subst (λ (c : LinkCounts). RanLinkChunks one other s t v w 0 0 answers c) (sym are.3)
-      (subst (λ (given : List Answer). RanLinkChunks one other s t v w 0 0 given no_link_counts) (sym are.2)
-      (subst (λ (x : View). RanLinkChunks one other s x v w 0 0 [] no_link_counts) (sym are.0)
-      (subst (λ (x : View). RanLinkChunks one other s s v x 0 0 [] no_link_counts) (sym are.1) ran))))
+      (subst (λ (c : Counts). RanLinkChunks one other s t v w 0 0 answers c) (sym are.3)
+      (subst (λ (given : List Answer). RanLinkChunks one other s t v w 0 0 given no_counts) (sym are.2)
+      (subst (λ (x : View). RanLinkChunks one other s x v w 0 0 [] no_counts) (sym are.0)
+      (subst (λ (x : View). RanLinkChunks one other s s v x 0 0 [] no_counts) (sym are.1) ran))))
   chunks_ran (suc chunks) low t w answers counts (t0, w0, earlier, before, more, prior, chunk, answers_are, counts_are) =
       let so_far = chunks_ran chunks (omega arith) t0 w0 earlier before prior in
       let whole : min number (256 * chunks) ≡ 256 * chunks = omega arith in
@@ -201,11 +201,11 @@ module _ (one other : Begin) (number : ℕ) (s v : View) (few : number ≤ 10000
       let ran = chunk_more one other s t0 t v w0 w chunks n earlier before more (founded_so sender_plan one s sends) (founded_so receiver_plan other v receives)
       (subst (λ (m : ℕ). RanLinkChunks one other s t0 v w0 m chunks earlier before) whole so_far) (omega arith) (omega arith)
       chunk.sent chunk.opened chunk.protects chunk.opens chunk.protected chunk.lost chunk.accepted chunk.rejected in
-      subst (λ (c : LinkCounts). RanLinkChunks one other s t v w (min number (256 * suc chunks)) (suc chunks) answers c) (sym counts_are)
-      (subst (λ (given : List Answer). RanLinkChunks one other s t v w (min number (256 * suc chunks)) (suc chunks) given (link_sum_of before more)) (sym answers_are)
-      (subst (λ (m : ℕ). RanLinkChunks one other s t v w m (suc chunks) (earlier ++ (chunk.sent ++ chunk.opened)) (link_sum_of before more)) frames ran))
+      subst (λ (c : Counts). RanLinkChunks one other s t v w (min number (256 * suc chunks)) (suc chunks) answers c) (sym counts_are)
+      (subst (λ (given : List Answer). RanLinkChunks one other s t v w (min number (256 * suc chunks)) (suc chunks) given (sum_of before more)) (sym answers_are)
+      (subst (λ (m : ℕ). RanLinkChunks one other s t v w m (suc chunks) (earlier ++ (chunk.sent ++ chunk.opened)) (sum_of before more)) frames ran))
 
-pub link_sound : (number : ℕ) (answers : List Answer) (counts : LinkCounts) → number ≤ 100000 → HandlesLinkDrill number answers counts
+pub link_sound : (number : ℕ) (answers : List Answer) (counts : Counts) → number ≤ 100000 → HandlesLinkDrill number answers counts
     → IsLinkComplete number answers counts → IsLinkDrilled number counts
 link_sound number answers counts few is complete =
     let all : min number (256 * ((number + 255) / 256)) ≡ number = omega arith in

@@ -27,19 +27,20 @@ use Rattle.unit_drill.proofs.Receiving.{AreSent}
 use Rattle.unit_drill.proofs.Reserving.{sending}
 use Rattle.unit_drill.proofs.SentChunks.{SentAll, answered, are_sent, at, blank, none_sent, numbers_in, octets_in, sent_more}
 
+abbrev pub these : ℕ → ℕ → ℕ → ℕ → Counts
+these protected lost accepted rejected = record { protected = protected; lost = lost; accepted = accepted; rejected = rejected }
+
+same_counts : (a b : Counts) → a.protected ≡ b.protected → a.lost ≡ b.lost → a.accepted ≡ b.accepted → a.rejected ≡ b.rejected → a ≡ b
+same_counts a b p l q r =
+    ap (λ (n : ℕ). these n a.lost a.accepted a.rejected) p ∙ (ap (λ (n : ℕ). these b.protected n a.accepted a.rejected) l
+    ∙ (ap (λ (n : ℕ). these b.protected b.lost n a.rejected) q ∙ ap (these b.protected b.lost b.accepted) r))
+
 -- the first chunks: so many frames, all of them protected and accepted
 pub record Served (one other : Begin) (s t v w : View) (frames chunks : ℕ) (counts : Counts) : Type 0 where
   pub sent : List Answer
   pub sent_all : SentAll one s t frames sent
   pub taken_all : TakenAll other v w frames chunks (octets_in sent)
-  pub counts_are : counts ≡ record { protected = frames; accepted = frames; rejected = chunks }
-
-abbrev these : ℕ → ℕ → ℕ → Counts
-these protected accepted rejected = record { protected = protected; accepted = accepted; rejected = rejected }
-
-same_counts : (a b : Counts) → a.protected ≡ b.protected → a.accepted ≡ b.accepted → a.rejected ≡ b.rejected → a ≡ b
-same_counts a b p q r =
-    ap (λ (n : ℕ). these n a.accepted a.rejected) p ∙ (ap (λ (n : ℕ). these b.protected n a.rejected) q ∙ ap (these b.protected b.accepted) r)
+  pub counts_are : counts ≡ these frames 0 frames chunks
 
 module _ (once : OpensOnce) (one other : Begin) (s t0 t v w0 mid w : View) (chunk n : ℕ) (before more : Counts)
     (sends : Starts one sender_bare (sending (each 1))) (receives : Starts other receiver_bare (receiving begun (each 0)))
@@ -50,13 +51,13 @@ module _ (once : OpensOnce) (one other : Begin) (s t0 t v w0 mid w : View) (chun
   served_by : (later opened again : List Answer) → HandlesSegment one t0 t (protect_tasks (256 * chunk) n) later
       → HandlesSegment other w0 mid (open_tasks chunk (256 * chunk) later) opened
       → HandlesSegment other mid w (replay_tasks chunk (256 * chunk) later) again → list_any says_no_memory later ≡ false → list_any says_no_memory opened ≡ false
-      → list_any says_no_memory again ≡ false → more.protected ≡ count_code codes_of.PROTECTED later
+      → list_any says_no_memory again ≡ false → more.protected ≡ count_code codes_of.PROTECTED later → more.lost ≡ 0
       → more.accepted ≡ count_accepted chunk (open_tasks chunk (256 * chunk) later) opened + count_fields (256 * chunk) again
       → more.rejected ≡ count_code codes_of.NUMBER opened + count_code codes_of.NUMBER again
       → Served one other s t v w (256 * chunk + n) (chunk + 1) (sum_of before more)
-  served_by [] opened again protects opens replays want_later want_opened want_again protected accepted rejected =
+  served_by [] opened again protects opens replays want_later want_opened want_again protected lost accepted rejected =
       let h = answered one s t0 t (256 * chunk) n sent [] sends so_far.sent_all protects few want_later in absurd (omega arith)
-  served_by (head ∷ rest) opened again protects opens replays want_later want_opened want_again protected accepted rejected =
+  served_by (head ∷ rest) opened again protects opens replays want_later want_opened want_again protected lost accepted rejected =
       let later : List Answer = head ∷ rest in
       let many = answered one s t0 t (256 * chunk) n sent later sends so_far.sent_all protects few want_later in
       let all = sent_more one s t0 t (256 * chunk) n sent later sends so_far.sent_all protects few want_later in
@@ -85,14 +86,13 @@ module _ (once : OpensOnce) (one other : Begin) (s t0 t v w0 mid w : View) (chun
       all_counted (λ (answer : Answer). answer.code == codes_of.PROTECTED) later
       (All-weaker IsSent (λ (answer : Answer). (answer.code == codes_of.PROTECTED) ≡ true)
       (λ answer is. eq-eqb answer.code codes_of.PROTECTED is) later codes) in
-      let more_is : more ≡ record { protected = n; accepted = n; rejected = 1 } =
-      same_counts more (record { protected = n; accepted = n; rejected = 1 }) (omega arith) (omega arith) (omega arith) in
+      let more_is : more ≡ these n 0 n 1 = same_counts more (these n 0 n 1) (omega arith) lost (omega arith) (omega arith) in
       record {
         sent = sent ++ later;
         sent_all = all;
         taken_all = subst (λ (m : ℕ). TakenAll other v w m (chunk + 1) (octets_in (sent ++ later))) total taken;
         counts_are = ap (λ (c : Counts). sum_of c more) so_far.counts_are
-            ∙ ap (sum_of (record { protected = 256 * chunk; accepted = 256 * chunk; rejected = chunk })) more_is;
+            ∙ ap (sum_of (these (256 * chunk) 0 (256 * chunk) chunk)) more_is;
       }
 
 module _ (once : OpensOnce) (one_state : ShowsOne) (one other : Begin) (number : ℕ) (s v : View) (few : number ≤ 100000) (sends : UnitIsOpened sender_plan one s)
@@ -102,7 +102,7 @@ module _ (once : OpensOnce) (one_state : ShowsOne) (one other : Begin) (number :
       → Served one other s t v w (min number (256 * chunks)) chunks counts
   chunks_served zero low t w answers counts are wants =
       let none : min number (256 * 0) ≡ 0 = omega arith in
-      let served : Served one other s s v v 0 0 (record { protected = 0; accepted = 0; rejected = 0 }) = record {
+      let served : Served one other s s v v 0 0 (these 0 0 0 0) = record {
         sent = [];
         sent_all = none_sent one s sends.opened sends.began.rows sends.whole (sender_begins one_state one s sends);
         taken_all = none_taken other v (octets_in []) receives.opened receives.began.rows receives.whole (receiver_begins one_state other v receives);
@@ -126,7 +126,7 @@ module _ (once : OpensOnce) (one_state : ShowsOne) (one other : Begin) (number :
       let next : chunks + 1 ≡ suc chunks = omega arith in
       let served = served_by once one other s t0 t v w0 chunk.mid w chunks n before more (sender_begins one_state one s sends) (receiver_begins one_state other v receives)
       (subst (λ (m : ℕ). Served one other s t0 v w0 m chunks before) whole so_far) (omega arith) (omega arith) (omega arith)
-      chunk.sent chunk.opened chunk.again chunk.protects chunk.opens chunk.replays first.0 last.0 last.1 chunk.protected chunk.accepted chunk.rejected in
+      chunk.sent chunk.opened chunk.again chunk.protects chunk.opens chunk.replays first.0 last.0 last.1 chunk.protected chunk.lost chunk.accepted chunk.rejected in
       subst (λ (c : Counts). Served one other s t v w (min number (256 * suc chunks)) (suc chunks) c) (sym counts_are)
       (subst (λ (m : ℕ). Served one other s t v w m (suc chunks) (sum_of before more)) frames
       (subst (λ (k : ℕ). Served one other s t v w (256 * chunks + n) k (sum_of before more)) next served))
@@ -137,4 +137,4 @@ drill_complete once one_state number answers counts few is wants =
     let served = chunks_served once one_state is.sender is.receiver number is.s is.v few is.sends is.receives ((number + 255) / 256)
     (omega arith) is.t is.w answers counts is.chunks wants in
     let all : min number (256 * ((number + 255) / 256)) ≡ number = omega arith in
-    served.counts_are ∙ ap (λ (m : ℕ). record { protected = m; accepted = m; rejected = (number + 255) / 256 }) all
+    served.counts_are ∙ ap (λ (m : ℕ). these m 0 m ((number + 255) / 256)) all

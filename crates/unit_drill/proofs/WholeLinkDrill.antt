@@ -9,9 +9,9 @@ use Rattle.record_io.specs.declared.answers.Answer.{Answer}
 use Rattle.record_io.specs.declared.code.TheConstants as codes_of
 use Rattle.counter_table.specs.declared.view.View.{View}
 use Rattle.run_promise.specs.Begin.{Begin}
-use Rattle.unit_drill.specs.declared.link_counts.LinkCounts.{LinkCounts}
-use Rattle.unit_drill.specs.Arriving.{arrived_frames, arrived_tasks, count_lost, link_sum_of, no_link_counts}
-use Rattle.unit_drill.specs.Counting.{count_code, count_given}
+use Rattle.unit_drill.specs.declared.counts.Counts.{Counts}
+use Rattle.unit_drill.specs.Arriving.{arrived_frames, arrived_tasks, count_lost}
+use Rattle.unit_drill.specs.Counting.{count_code, count_given, no_counts, sum_of}
 use Rattle.unit_drill.specs.Frames.{protect_tasks}
 use Rattle.unit_drill.specs.Chunks.{HandlesSegment, UnitIsOpened}
 use Rattle.unit_drill.specs.Plans.{receiver_plan, sender_plan}
@@ -32,13 +32,13 @@ use Rattle.unit_drill.proofs.ArrivedFrames.{arrived_all, lost_all}
 use Rattle.unit_drill.proofs.OpenedLinkChunks.{TakenLink, none_taken, taken_chunk, told_all}
 
 -- the first chunks: so many frames, all of them protected, and told as often as they arrived
-pub record LinkServed (one other : Begin) (s t v w : View) (frames chunks : ℕ) (counts : LinkCounts) : Type 0 where
+pub record LinkServed (one other : Begin) (s t v w : View) (frames chunks : ℕ) (counts : Counts) : Type 0 where
   pub sent : List Answer
   pub sent_all : SentAll one s t frames sent
   pub taken : TakenLink other v w frames chunks (octets_in sent)
   pub counted : AreAllCounted frames counts
 
-module _ (once : OpensOnce) (one other : Begin) (s t0 t v w0 w : View) (chunk n : ℕ) (before more : LinkCounts)
+module _ (once : OpensOnce) (one other : Begin) (s t0 t v w0 w : View) (chunk n : ℕ) (before more : Counts)
     (sends : Starts one sender_bare (sending (each 1))) (receives : Starts other receiver_bare (receiving begun (each 0)))
     (so_far : LinkServed one other s t0 v w0 (256 * chunk) chunk before) (short : n ≤ 256) (few : 256 * chunk + n ≤ 100000)
     (later opened : List Answer) (protects : HandlesSegment one t0 t (protect_tasks (256 * chunk) n) later)
@@ -80,7 +80,7 @@ module _ (once : OpensOnce) (one other : Begin) (s t0 t v w0 w : View) (chunk n 
       subst (λ (m : ℕ). AreSent m (numbers_in (sent ++ later)) (octets_in (sent ++ later))) (sym total)
       (are_sent one s t (256 * chunk + n) (sent ++ later) all)
 
-  pub served_by : LinkServed one other s t v w (256 * chunk + n) (chunk + 1) (link_sum_of before more)
+  pub served_by : LinkServed one other s t v w (256 * chunk + n) (chunk + 1) (sum_of before more)
   served_by =
       let is_many = many in
       let sum = total in
@@ -109,21 +109,21 @@ module _ (once : OpensOnce) (one other : Begin) (s t0 t v w0 w : View) (chunk n 
 
 module _ (once : OpensOnce) (one_state : ShowsOne) (one other : Begin) (number : ℕ) (s v : View) (few : number ≤ 100000) (sends : UnitIsOpened sender_plan one s)
     (receives : UnitIsOpened receiver_plan other v) where
-  pub chunks_served : (chunks : ℕ) → 256 * chunks < number + 256 → (t w : View) (answers : List Answer) (counts : LinkCounts)
+  pub chunks_served : (chunks : ℕ) → 256 * chunks < number + 256 → (t w : View) (answers : List Answer) (counts : Counts)
       → AreLinkChunks one other number s v chunks t w answers counts → list_any says_no_memory answers ≡ false
       → LinkServed one other s t v w (min number (256 * chunks)) chunks counts
   chunks_served zero low t w answers counts are wants =
       let none : min number (256 * 0) ≡ 0 = omega arith in
-      let served : LinkServed one other s s v v 0 0 no_link_counts = record {
+      let served : LinkServed one other s s v v 0 0 no_counts = record {
         sent = [];
         sent_all = none_sent one s sends.opened sends.began.rows sends.whole (sender_begins one_state one s sends);
         taken = none_taken other v (octets_in []) receives.opened receives.began.rows receives.whole (receiver_begins one_state other v receives);
         counted = record { protected = refl; lost = refl; told = refl };
       } in
       subst (λ (m : ℕ). LinkServed one other s t v w m 0 counts) (sym none)
-      (subst (λ (c : LinkCounts). LinkServed one other s t v w 0 0 c) (sym are.3)
-      (subst (λ (x : View). LinkServed one other s x v w 0 0 no_link_counts) (sym are.0)
-      (subst (λ (x : View). LinkServed one other s s v x 0 0 no_link_counts) (sym are.1) served)))
+      (subst (λ (c : Counts). LinkServed one other s t v w 0 0 c) (sym are.3)
+      (subst (λ (x : View). LinkServed one other s x v w 0 0 no_counts) (sym are.0)
+      (subst (λ (x : View). LinkServed one other s s v x 0 0 no_counts) (sym are.1) served)))
   chunks_served (suc chunks) low t w answers counts (t0, w0, earlier, before, more, prior, chunk, answers_are, counts_are) wants =
       let split = or_parts (list_any says_no_memory earlier) (list_any says_no_memory (chunk.sent ++ chunk.opened))
       (sym (list_any-append says_no_memory earlier (chunk.sent ++ chunk.opened)) ∙ (ap (list_any says_no_memory) (sym answers_are) ∙ wants)) in
@@ -137,11 +137,11 @@ module _ (once : OpensOnce) (one_state : ShowsOne) (one other : Begin) (number :
       let served = served_by once one other s t0 t v w0 w chunks n before more (sender_begins one_state one s sends) (receiver_begins one_state other v receives)
       (subst (λ (m : ℕ). LinkServed one other s t0 v w0 m chunks before) whole so_far) (omega arith) (omega arith)
       chunk.sent chunk.opened chunk.protects chunk.opens both.0 both.1 chunk.protected chunk.lost chunk.accepted chunk.rejected in
-      subst (λ (c : LinkCounts). LinkServed one other s t v w (min number (256 * suc chunks)) (suc chunks) c) (sym counts_are)
-      (subst (λ (m : ℕ). LinkServed one other s t v w m (suc chunks) (link_sum_of before more)) frames
-      (subst (λ (k : ℕ). LinkServed one other s t v w (256 * chunks + n) k (link_sum_of before more)) next served))
+      subst (λ (c : Counts). LinkServed one other s t v w (min number (256 * suc chunks)) (suc chunks) c) (sym counts_are)
+      (subst (λ (m : ℕ). LinkServed one other s t v w m (suc chunks) (sum_of before more)) frames
+      (subst (λ (k : ℕ). LinkServed one other s t v w (256 * chunks + n) k (sum_of before more)) next served))
 
-pub link_complete : OpensOnce → ShowsOne → (number : ℕ) (answers : List Answer) (counts : LinkCounts) → number ≤ 100000 → HandlesLinkDrill number answers counts
+pub link_complete : OpensOnce → ShowsOne → (number : ℕ) (answers : List Answer) (counts : Counts) → number ≤ 100000 → HandlesLinkDrill number answers counts
     → list_any says_no_memory answers ≡ false → AreAllCounted number counts
 link_complete once one_state number answers counts few is wants =
     let served = chunks_served once one_state is.sender is.receiver number is.s is.v few is.sends is.receives ((number + 255) / 256)

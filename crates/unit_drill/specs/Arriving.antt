@@ -11,7 +11,6 @@ use Rattle.record_io.specs.declared.answers.Answer.{Answer}
 use Rattle.record_io.specs.declared.code.TheConstants.{PROTECTED}
 use Rattle.record_io.specs.declared.records.Record.{Record}
 use Rattle.unit_drill.specs.declared.frames.TheConstants.{DRILL_LANES}
-use Rattle.unit_drill.specs.declared.link_counts.LinkCounts.{LinkCounts}
 use Rattle.unit_drill.specs.Frames.{open_task}
 
 -- ---- the link
@@ -54,14 +53,3 @@ abbrev pub count_lost : List Answer → ℕ
 count_lost sent =
     count_by (λ (p : ℕ × Answer). (p.1.code == PROTECTED) && is_lost (fate_of p.0))
     (zip (range_with_len 0 (length sent)) sent)
-
-abbrev pub no_link_counts : LinkCounts
-no_link_counts = record { protected = 0; lost = 0; accepted = 0; rejected = 0 }
-
-abbrev pub link_sum_of : LinkCounts → LinkCounts → LinkCounts
-link_sum_of one other = record {
-  protected = one.protected + other.protected;
-  lost = one.lost + other.lost;
-  accepted = one.accepted + other.accepted;
-  rejected = one.rejected + other.rejected;
-}

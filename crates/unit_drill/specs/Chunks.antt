@@ -76,6 +76,7 @@ pub record IsChunk (sender receiver : Begin) (chunk end : ℕ) (s t v w : View) 
   pub opens : HandlesSegment receiver v mid (open_tasks chunk (CHUNK * chunk) sent) opened
   pub replays : HandlesSegment receiver mid w (replay_tasks chunk (CHUNK * chunk) sent) again
   pub protected : counts.protected ≡ count_code codes_of.PROTECTED sent
+  pub lost : counts.lost ≡ 0
   pub accepted : counts.accepted ≡ count_accepted chunk (open_tasks chunk (CHUNK * chunk) sent) opened
       + count_fields (CHUNK * chunk) again
   pub rejected : counts.rejected ≡ count_code codes_of.NUMBER opened + count_code codes_of.NUMBER again

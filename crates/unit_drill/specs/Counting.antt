@@ -29,11 +29,12 @@ abbrev pub count_given : List ℕ → List Answer → ℕ
 count_given numbers answers = count_by (λ (p : ℕ × Answer). gives_field p.0 p.1) (zip numbers answers)
 
 abbrev pub no_counts : Counts
-no_counts = record { protected = 0; accepted = 0; rejected = 0 }
+no_counts = record { protected = 0; lost = 0; accepted = 0; rejected = 0 }
 
 abbrev pub sum_of : Counts → Counts → Counts
 sum_of one other = record {
   protected = one.protected + other.protected;
+  lost = one.lost + other.lost;
   accepted = one.accepted + other.accepted;
   rejected = one.rejected + other.rejected;
 }

@@ -42,7 +42,7 @@ opened_frames chunk answers = protected_frames (CHUNK * chunk) answers ++ replay
 
 -- each frame is protected and accepted, and the first of each chunk rejected the second time
 abbrev pub all_counts : ℕ → Counts
-all_counts number = record { protected = number; accepted = number; rejected = chunks_of number }
+all_counts number = record { protected = number; lost = 0; accepted = number; rejected = chunks_of number }
 
 -- if no answer says that memory ran out, all are counted
 abbrev pub IsComplete : ℕ → List Answer → Counts → Type 0
@@ -57,6 +57,7 @@ pub record IsDrilled (number : ℕ) (counts : Counts) : Type 0 where
   pub sends : RunsSoundly sender_plan (sent_places number) sent
   pub receives : RunsSoundly receiver_plan (of_chunks opened_places (chunks_of number) sent) received
   pub protected : counts.protected ≡ count_code codes_of.PROTECTED sent
+  pub lost : counts.lost ≡ 0
   pub accepted : counts.accepted ≡ count_given (of_chunks opened_frames (chunks_of number) sent) received
   pub rejected : counts.rejected ≡ count_code codes_of.NUMBER received
   pub complete : IsComplete number (sent ++ received) counts

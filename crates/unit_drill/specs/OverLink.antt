@@ -11,7 +11,7 @@ use Rattle.record_io.specs.declared.status.TheConstants as statuses
 use Rattle.record_io.specs.Outcome.{Ends, line}
 use Rattle.record_io.specs.Places.{Place}
 use Rattle.unit_drill.specs.declared.arriving.TheConstants.{CHUNK_PLACES}
-use Rattle.unit_drill.specs.declared.link_counts.LinkCounts.{LinkCounts}
+use Rattle.unit_drill.specs.declared.counts.Counts.{Counts}
 use Rattle.unit_drill.specs.declared.records.TheConstants.{CHUNK}
 use Rattle.unit_drill.specs.Arriving.{arrived_frames, arrived_tasks, count_lost}
 use Rattle.unit_drill.specs.Counting.{count_code, count_given}
@@ -47,20 +47,20 @@ arrived_of zero = 0
 arrived_of (suc frame) = arrived_of frame + times (fate_of (frame % CHUNK))
 
 -- Each frame is protected, those that the link loses are lost, and each that arrives is accepted or rejected.
-pub record AreAllCounted (number : ℕ) (counts : LinkCounts) : Type 0 where
+pub record AreAllCounted (number : ℕ) (counts : Counts) : Type 0 where
   pub protected : counts.protected ≡ number
   pub lost : counts.lost ≡ lost_of number
   pub told : counts.accepted + counts.rejected ≡ arrived_of number
 
 -- if no answer says that memory ran out, all are counted
-abbrev pub IsLinkComplete : ℕ → List Answer → LinkCounts → Type 0
+abbrev pub IsLinkComplete : ℕ → List Answer → Counts → Type 0
 IsLinkComplete number answers counts = list_any says_no_memory answers ≡ false → AreAllCounted number counts
 
 -- These are the counts of a drill of so many frames over a link. The first unit protected the frames, and the second
 -- opened those that arrived over the link, in the order of their arrival. Counted are the answers of the first that a
 -- frame was protected, and those of these frames that were lost; and of the second, that a frame was accepted with the
 -- data field that it was made with, and that it was refused for its number.
-pub record IsLinkDrilled (number : ℕ) (counts : LinkCounts) : Type 0 where
+pub record IsLinkDrilled (number : ℕ) (counts : Counts) : Type 0 where
   pub sent : List Answer
   pub received : List Answer
   pub sends : RunsSoundly sender_plan (sent_places number) sent
@@ -76,7 +76,7 @@ pub record IsLinkDrilled (number : ℕ) (counts : LinkCounts) : Type 0 where
 -- the line and the status of a drill over a link; that memory ran out needs no cause
 abbrev pub LinkDrillDue : ℕ → List ℕ → ℕ → Type 0
 LinkDrillDue number text status =
-    ((counts : LinkCounts) × IsLinkDrilled number counts × (text ≡ link_text number counts) × (status ≡ statuses.DONE))
+    ((counts : Counts) × IsLinkDrilled number counts × (text ≡ link_text number counts) × (status ≡ statuses.DONE))
     ⊎ ((text ≡ line (codes "no memory")) × (status ≡ statuses.NO_MEMORY))
 
 -- How `drill link N` ends: the text that is due is written once, and nothing else is done to the site.

@@ -3,7 +3,6 @@ ghost use Rattle.std.specs.Prelude.{◌≡◌, ◌≤◌, ℕ, List, Ok};
 ghost use Rattle.record_io.specs.declared.answers.Answer.{Answer};
 ghost use Rattle.unit_plan.specs.Plan.{plan_of};
 ghost use Rattle.unit_drill.specs.declared.counts.Counts.{Counts};
-ghost use Rattle.unit_drill.specs.declared.link_counts.LinkCounts.{LinkCounts};
 ghost use Rattle.unit_drill.specs.Chunks.{HandlesDrill};
 ghost use Rattle.unit_drill.specs.Drilled.{IsComplete, IsDrilled};
 ghost use Rattle.unit_drill.specs.LinkChunks.{HandlesLinkDrill};
@@ -40,7 +39,7 @@ pub fn drill_is_sound()
 /// Law: if no answer of a drill over a link says that memory ran out, each of its frames was protected; those of them
 /// that the link loses are lost, and each of the others is accepted or rejected as often as it arrives.
 pub fn link_drill_is_complete()
-    ensures { (number : ℕ) (answers : List Answer) (counts : LinkCounts) → number ≤ 100000
+    ensures { (number : ℕ) (answers : List Answer) (counts : Counts) → number ≤ 100000
         → HandlesLinkDrill number answers counts → IsLinkComplete number answers counts }
 {
     opens_once();
@@ -50,7 +49,7 @@ pub fn link_drill_is_complete()
 /// Law: what the one worker of each unit did, chunk by chunk, were two sound runs with the records of a drill over a
 /// link.
 pub fn link_drill_is_sound()
-    ensures { (number : ℕ) (answers : List Answer) (counts : LinkCounts) → number ≤ 100000
+    ensures { (number : ℕ) (answers : List Answer) (counts : Counts) → number ≤ 100000
         → HandlesLinkDrill number answers counts → IsLinkDrilled number counts }
 {
     link_drill_is_complete();

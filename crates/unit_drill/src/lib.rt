@@ -15,9 +15,6 @@ mod frames;
 mod image;
 mod laws;
 mod line;
-mod link_chunk;
-mod link_counts;
-mod linking;
 mod records;
 mod running;
 mod unit;
@@ -26,6 +23,4 @@ pub use counts::Counts;
 pub use laws::{
     drill_is_complete, drill_is_sound, link_drill_is_complete, link_drill_is_sound, plans_are_read,
 };
-pub use link_counts::LinkCounts;
-pub use linking::drill_link;
-pub use running::drill;
+pub use running::{drill, drill_link};

@@ -3,7 +3,6 @@ ghost use Rattle.std.specs.Prelude.{◌≡◌, ◌++◌, decimal, IfOk, OnOk};
 ghost use Rattle.unit_drill.specs.Line.{counted, drill_text, link_text};
 
 use crate::counts::Counts;
-use crate::link_counts::LinkCounts;
 use itoa::Buffer;
 use sdls_base::NoMemory;
 use std::alloc::Global;
@@ -51,7 +50,7 @@ fn add_count(line: &mut Vec<u8>, what: &[u8], number: u64) -> Result<(), NoMemor
 
 /// `drill link N protected A lost L accepted B rejected C`, and a line feed.
 #[tactic(auto, unfolding(crate::specs::Line::link_text))]
-pub(crate) fn link_line(alloc: Global, number: u64, counts: LinkCounts) -> Result<Vec<u8>, NoMemory>
+pub(crate) fn link_line(alloc: Global, number: u64, counts: Counts) -> Result<Vec<u8>, NoMemory>
     ensures { IfOk result (λ line. line.items ≡ link_text number counts) }
 {
     let mut line = Vec::new(alloc);

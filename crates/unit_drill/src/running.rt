@@ -1,18 +1,20 @@
-//! The drill.
-ghost use Rattle.std.specs.Prelude.{◌≡◌, ◌≢◌, ◌+◌, ◌*◌, ◌≤◌, min, List, [], ◌++◌, IfErr, IfOk, codes};
+//! The drill, and the drill over a link.
+ghost use Rattle.std.specs.Prelude.{◌≡◌, ◌≢◌, ◌+◌, ◌*◌, ◌≤◌, min, List, [], IfErr, IfOk, codes};
 ghost use Rattle.sdls_outside.specs.Faults.{Rose};
+ghost use Rattle.record_io.specs.declared.answers.Answer.{Answer};
 ghost use Rattle.record_io.specs.Outcome.{Ends, line};
 ghost use Rattle.unit_drill.specs.declared.counts.Counts.{Counts};
-ghost use Rattle.unit_drill.specs.Line.{drill_text};
-ghost use Rattle.record_io.specs.declared.answers.Answer.{Answer};
 ghost use Rattle.unit_drill.specs.Chunks.{HandlesDrill};
 ghost use Rattle.unit_drill.specs.Drilled.{EndsDrill, IsDrilled};
+ghost use Rattle.unit_drill.specs.Line.{drill_text, link_text};
+ghost use Rattle.unit_drill.specs.LinkChunks.{HandlesLinkDrill};
+ghost use Rattle.unit_drill.specs.OverLink.{EndsLinkDrill, IsLinkDrilled};
 
 use crate::chunk::Pair;
 use crate::counts::Counts;
 use crate::image::{receiver_plan, sender_plan};
-use crate::laws::drill_is_sound;
-use crate::line::drill_line;
+use crate::laws::{drill_is_sound, link_drill_is_sound};
+use crate::line::{drill_line, link_line};
 use crate::records::CHUNK;
 use crate::unit::DrillUnit;
 use command_words::{MOST_FRAMES, end_with};
@@ -26,7 +28,7 @@ use std::sync::Wait;
 use std::thread::Threads;
 
 /// The number behind the last frame of a chunk.
-pub(crate) fn end_of(number: u64, chunk: u64) -> u64
+fn end_of(number: u64, chunk: u64) -> u64
     requires { chunk ≤ 1024 }
     ensures { result ≡ min number (CHUNK * (chunk + 1)) }
 {
@@ -73,12 +75,48 @@ fn line_of<R: Threads + Wait + Sync, G: Gate + Sync>(
     drill_line(alloc, number, counts)
 }
 
-/// Ends a drill: writes the line that was made, or that memory ran out. To the site nothing else is done.
-pub(crate) fn end_made<O: Site>(
+/// The counts of a drill of this many frames over a link.
+fn link_counts_of<R: Threads + Wait + Sync, G: Gate + Sync>(
+    rt: &R,
     alloc: Global,
-    made: Result<Vec<u8>, NoMemory>,
-    site: O,
-) -> Outcome<O>
+    number: u64,
+    gate: &G,
+) -> Result<Counts, NoMemory>
+    requires { number ≤ MOST_FRAMES }
+    ensures { IfOk result (λ counts. (answers : List Answer) × HandlesLinkDrill number answers counts) }
+{
+    let mut pair = Pair {
+        sender: DrillUnit::open(rt, alloc, sender_plan())?,
+        receiver: DrillUnit::open(rt, alloc, receiver_plan())?,
+    };
+    let mut counts = Counts::none();
+    for chunk in 0..(number + (CHUNK - 1)) / CHUNK {
+        let end = end_of(number, chunk);
+        let more = pair.serve_link_chunk(rt, alloc, chunk, end, gate)?;
+        counts = counts.plus(more);
+    }
+    Ok(counts)
+}
+
+/// The line of a drill of this many frames over a link.
+fn link_line_of<R: Threads + Wait + Sync, G: Gate + Sync>(
+    rt: &R,
+    alloc: Global,
+    number: u64,
+    gate: &G,
+) -> Result<Vec<u8>, NoMemory>
+    requires { number ≤ MOST_FRAMES }
+    ensures { IfOk result (λ line. (counts : Counts) × IsLinkDrilled number counts
+        × (line.items ≡ link_text number counts)) }
+{
+    let counts = link_counts_of(rt, alloc, number, gate)?;
+    // For contracts alone: what the units' workers did were two sound runs.
+    link_drill_is_sound();
+    link_line(alloc, number, counts)
+}
+
+/// Ends a drill: writes the line that was made, or that memory ran out. To the site nothing else is done.
+fn end_made<O: Site>(alloc: Global, made: Result<Vec<u8>, NoMemory>, site: O) -> Outcome<O>
     ensures written { IfOk made (λ text. Ends O.told (O.trace site) (O.trace result.site)
         (Rose (O.faults site) (O.faults result.site)) text.items DONE result.status) }
     ensures wanting { IfErr made (λ _. Ends O.told (O.trace site) (O.trace result.site)
@@ -92,12 +130,11 @@ pub(crate) fn end_made<O: Site>(
     }
 }
 
-/// Runs a drill of this many frames, on four lanes, and puts its line: how many the one unit protected, how many the
-/// other accepted with their data fields, and how many it rejected for their number. If memory runs out, or the
-/// site of one of these units fails, it puts that in place of the line. The gate is called before and after each
-/// record.
+/// Runs a drill of this many frames, on four lanes, and writes its line: how many the one unit protected, how many the
+/// other accepted with their data fields, and how many it rejected for their number. If memory runs out, or the site of
+/// one of these units fails, it writes that in place of the line. The gate is called before and after each record.
 ///
-/// The units and all that they hold are gone afterwards. To the site that is handed in nothing is done but to put.
+/// The units and all that they hold are gone afterwards. To the site that is handed in nothing is done but to write.
 pub fn drill<R: Threads + Wait + Sync, O: Site, G: Gate + Sync>(
     rt: &R,
     alloc: Global,
@@ -112,4 +149,26 @@ pub fn drill<R: Threads + Wait + Sync, O: Site, G: Gate + Sync>(
     ensures no_history { result.entries.items ≡ [] }
 {
     end_made(alloc, line_of(rt, alloc, number, gate), site)
+}
+
+/// Runs a drill of this many frames over a link, on four lanes, and writes its line: how many frames the one unit
+/// protected, how many of them the link lost, how many the other accepted with their data fields, and how many it
+/// rejected for their number. If memory runs out, or the site of one of these units fails, it writes that in place of
+/// the line. The gate is called before and after each record.
+///
+/// The units and all that they hold are gone afterwards. To the site that is handed in nothing is done but to write.
+pub fn drill_link<R: Threads + Wait + Sync, O: Site, G: Gate + Sync>(
+    rt: &R,
+    alloc: Global,
+    number: u64,
+    site: O,
+    gate: &G,
+) -> Outcome<O>
+    requires { number ≤ MOST_FRAMES }
+    ensures ends { EndsLinkDrill number O.told (O.trace site) (O.trace result.site)
+        (Rose (O.faults site) (O.faults result.site)) result.status }
+    ensures quiet { result.status ≢ SITE_FAULT → O.faults result.site ≡ O.faults site }
+    ensures no_history { result.entries.items ≡ [] }
+{
+    end_made(alloc, link_line_of(rt, alloc, number, gate), site)
 }

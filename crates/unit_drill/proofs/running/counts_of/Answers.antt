@@ -1,4 +1,4 @@
-use Rattle.std.proofs.Common.{◌≡◌, ℕ, suc, ◌+◌, ◌/◌, List, ◌++◌, refl, ap, subst, arith}
+use Rattle.std.proofs.Common.{◌≡◌, ℕ, suc, ◌+◌, ◌/◌, List, ◌++◌, refl, ◌∙◌, ap, subst, arith}
 use Rattle.counter_table.specs.Worker.{view}
 use Rattle.unit_drill.specs.declared.counts.Counts.{Counts}
 use Rattle.record_io.specs.declared.answers.Answer.{Answer}
@@ -37,6 +37,7 @@ loop-chunk-preserved g c = record {
       );
   protected = let p : c.plus-counts.result.protected ≡ c.loop-chunk.counts.protected + c.in_ok-more.more.protected =
       ap (λ (n : Counts). n.protected) c.plus-counts.ensures in omega (arith, c.in_ok-more.ensures.protected);
+  lost = ap (λ (n : Counts). n.lost) c.plus-counts.ensures ∙ (let more = c.in_ok-more.ensures.lost in let before = c.loop-chunk.invariant.lost in omega arith);
   accepted = let p : c.plus-counts.result.accepted ≡ c.loop-chunk.counts.accepted + c.in_ok-more.more.accepted =
       ap (λ (n : Counts). n.accepted) c.plus-counts.ensures in omega (arith, c.in_ok-more.ensures.accepted);
   rejected = let p : c.plus-counts.result.rejected ≡ c.loop-chunk.counts.rejected + c.in_ok-more.more.rejected =

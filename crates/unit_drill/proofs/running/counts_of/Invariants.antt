@@ -1,4 +1,4 @@
-use Rattle.std.proofs.Common.{◌*◌, ◌≤◌, true, List}
+use Rattle.std.proofs.Common.{◌≡◌, ◌*◌, ◌≤◌, true, List}
 use Rattle.record_io.specs.declared.answers.Answer.{Answer}
 use Rattle.counter_table.specs.Worker.{view}
 use Rattle.run_promise.specs.Begin.{Begin}
@@ -17,6 +17,7 @@ invariant-loop-chunk g l = record {
       × ((answers : List Answer) × AreChunks one other l.number (view l.initial.pair.sender.worker) (view l.initial.pair.receiver.worker) l.chunk
       (view l.pair.sender.worker) (view l.pair.receiver.worker) answers l.counts);
   protected : l.counts.protected ≤ 1024 * l.chunk;
+  lost : l.counts.lost ≡ 0;
   accepted : l.counts.accepted ≤ 1024 * l.chunk;
   rejected : l.counts.rejected ≤ 1024 * l.chunk;
 }

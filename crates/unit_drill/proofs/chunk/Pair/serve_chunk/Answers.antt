@@ -1,4 +1,4 @@
-use Rattle.std.proofs.Common.{◌≡◌, ◌+◌, ◌*◌, ℕ, List, sym, ◌∙◌, ap, subst}
+use Rattle.std.proofs.Common.{◌≡◌, ◌+◌, ◌*◌, ℕ, List, refl, sym, ◌∙◌, ap, subst}
 use Rattle.std.specs.List.{All}
 use Rattle.record_io.specs.declared.answers.Answer.{Answer}
 use Rattle.record_io.specs.declared.records.Record.{Record}
@@ -71,6 +71,7 @@ returns-clause-chunk g c = λ one other began_one began_other.
         replays = subst (λ (l : List Record). HandlesSegment other (view c.serve-2.new.self.worker) (view c.serve-3.new.self.worker) l again)
             (c.deref-5.ensures.value ∙ is_again) replays.0;
         protected = c.count_code-3.ensures.count ∙ ap (count_code 0) c.deref-11.ensures.value;
+        lost = refl;
         accepted =
             ap (λ (n : ℕ). n + c.count_fields.result) (c.count_accepted.ensures.count
             ∙ (ap (λ (l : List Record). count_accepted c.args.chunk l c.deref-7.result.now) (c.deref-6.ensures.value ∙ is_received)

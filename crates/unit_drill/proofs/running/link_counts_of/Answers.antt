@@ -1,10 +1,10 @@
 use Rattle.std.proofs.Common.{◌≡◌, ℕ, suc, ◌+◌, ◌/◌, List, ◌++◌, refl, ap, subst, arith}
 use Rattle.counter_table.specs.Worker.{view}
-use Rattle.unit_drill.specs.declared.link_counts.LinkCounts.{LinkCounts}
+use Rattle.unit_drill.specs.declared.counts.Counts.{Counts}
 use Rattle.record_io.specs.declared.answers.Answer.{Answer}
 use Rattle.unit_drill.specs.Chunks.{UnitIsOpened}
 use Rattle.unit_drill.specs.LinkChunks.{AreLinkChunks, IsLinkChunk}
-use Rattle.unit_drill.proofs.linking.link_counts_of.Goals as goal
+use Rattle.unit_drill.proofs.running.link_counts_of.Goals as goal
 
 pub loop-chunk-preserved : goal.loop-chunk-preserved
 loop-chunk-preserved g c = record {
@@ -37,13 +37,13 @@ loop-chunk-preserved g c = record {
         ),
       );
   protected = let p : c.plus-counts.result.protected ≡ c.loop-chunk.counts.protected + c.in_ok-more.more.protected =
-      ap (λ (n : LinkCounts). n.protected) c.plus-counts.ensures in omega (arith, c.in_ok-more.ensures.protected);
+      ap (λ (n : Counts). n.protected) c.plus-counts.ensures in omega (arith, c.in_ok-more.ensures.protected);
   lost = let p : c.plus-counts.result.lost ≡ c.loop-chunk.counts.lost + c.in_ok-more.more.lost =
-      ap (λ (n : LinkCounts). n.lost) c.plus-counts.ensures in omega (arith, c.in_ok-more.ensures.lost);
+      ap (λ (n : Counts). n.lost) c.plus-counts.ensures in omega (arith, c.in_ok-more.ensures.lost);
   accepted = let p : c.plus-counts.result.accepted ≡ c.loop-chunk.counts.accepted + c.in_ok-more.more.accepted =
-      ap (λ (n : LinkCounts). n.accepted) c.plus-counts.ensures in omega (arith, c.in_ok-more.ensures.accepted);
+      ap (λ (n : Counts). n.accepted) c.plus-counts.ensures in omega (arith, c.in_ok-more.ensures.accepted);
   rejected = let p : c.plus-counts.result.rejected ≡ c.loop-chunk.counts.rejected + c.in_ok-more.more.rejected =
-      ap (λ (n : LinkCounts). n.rejected) c.plus-counts.ensures in omega (arith, c.in_ok-more.ensures.rejected);
+      ap (λ (n : Counts). n.rejected) c.plus-counts.ensures in omega (arith, c.in_ok-more.ensures.rejected);
 }
 
 pub returns : goal.returns

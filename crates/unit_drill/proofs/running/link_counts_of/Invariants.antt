@@ -5,7 +5,7 @@ use Rattle.run_promise.specs.Begin.{Begin}
 use Rattle.law_workers.specs.Began.{BeganWith}
 use Rattle.unit_drill.specs.Chunks.{MayServe}
 use Rattle.unit_drill.specs.LinkChunks.{AreLinkChunks}
-use Rattle.unit_drill.proofs.linking.link_counts_of.Given as goal
+use Rattle.unit_drill.proofs.running.link_counts_of.Given as goal
 
 abbrev pub invariant-loop-chunk : goal.invariant-loop-chunk
 invariant-loop-chunk g l = record {

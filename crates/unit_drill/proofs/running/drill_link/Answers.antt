@@ -1,6 +1,6 @@
 use Rattle.sdls_outside.specs.Faults.{Rose}
 use Rattle.unit_drill.proofs.Ending.{ends_link_drill}
-use Rattle.unit_drill.proofs.linking.drill_link.Goals as goal
+use Rattle.unit_drill.proofs.running.drill_link.Goals as goal
 
 pub returns-clause-ends : goal.returns-clause-ends
 returns-clause-ends g c =
