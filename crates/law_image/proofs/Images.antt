@@ -1,17 +1,22 @@
 -- What an opening or a migration leaves that is cut off: for `opening_keeps_forms` and `migration_keeps_state`. With it,
--- lemmas on what images hold, passed on for what lies above.
-use Rattle.std.proofs.Common.{slice_index, ◌≢◌, ◌≡◌, ◌⊎◌, ℕ, List, None, refl, sym, ◌∙◌, subst, inl, inr}
+-- lemmas on what images and their opened forms hold, passed on for what lies above.
+use Rattle.std.proofs.Common.{slice_index, ◌≢◌, ◌≡◌, ◌⊎◌, ℕ, ◌+◌, ◌≤◌, List, length, set, None, refl, sym, ap, ◌∙◌, subst, inl, inr, arith}
 use Rattle.image_parts.proofs.Gating.{AreRecords, records_are}
-use Rattle.disk_journal.specs.Banks.{gate_at, body_at}
-use Rattle.disk_journal.specs.Image.{Held, IsAtRest, IsOpenedForm, held, migrated, records, image_layout, current_at, slot_count}
+use Rattle.image_parts.proofs.Ranges.{set_but}
+use Rattle.image_parts.specs.Changes.{AllBut}
+use Rattle.disk_journal.specs.Banks.{bank_at, slot_at, other, gate_at, body_at}
+use Rattle.disk_journal.specs.Image.{Held, IsAtRest, IsOpenedForm, held, migrated, plan_of, records, image_layout, current, current_at, first_closed, slot_count}
 use Rattle.disk_journal.specs.Fault.{image_fault}
 use Rattle.disk_journal.specs.Forms.{Holds, HasOneClosed, Becomes, StaysWithin}
 use Rattle.disk_journal.proofs.Again.{stays_within}
 use Rattle.disk_journal.proofs.Headers.{header_octet, old_tests}
+use Rattle.disk_journal.proofs.Keeping.{plan_kept}
+use Rattle.disk_journal.proofs.Moving.{moved_plan}
+use Rattle.disk_journal.proofs.Stands.{HasFront, behind, opens_stands}
 use Rattle.disk_journal.specs.declared.layout.HeaderForm.TheVariants.{Old}
 use Rattle.disk_journal.specs.declared.layout.TheConstants.{MIGRATED_AT}
 use Rattle.image_parts.specs.Header.{header_of}
-use Rattle.image_parts.specs.declared.layout.TheConstants.{OPEN}
+use Rattle.image_parts.specs.declared.layout.TheConstants.{HEADER_LENGTH, OPEN, PLAN_ROOM}
 use Rattle.unit_state.specs.declared.state.State.{State}
 use Rattle.unit_image.specs.OpeningImage.{IsMigration, LeftByOpening, IsMigrating}
 use Rattle.unit_image.specs.Shows.{Says, Shows}
@@ -93,6 +98,41 @@ pub stays_opened : (image left : List ℕ) → image_fault image ≡ None → Ha
 stays_opened image left opens one (inl (inl regates)) = regated_keeps image left opens (stays_within image left opens one regates)
 stays_opened image left opens one (inl (inr becomes)) = same_keeps image left (holds_same image left becomes)
 stays_opened image left opens one (inr moves) = moved_keeps image left moves
+
+-- ---- the plan of an opened form
+
+-- an octet at or behind the first bank is no octet of the plan
+bank_plan : (image form : List ℕ) (at : ℕ) → HasFront image (image_layout image) → HEADER_LENGTH + PLAN_ROOM ≤ at
+    → form ≡ set image at OPEN → plan_of form ≡ plan_of image
+bank_plan image form at front low is =
+    plan_kept at 1 (image_layout image) image form
+    (subst (AllBut at 1 image) (sym is) (set_but image at OPEN)) low front
+
+-- neither is the octet that migrates an image of version 1
+moving_plan : (image form : List ℕ) → HasFront image (image_layout image) → form ≡ set image MIGRATED_AT OPEN
+    → plan_of form ≡ plan_of image
+moving_plan image form front is =
+    let change : AllBut MIGRATED_AT 1 image form = subst (AllBut MIGRATED_AT 1 image) (sym is) (set_but image MIGRATED_AT OPEN) in
+    let long : length form ≡ length image = change.same_length in
+    moved_plan (image_layout image) image form front
+    (record { no_shorter = omega arith; same = λ i below away. change.outside i away })
+
+pub form_plan : (image form : List ℕ) → image_fault image ≡ None → IsOpenedForm image form
+    → (held form).plan ≡ (held image).plan
+form_plan image form opens opened =
+    let layout = image_layout image in
+    let front : HasFront image layout = (opens_stands image opens).front in
+    let far : HEADER_LENGTH + PLAN_ROOM ≤ layout.banks = front.behind_plan in
+    elim opened.1.1 [
+      | inl slot ↦
+          let low : HEADER_LENGTH + PLAN_ROOM ≤ bank_at layout (current image) = behind layout (current image) far in
+          let place : opened.0 ≡ slot_at layout (bank_at layout (current image)) (first_closed image) = slot.1 in
+          bank_plan image form opened.0 front (omega arith) opened.3
+      | inr (inl beside) ↦
+          let low : HEADER_LENGTH + PLAN_ROOM ≤ bank_at layout (other (current image)) = behind layout (other (current image)) far in
+          bank_plan image form opened.0 front (subst (λ (at : ℕ). HEADER_LENGTH + PLAN_ROOM ≤ at) (sym beside) low) opened.3
+      | inr (inr moves) ↦ moving_plan image form front (opened.3 ∙ ap (λ (at : ℕ). set image at OPEN) moves.1)
+    ]
 
 -- ---- what is shown
 

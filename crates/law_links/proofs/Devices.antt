@@ -16,7 +16,7 @@ use Rattle.unit_state.specs.Restart.{restarted}
 use Rattle.unit_image.specs.Shows.{LeadTo, Says, Shows}
 use Rattle.run_promise.specs.Life.{LifeRun, IsRun, FollowFrom, IsLife}
 use Rattle.law_runs.specs.Known.{IsShown}
-use Rattle.law_runs.proofs.Initials.{initial_rests, initial_settled}
+use Rattle.law_runs.proofs.Beginnings.{form_plan}
 use Rattle.law_runs.proofs.Lives.{ShowsOnce, settled_after, shown_at_start}
 use Rattle.law_links.specs.Triples.{HaveDevice, SaysDevice}
 
@@ -104,8 +104,12 @@ module _ (once : ShowsOnce) (device : List ℕ) where
 pub one_device : ShowsOnce → (image : List ℕ) (runs : List LifeRun) (device : List ℕ) → IsLife image runs
     → SaysDevice image device → HaveDevice device runs
 one_device once image runs device life (plan, read, is) =
-    follow_device once device image runs (initial_settled image life.initial)
+    follow_device once device image runs life.begins.settled
     (λ state shown. elim shown [
       | inl shows ↦ shown_device image state plan shows read ∙ is
-      | inr torn ↦ absurd (initial_rests image life.initial torn.0 torn.1)
+      | inr torn ↦
+          shown_device torn.0 state plan torn.2
+          (subst (λ (text : List ℕ). plan_of text ≡ Ok plan)
+          (sym (form_plan image torn.0 life.begins.shows.1.holds.opens torn.1)) read)
+          ∙ is
     ]) life.follow

@@ -120,4 +120,4 @@ module _ (key : ℕ) where
 
 pub accepted_in_order : ShowsOnce → (image : List ℕ) (runs : List LifeRun) → IsLife image runs → (key : ℕ)
     → NumbersInOrder key runs
-accepted_in_order once image runs life key = in_order key once image [] runs (begins_left image life.initial) life.follow
+accepted_in_order once image runs life key = in_order key once image [] runs (begins_left image life.begins) life.follow

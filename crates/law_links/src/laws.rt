@@ -71,7 +71,7 @@ pub fn two_units_on_one_link()
     accepted_in_order();
 }
 
-/// Law: over the life of a unit the device field stays that of the plan from which its first image was made.
+/// Law: over the life of a unit the device field stays that of the plan in its first image.
 pub fn one_device_in_a_life()
     ensures { (image : List ℕ) (runs : List LifeRun) (device : List ℕ) → IsLife image runs → SaysDevice image device
         → HaveDevice device runs }

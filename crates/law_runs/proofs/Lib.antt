@@ -4,7 +4,7 @@ pub mod Settling
 pub mod Accepting
 pub mod Covering
 pub mod Assembled
-pub mod Initials
+pub mod Beginnings
 pub mod Lives
 pub mod Statuses
 pub mod Segments

@@ -53,9 +53,8 @@ use Rattle.unit_plan.specs.PlanLines.{PlanLines, link_of}
 use Rattle.run_promise.specs.ProtectingFrames.{protect_reply, layout_check}
 use Rattle.run_promise.specs.Deed.{is_protected, Deed, is_ordered, tells_entry, Differ}
 use Rattle.run_promise.specs.Sound.{EachBegun, IsCoveredBy}
-use Rattle.run_promise.specs.Life.{LifeRun, IsRun, IsInitial, FollowFrom, IsLife, left_by, Given, answers_begun, given_of, given_in, state_told, UsesOctets, AcceptsOctets, AreApart, OnceInLife}
+use Rattle.run_promise.specs.Life.{LifeRun, IsRun, IsBeginning, FollowFrom, IsLife, left_by, Given, answers_begun, given_of, given_in, state_told, UsesOctets, AcceptsOctets, AreApart, OnceInLife}
 use Rattle.law_runs.specs.Known.{Knows, LeavesKnowing}
-use Rattle.law_runs.proofs.Initials.{initial_rests, initial_settled, initial_shows}
 
 all_cons : {X : Type 0} (P : X → Type 0) (x : X) (xs : List X) → P x → All P xs → All P (x ∷ xs)
 all_cons P x xs h t zero d low = h
@@ -242,12 +241,12 @@ pub record IsLeft (image : List ℕ) (given : List Given) : Type 0 where
   pub apart : AllPairs AreApart given
   pub known : (state : State) → IsShown image state → All (IsKnown state) given
 
--- an image that `init` made, before a run
-pub begins_left : (image : List ℕ) → IsInitial image → IsLeft image []
-begins_left image initial = record {
-  image_shows = initial_shows image initial;
-  forms_show = λ form opened. absurd (initial_rests image initial form opened);
-  settled = initial_settled image initial;
+-- an image that a life begins with, before a run
+pub begins_left : (image : List ℕ) → IsBeginning image → IsLeft image []
+begins_left image begins = record {
+  image_shows = begins.shows;
+  forms_show = begins.forms;
+  settled = begins.settled;
   apart = λ i j d lt low. absurd (omega arith);
   known = λ s shown k d low. absurd (omega arith);
 }
@@ -529,7 +528,13 @@ lives once image given (run ∷ runs) left (start, is_run, follow) =
     (lives once run.image (given ++ given_of run.course (answers_begun (length run.sunk) run.deeds)) runs next follow)
 
 life_left : ShowsOnce → (image : List ℕ) (runs : List LifeRun) → IsLife image runs → IsLeft (left_by image runs) (given_in runs)
-life_left once image runs life = lives once image [] runs (begins_left image life.initial) life.follow
+life_left once image runs life = lives once image [] runs (begins_left image life.begins) life.follow
+
+-- what a life left, another may begin with
+pub left_begins : ShowsOnce → (image : List ℕ) (runs : List LifeRun) → IsLife image runs → IsBeginning (left_by image runs)
+left_begins once image runs life =
+    let left : IsLeft (left_by image runs) (given_in runs) = life_left once image runs life in
+    record { shows = left.image_shows; forms = left.forms_show; settled = left.settled }
 
 -- no two uses of all runs have one key, by identifier or by octets, and one number, and no two acceptances
 pub once_in_life : ShowsOnce → (image : List ℕ) (runs : List LifeRun) → IsLife image runs → OnceInLife runs

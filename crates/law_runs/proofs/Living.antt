@@ -62,7 +62,7 @@ module _ (well : LivesWell) where
         sound = sound;
         moment = moment;
       }) in
-      let next : IsLife image (runs ++ run_of call account plan state ends left sunk ∷ []) = record { initial = life.initial; follow = longer } in
+      let next : IsLife image (runs ++ run_of call account plan state ends left sunk ∷ []) = record { begins = life.begins; follow = longer } in
       record { life = next; once = well.once image _ next }
 
   pub keeps_lives : (call : CallSeen) (account : Account)

@@ -1,8 +1,11 @@
-//! Laws of lives: what holds of all runs since one `init`, and what a call adds.
+//! Laws of lives: what one may begin with, what holds of all its runs, and what a call adds.
 ghost use Rattle.std.specs.Prelude.{ℕ, IsTrue, List, []};
 ghost use Rattle.std.specs.List.{All};
 ghost use Rattle.unit_state.specs.declared.state.State.{State};
-ghost use Rattle.run_promise.specs.Life.{given_in, IsLife, left_by, LifeRun, OnceInLife};
+ghost use Rattle.unit_image.specs.Image.{IsAtRest};
+ghost use Rattle.unit_image.specs.Shows.{Shows};
+ghost use Rattle.run_promise.specs.Life.{given_in, IsBeginning, IsInitial, IsLife, left_by, LifeRun};
+ghost use Rattle.run_promise.specs.Life.{OnceInLife};
 ghost use Rattle.law_runs.specs.Known.{IsShown, Knows, LeavesKnowing};
 ghost use Rattle.run_promise.specs.Sound.{IsSound};
 ghost use Rattle.unit_plan.specs.PlanLines.{PlanLines};
@@ -13,6 +16,16 @@ ghost use Rattle.run_promise.specs.Lives.{KeepsLives, KeepsLivesReading, no_acco
 ghost use Rattle.law_runs.specs.Reads.{ReadsSoundly};
 
 use unit_image::shows_one;
+
+/// Law: a life may begin with the image that `init` makes of a plan, with each image at rest that shows a state, of
+/// version 1 or 2, and with what another life left.
+pub fn life_may_begin()
+    ensures made { (image : List ℕ) → IsInitial image → IsBeginning image }
+    ensures rests { (image : List ℕ) (state : State) → Shows image state → IsAtRest image → IsBeginning image }
+    ensures left { (image : List ℕ) (runs : List LifeRun) → IsLife image runs → IsBeginning (left_by image runs) }
+{
+    shows_one();
+}
 
 /// Law: in every life no two answers of all runs use one number under one key, and no two accept one, by identifier or
 /// by octets.

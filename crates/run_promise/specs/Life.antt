@@ -2,7 +2,7 @@
 use Rattle.std.specs.Prelude.{◌≡◌, ◌≢◌, ◌⊎◌, ⊤, ℕ, ◌-◌, nat_lt, if◌then◌else◌, List, [], ◌∷◌, ◌++◌, length}
 use Rattle.std.specs.Prelude.{IsSomeAnd, Ok}
 use Rattle.std.specs.List.{AllPairs}
-use Rattle.unit_image.specs.Image.{held}
+use Rattle.unit_image.specs.Image.{held, HasOneClosed, IsOpenedForm}
 use Rattle.record_io.specs.declared.kinds.RecordKind.{RecordKind}
 use Rattle.record_io.specs.declared.kinds.RecordKind.TheVariants.{Protect, Open, Command, Monitor}
 use Rattle.record_io.specs.declared.answers.Answer.{Answer}
@@ -54,9 +54,16 @@ abbrev pub IsInitial : List ℕ → Type 0
 IsInitial image = (text : List ℕ) × (plan : PlanLines) × (first : State) × SaysPlan text plan first
     × (image ≡ image_of_plan text plan first)
 
--- the first run starts from an image that `init` made
+-- The image shows a state, and so does each of its opened forms; at most one closed gate of it is other than 0. Each
+-- image at rest that shows a state is such, of version 1 or 2, and so is the one that `init` makes.
+pub record IsBeginning (image : List ℕ) : Type 0 where
+  pub shows : (state : State) × Shows image state
+  pub forms : (form : List ℕ) → IsOpenedForm image form → (state : State) × Shows form state
+  pub settled : HasOneClosed image
+
+-- the first run starts from such an image
 pub record IsLife (image : List ℕ) (runs : List LifeRun) : Type 0 where
-  pub initial : IsInitial image
+  pub begins : IsBeginning image
   pub follow : FollowFrom image runs
 
 -- the image that the runs left
