@@ -10,6 +10,7 @@ pub mod Statuses
 pub mod Segments
 pub mod Placed
 pub mod Living
+pub mod Before
 pub mod Alike
 pub mod Fronts
 pub mod Doing

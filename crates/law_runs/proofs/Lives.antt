@@ -75,7 +75,7 @@ pairs_append {X} R (x ∷ xs) ys first second cross =
     AllPairs-cons R x (xs ++ ys) (All-append (R x) xs ys (pairs_head R x xs first) (cross 0 x (omega arith)))
     (pairs_append R xs ys (pairs_tail R x xs first) second (all_tail (λ (x : X). All (R x) ys) x xs cross))
 
-begun_any : (P : Deed → Type 0) (count : ℕ) (ds : List Deed) → All P ds → All P (answers_begun count ds)
+pub begun_any : (P : Deed → Type 0) (count : ℕ) (ds : List Deed) → All P ds → All P (answers_begun count ds)
 begun_any P count [] h = h
 begun_any P count (d ∷ ds) h = go (nat_lt 0 count) (begun_any P (count - length (answer_octets d.answer)) ds (all_tail P d ds h))
   where
@@ -104,10 +104,10 @@ begun_pairs R count (d ∷ ds) h = go (nat_lt 0 count) (begun_pairs R (count - l
     go false rest = λ i j e lt low. absurd (omega arith)
 
 module _ (course : Course) where
-  abbrev as_given : Deed → Given
+  abbrev pub as_given : Deed → Given
   as_given deed = record { course = course; deed = deed }
 
-  given_all : (P : Given → Type 0) (ds : List Deed) → All (λ (d : Deed). P (as_given d)) ds → All P (given_of course ds)
+  pub given_all : (P : Given → Type 0) (ds : List Deed) → All (λ (d : Deed). P (as_given d)) ds → All P (given_of course ds)
   given_all P [] h = λ k e low. absurd (omega arith)
   given_all P (d ∷ ds) h = all_cons P (as_given d) (given_of course ds) (h 0 d (omega arith))
       (given_all P ds (all_tail (λ (d : Deed). P (as_given d)) d ds h))
@@ -303,14 +303,23 @@ module _ (once : ShowsOnce) (run : LifeRun) (is_run : IsRun run) where
       let low : number < mark_of start r.held.id = subst (λ (k : ℕ). number < mark_of start k) same below in
       omega arith
 
+  -- what is below a mark at the start stays so
+  pub below_on : (p key number : ℕ) → p ≤ length entries → number < mark_of start key → number < mark_of (after_first start entries p) key
+  below_on p key number within low =
+      below_along run.course.begin.plan start (records_of run.places) (TurnIn run.places) entries of 0 p key number (omega arith) within
+      (under key number low) low
+
+  -- and what is within a floor
+  pub floored_on : (p key number : ℕ) → p ≤ length entries → number ≤ floor_of start key → number ≤ floor_of (after_first start entries p) key
+  floored_on p key number within low =
+      let f = kept_along run.course.begin.plan start (records_of run.places) (TurnIn run.places) entries of 0 p key (omega arith) within in
+      let s = kept_at_start key in let l = kept_low p key within in omega arith
+
   -- what the state at the start knows, each state of the run knows
   known_on : (p : ℕ) → p ≤ length entries → (g : Given) → IsKnown start g → IsKnown (after_first start entries p) g
   known_on p within g h = record {
-    below = λ key number u. below_along run.course.begin.plan start (records_of run.places) (TurnIn run.places) entries of 0 p key number (omega arith) within
-        (under key number (h.below key number u)) (h.below key number u);
-    floored = λ key number a.
-        let f = kept_along run.course.begin.plan start (records_of run.places) (TurnIn run.places) entries of 0 p key (omega arith) within in
-        let s = kept_at_start key in let l = kept_low p key within in let old = h.floored key number a in omega arith;
+    below = λ key number u. below_on p key number within (h.below key number u);
+    floored = λ key number a. floored_on p key number within (h.floored key number a);
     named = λ key octets number u. loaded_later start entries 0 p key octets (omega arith) (h.named key octets number u);
     opened = λ key octets number u. loaded_later start entries 0 p key octets (omega arith) (h.opened key octets number u);
   }

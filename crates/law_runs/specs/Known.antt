@@ -14,6 +14,14 @@ pub record Knows (state : State) (given : Given) : Type 0 where
   pub below : (key number : ℕ) → Uses given.deed.answer key number → number < mark_of state key
   pub floored : (key number : ℕ) → Accepts given.deed.answer key number → number ≤ floor_of state key
 
+-- each state that the image shows, or one of its opened forms, has a mark of the key above this number
+abbrev pub IsBelowMarks : List ℕ → ℕ → ℕ → Type 0
+IsBelowMarks image key number = (state : State) → IsShown image state → number < mark_of state key
+
+-- and a floor of the key that is not below this number
+abbrev pub IsWithinFloors : List ℕ → ℕ → ℕ → Type 0
+IsWithinFloors image key number = (state : State) → IsShown image state → number ≤ floor_of state key
+
 -- the image shows a state, which knows each of these answers
 pub record ShowsKnowing (image : List ℕ) (given : List Given) : Type 0 where
   pub state : State

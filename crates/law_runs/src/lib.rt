@@ -14,8 +14,8 @@ mod under_way;
 mod whole;
 
 pub use life::{
-    covered_in_a_life, life_may_begin, sound_call_keeps_lives, sound_reading_keeps_lives,
-    used_once_in_a_life,
+    covered_before_a_life, covered_in_a_life, life_may_begin, sound_call_keeps_lives,
+    sound_reading_keeps_lives, used_once_in_a_life,
 };
 pub use repeated::{
     one_input_is_handled_alike, one_lane_answers_alike, one_lane_fronts_alike, one_lane_runs_alike,

@@ -6,7 +6,8 @@ ghost use Rattle.unit_image.specs.Image.{IsAtRest};
 ghost use Rattle.unit_image.specs.Shows.{Shows};
 ghost use Rattle.run_promise.specs.Life.{given_in, IsBeginning, IsInitial, IsLife, left_by, LifeRun};
 ghost use Rattle.run_promise.specs.Life.{OnceInLife};
-ghost use Rattle.law_runs.specs.Known.{IsShown, Knows, LeavesKnowing};
+ghost use Rattle.run_promise.specs.Answers.{Accepts, Uses};
+ghost use Rattle.law_runs.specs.Known.{IsBelowMarks, IsShown, IsWithinFloors, Knows, LeavesKnowing};
 ghost use Rattle.run_promise.specs.Sound.{IsSound};
 ghost use Rattle.unit_plan.specs.PlanLines.{PlanLines};
 ghost use Rattle.run_promise.specs.Call.{CallSeen, ShowsAtEntry};
@@ -43,6 +44,17 @@ pub fn covered_in_a_life()
     ensures known { (image : List ℕ) (runs : List LifeRun) → IsLife image runs → (state : State)
         → IsShown (left_by image runs) state
         → All (Knows state) (given_in runs) }
+{
+    shows_one();
+}
+
+/// Law: what the marks and floors of its first image cover, a life uses and accepts no more. These are the numbers
+/// below the mark of a key, and up to its floor, in each state that the image or one of its opened forms shows.
+pub fn covered_before_a_life()
+    ensures used { (image : List ℕ) (runs : List LifeRun) (key number : ℕ) → IsLife image runs
+        → IsBelowMarks image key number → All (λ given. ¬ Uses given.deed.answer key number) (given_in runs) }
+    ensures accepted { (image : List ℕ) (runs : List LifeRun) (key number : ℕ) → IsLife image runs
+        → IsWithinFloors image key number → All (λ given. ¬ Accepts given.deed.answer key number) (given_in runs) }
 {
     shows_one();
 }

@@ -20,10 +20,10 @@ pub use law_links::{
     accepted_in_order, no_triple_twice, one_device_in_a_life, two_units_on_one_link,
 };
 pub use law_runs::{
-    covered_in_a_life, due_is_put, faults_are_told, full_is_told, goes_to_its_end, life_may_begin,
-    one_input_is_handled_alike, one_lane_answers_alike, one_lane_fronts_alike, one_lane_runs_alike,
-    refused_stays, status_five_has_a_fault, status_tells_what_came, unhindered_run_completes,
-    used_once_in_a_life, zero_says_all,
+    covered_before_a_life, covered_in_a_life, due_is_put, faults_are_told, full_is_told,
+    goes_to_its_end, life_may_begin, one_input_is_handled_alike, one_lane_answers_alike,
+    one_lane_fronts_alike, one_lane_runs_alike, refused_stays, status_five_has_a_fault,
+    status_tells_what_came, unhindered_run_completes, used_once_in_a_life, zero_says_all,
 };
 pub use laws::audit_passes_a_life;
 pub use record_io::{Outcome, status};
