@@ -2,9 +2,12 @@
 ghost use Rattle.std.specs.Prelude.{◌≡◌, IfOk};
 ghost use Rattle.plan_text.specs.Check.{Judges, SaysFault, Tells};
 
+use crate::above::Above;
+use crate::books::refused_lines;
 use crate::mending::plan_without;
 use crate::note::{PlanNote, note_of};
-use plan_wanted::{Above, Fault, Wanted, refused_lines};
+use crate::reader::Fault;
+use crate::wanted::Wanted;
 use sdls_base::NoMemory;
 use status_text::status_text;
 use std::alloc::Global;
@@ -63,7 +66,7 @@ fn line_at(text: &[u8], number: u32) -> &[u8] {
 }
 
 /// Adds the lines that the books refuse, if the first five lines stand.
-fn add_refused(alloc: Global, text: &[u8], notes: &mut Vec<PlanNote>) -> Result<(), NoMemory> {
+fn note_refused(alloc: Global, text: &[u8], notes: &mut Vec<PlanNote>) -> Result<(), NoMemory> {
     let Some(plan) = plan_without(alloc, text, notes.as_slice())? else {
         return Ok(());
     };
@@ -121,7 +124,7 @@ fn say(alloc: Global, text: &[u8], fault: PlanFault) -> Result<Checked, NoMemory
         });
     }
     let mut notes = faults_of_text(alloc, text)?;
-    add_refused(alloc, text, &mut notes)?;
+    note_refused(alloc, text, &mut notes)?;
     let (first, others) = part(alloc, notes, plain)?;
     Ok(Checked::NoPlan { first, others })
 }

@@ -1,5 +1,6 @@
 //! A plan without its lines at fault, so that the books can be asked about the others.
 
+use crate::line::head_of;
 use crate::note::PlanNote;
 use sdls_base::NoMemory;
 use std::alloc::Global;
@@ -14,22 +15,14 @@ fn stand_in(line: &[u8]) -> &'static [u8] {
     let Some(word) = Words::of(line).next() else {
         return b"";
     };
-    if word == b"sdls".as_slice() {
-        return b"sdls 1";
+    match head_of(word) {
+        Some(0) => b"sdls 1",
+        Some(1) => b"device 00000000",
+        Some(2) => b"slots 16",
+        Some(3) => b"block 1",
+        Some(_) => b"accept 1",
+        None => b"",
     }
-    if word == b"device".as_slice() {
-        return b"device 00000000";
-    }
-    if word == b"slots".as_slice() {
-        return b"slots 16";
-    }
-    if word == b"block".as_slice() {
-        return b"block 1";
-    }
-    if word == b"accept".as_slice() {
-        return b"accept 1";
-    }
-    b""
 }
 
 /// The text with other lines for those that have a note. The notes ascend by line.

@@ -1,8 +1,8 @@
 //! What is said of a line at fault.
 ghost use Rattle.std.specs.Prelude.{◌≡◌, IfOk};
 
-use crate::wanted::{wanted_number, wanted_text};
-use plan_wanted::Fault;
+use crate::phrases::{wanted_number, wanted_text};
+use crate::reader::{Fault, are_digits};
 use sdls_base::NoMemory;
 use std::alloc::Global;
 use text_words::{put_decimal, put_octets};
@@ -17,6 +17,8 @@ const MOST_SHOWN_OF_KEY: usize = 9;
 /// So many digits are not shown on any line: no number has so many that is in its bounds, and no mask.
 const LEAST_OF_KEY: usize = 16;
 
+const DIGITS: [u8; 16] = *b"0123456789abcdef";
+
 /// A line at fault, and what is said of it.
 #[derive(Drop)]
 pub struct PlanNote {
@@ -26,20 +28,14 @@ pub struct PlanNote {
     pub text: Vec<u8>,
 }
 
-/// The hexadecimal digit of a number.
-fn digit(n: u8) -> u8 {
-    match n % 16 {
-        n if n < 10 => b'0' + n,
-        n => b'a' + (n - 10),
-    }
-}
-
 /// Puts an octet of a word: as it is if it is visible ASCII, else `\x` and two digits.
 fn put_octet(text: &mut Vec<u8>, octet: u8) -> Result<(), NoMemory> {
     if octet.is_ascii_graphic() {
         return put_octets(text, &[octet]);
     }
-    put_octets(text, &[b'\\', b'x', digit(octet / 16), digit(octet % 16)])
+    let high = DIGITS[usize::from(octet / 16)];
+    let low = DIGITS[usize::from(octet % 16)];
+    put_octets(text, &[b'\\', b'x', high, low])
 }
 
 /// Puts a word: its first octets.
@@ -57,18 +53,13 @@ fn put_seen(text: &mut Vec<u8>, word: &[u8]) -> Result<(), NoMemory> {
     put_octets(text, b"\"")
 }
 
-/// Whether a word may be the digits of a key, or a part of them, on a line of its own.
-fn may_be_key(word: &[u8]) -> bool {
-    word.len() >= LEAST_OF_KEY && word.iter().all(|octet| octet.is_ascii_hexdigit())
-}
-
 /// Whether a word may be shown. None is that may be the digits of a key, and of a line that loads a key none that may
 /// be a part of them.
 fn may_show(line: &[u8], place: u32, word: &[u8]) -> bool {
     if line.starts_with(b"key") {
         return place <= 3 && word.len() <= MOST_SHOWN_OF_KEY;
     }
-    !may_be_key(word)
+    word.len() < LEAST_OF_KEY || !are_digits(word, word.len())
 }
 
 /// Puts where a word stands, and the word itself.

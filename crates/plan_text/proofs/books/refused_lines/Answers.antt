@@ -1,6 +1,6 @@
 use Rattle.std.proofs.Common.{rules}
-use Rattle.plan_wanted.proofs.Lines.{association_line}
-use Rattle.plan_wanted.proofs.books.refused_lines.Goals as goal
+use Rattle.plan_text.proofs.Lines.{association_line}
+use Rattle.plan_text.proofs.books.refused_lines.Goals as goal
 
 pub loop-found-preserved : goal.loop-found-preserved
 loop-found-preserved c = c.in_ok-add_refused.ensures c.args.plan.now

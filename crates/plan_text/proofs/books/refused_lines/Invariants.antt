@@ -1,6 +1,6 @@
 use Rattle.std.proofs.Common.{All}
-use Rattle.plan_wanted.specs.Wanted.{IsLineOf}
-use Rattle.plan_wanted.proofs.books.refused_lines.Given as goal
+use Rattle.plan_text.specs.Wanted.{IsLineOf}
+use Rattle.plan_text.proofs.books.refused_lines.Given as goal
 
 -- so far only lines of the plan
 abbrev pub invariant-loop-found : goal.invariant-loop-found

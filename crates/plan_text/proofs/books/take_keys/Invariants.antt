@@ -1,6 +1,6 @@
 use Rattle.std.proofs.Common.{All}
-use Rattle.plan_wanted.specs.Wanted.{IsLineOf}
-use Rattle.plan_wanted.proofs.books.take_keys.Given as goal
+use Rattle.plan_text.specs.Wanted.{IsLineOf}
+use Rattle.plan_text.proofs.books.take_keys.Given as goal
 
 -- so far only lines of the plan
 abbrev pub invariant-loop-key : goal.invariant-loop-key

@@ -7,9 +7,9 @@ use unit_plan::{Words, number_of};
 
 /// The place of a word at fault among the words of its line, from 1, and what was expected there.
 #[derive(Clone, Copy)]
-pub struct Fault {
-    pub word: u32,
-    pub wanted: Wanted,
+pub(crate) struct Fault {
+    pub(crate) word: u32,
+    pub(crate) wanted: Wanted,
 }
 
 /// Why a line was read no further.

@@ -1,8 +1,8 @@
 -- Profile: which lines of a plan's text may be said to be at fault.
 use Rattle.std.specs.Prelude.{◌≡◌, ℕ, ◌⊎◌, Any, Option, Some, None, nat_lt, if◌then◌else◌}
 use Rattle.unit_plan.specs.PlanLines.{PlanLines}
-use Rattle.plan_wanted.specs.declared.reader.Fault.{Fault}
-use Rattle.plan_wanted.specs.declared.wanted.Wanted.TheVariants as wanted
+use Rattle.plan_text.specs.declared.reader.Fault.{Fault}
+use Rattle.plan_text.specs.declared.wanted.Wanted.TheVariants as wanted
 
 -- a line of a plan that the books are asked about: that of a key or of an association
 abbrev pub IsLineOf : PlanLines → ℕ → Type 0

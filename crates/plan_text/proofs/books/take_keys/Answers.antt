@@ -1,6 +1,6 @@
 use Rattle.std.proofs.Common.{rules}
-use Rattle.plan_wanted.proofs.Lines.{key_line}
-use Rattle.plan_wanted.proofs.books.take_keys.Goals as goal
+use Rattle.plan_text.proofs.Lines.{key_line}
+use Rattle.plan_text.proofs.books.take_keys.Goals as goal
 
 pub loop-key-preserved : goal.loop-key-preserved
 loop-key-preserved c = λ all. c.in_ok-add_refused.ensures c.args.plan.now

@@ -62,9 +62,9 @@ impl Named {
 
 /// What the lines above name.
 #[derive(Drop)]
-pub struct Above {
+pub(crate) struct Above {
     /// How many of the first five lines there are, or were missed.
-    pub heads: u8,
+    pub(crate) heads: u8,
     pub(crate) links: Named,
     frames: Vec<(u64, Frames)>,
     pub(crate) channels: Named,
@@ -75,7 +75,7 @@ pub struct Above {
 
 impl Above {
     /// Before the first line.
-    pub fn new(alloc: Global) -> Above
+    pub(crate) fn new(alloc: Global) -> Above
         ensures { result.heads ≡ 0 }
     {
         Above {

@@ -1,7 +1,7 @@
 //! The tests of a line, from left to right: the first word at fault.
 ghost use Rattle.std.specs.Prelude.{◌≡◌, Ok, None, IsTrue};
 ghost use Rattle.unit_plan.specs.Plan.{is_skipped};
-ghost use Rattle.plan_wanted.specs.Wanted.{missing_head};
+ghost use Rattle.plan_text.specs.Wanted.{missing_head};
 
 use crate::above::{Above, Frames, Spot};
 use crate::reader::{Fault, Reader, Stop, are_digits, at_fault};
@@ -53,7 +53,7 @@ fn test_words(line: &[u8]) -> Result<(), Stop> {
 }
 
 /// The place of a word among the first words of the first five lines.
-fn head_of(word: &[u8]) -> Option<u8> {
+pub(crate) fn head_of(word: &[u8]) -> Option<u8> {
     if word == b"sdls".as_slice() {
         return Some(0);
     }
@@ -149,30 +149,23 @@ fn read_frames(words: &mut Reader<'_>) -> Result<Frames, Stop> {
     Ok(frames)
 }
 
-fn no_map(words: &mut Reader<'_>, wanted: Wanted) -> Result<Option<u64>, Stop> {
-    let word = words.next(wanted)?;
-    if word == b"-".as_slice() {
-        return Ok(None);
-    }
-    Err(words.fault(wanted))
-}
-
-fn any_map(words: &mut Reader<'_>) -> Result<Option<u64>, Stop> {
-    let word = words.next(Wanted::Channel(ChannelWord::MapOrNone))?;
+/// No MAP, or any number if the line of the link is at fault.
+fn map_or_none(words: &mut Reader<'_>, wanted: ChannelWord) -> Result<Option<u64>, Stop> {
+    let word = words.next(Wanted::Channel(wanted))?;
     if word == b"-".as_slice() {
         return Ok(None);
     }
     match number_of(word) {
-        Some(n) => Ok(Some(n)),
-        None => Err(words.fault(Wanted::Channel(ChannelWord::MapOrNone))),
+        Some(n) if wanted == ChannelWord::MapOrNone => Ok(Some(n)),
+        _ => Err(words.fault(Wanted::Channel(wanted))),
     }
 }
 
 fn read_map(words: &mut Reader<'_>, frames: Frames) -> Result<Option<u64>, Stop> {
     match frames {
         Frames::Segments => Ok(Some(words.number(0, 63, Wanted::Channel(ChannelWord::Map))?)),
-        Frames::Unknown => any_map(words),
-        Frames::Tc | Frames::Tm | Frames::Aos => no_map(words, Wanted::Channel(ChannelWord::NoMap)),
+        Frames::Tc | Frames::Tm | Frames::Aos => map_or_none(words, ChannelWord::NoMap),
+        Frames::Unknown => map_or_none(words, ChannelWord::MapOrNone),
     }
 }
 
@@ -419,7 +412,7 @@ impl Above {
     }
 
     /// The first word of a line that is at fault. An empty line and a comment have none, and change nothing.
-    pub fn fault_of(
+    pub(crate) fn fault_of(
         &mut self,
         alloc: Global,
         line: u32,
@@ -438,7 +431,7 @@ impl Above {
     }
 
     /// Which of the first five lines is missing at the end.
-    pub fn missing_head(&self) -> Option<Fault>
+    pub(crate) fn missing_head(&self) -> Option<Fault>
         ensures { result ≡ missing_head self.now.heads }
     {
         if self.heads >= 5 {

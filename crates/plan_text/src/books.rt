@@ -3,7 +3,7 @@ ghost use Rattle.std.specs.Prelude.{length, All, IfOk, OnOk};
 ghost use Rattle.sdls_base.specs.Bounds.{IsKeyLength};
 ghost use Rattle.unit_plan.specs.PlanLines.{PlanLines};
 ghost use Rattle.unit_plan.specs.PlanRules.{IsAssociation};
-ghost use Rattle.plan_wanted.specs.Wanted.{IsLineOf};
+ghost use Rattle.plan_text.specs.Wanted.{IsLineOf};
 
 use crate::reader::Fault;
 use crate::wanted::{Refused, Wanted};
@@ -14,12 +14,11 @@ use std::alloc::Global;
 use unit_plan::{Plan, PlanKey, PlanSa};
 use unit_state::State;
 
-fn other(word: u32) -> Fault {
-    Fault {
-        word,
-        wanted: Wanted::Other,
-    }
-}
+/// For what no book refuses of a plan that was read.
+const OTHER: Fault = Fault {
+    word: 1,
+    wanted: Wanted::Other,
+};
 
 fn refused(word: u32, refused: Refused) -> Fault {
     Fault {
@@ -32,27 +31,23 @@ fn key_fault(refusal: KeyRefusal) -> Fault {
     match refusal {
         KeyRefusal::DuplicateKey(key) => refused(4, Refused::OtherOctets(u64::from(key.get()))),
         KeyRefusal::BookFull => refused(1, Refused::KeyRoom),
-        _ => other(1),
-    }
-}
-
-fn suite_key(suite: Suite) -> Refused {
-    match suite {
-        Suite::Cmac => Refused::CmacKey,
-        Suite::Gcm => Refused::GcmKey,
+        _ => OTHER,
     }
 }
 
 fn association_fault(suite: Suite, refusal: SaRefusal) -> Fault {
     match refusal {
         SaRefusal::TableFull => refused(1, Refused::AssociationRoom),
-        SaRefusal::WrongSuite => refused(5, suite_key(suite)),
+        SaRefusal::WrongSuite => match suite {
+            Suite::Cmac => refused(5, Refused::CmacKey),
+            Suite::Gcm => refused(5, Refused::GcmKey),
+        },
         SaRefusal::KeyNotActive(_) => refused(5, Refused::ActiveKey),
         SaRefusal::KeyTaken(spi) => refused(5, Refused::FreeKey(u64::from(spi.get()))),
         SaRefusal::PastEnd(end) => refused(6, Refused::NumberBelow(end)),
         SaRefusal::BelowFloor(least) => refused(6, Refused::NumberFrom(least)),
         SaRefusal::ChannelTaken(spi) => refused(8, Refused::FreeChannels(u64::from(spi.get()))),
-        _ => other(1),
+        _ => OTHER,
     }
 }
 
@@ -190,7 +185,7 @@ fn take_keys(
 }
 
 /// What the books refuse of a plan: each line, and the word at fault.
-pub fn refused_lines(alloc: Global, plan: &Plan) -> Result<Vec<(u32, Fault)>, NoMemory>
+pub(crate) fn refused_lines(alloc: Global, plan: &Plan) -> Result<Vec<(u32, Fault)>, NoMemory>
     ensures { IfOk result (λ faults. All (λ fault. IsLineOf plan.now fault.0) faults.items) }
 {
     let mut state = bare(alloc, plan)?;

@@ -1,0 +1,161 @@
+//! What was expected at a word that is at fault, in words.
+
+use crate::wanted::{
+    AssociationWord, ChannelWord, HeadWord, KeyWord, LinkWord, NamedAbove, Refused, Spelling,
+    Wanted,
+};
+use sdls_base::{MOST_ASSOCIATIONS, MOST_KEYS};
+
+fn spelling_text(spelling: Spelling) -> &'static [u8] {
+    match spelling {
+        Spelling::LineFeed => b"a line feed alone, but the line ends with CR LF",
+        Spelling::NoMark => b"a line without a byte order mark before it",
+        Spelling::OneSpace =>
+            b"one space between two words, none before the first and none behind the last",
+        Spelling::NoTab => b"a space in place of the tab",
+        Spelling::Ascii => b"a word of visible ASCII",
+        Spelling::NoComment => b"the end of the line, for a comment has a line of its own",
+        Spelling::End => b"the end of the line",
+    }
+}
+
+fn head_text(head: u8) -> &'static [u8] {
+    match head {
+        0 => b"the line sdls 1, the first of the five that come before all others",
+        1 => b"the line of device, the second of the five that come before all others",
+        2 => b"the line of slots, the third of the five that come before all others",
+        3 => b"the line of block, the fourth of the five that come before all others",
+        _ => b"the line of accept, the fifth of the five that come before all others",
+    }
+}
+
+fn head_word_text(word: HeadWord) -> &'static [u8] {
+    match word {
+        HeadWord::Version => b"the version 1",
+        HeadWord::Device => b"8 hexadecimal digits",
+        HeadWord::Slots => b"a number, 16 to 65536",
+        HeadWord::Count => b"a number, 1 to 65536",
+    }
+}
+
+fn link_text(word: LinkWord) -> &'static [u8] {
+    match word {
+        LinkWord::Number => b"a link, 0 to 15",
+        LinkWord::Frames => b"tc, tm or aos",
+        LinkWord::Segments => b"seg or noseg",
+        LinkWord::Fecf => b"fecf or nofecf",
+        LinkWord::Ocf => b"ocf or noocf",
+        LinkWord::LongMask => b"a mask of 12 hexadecimal digits, or - for the usual one",
+        LinkWord::ShortMask => b"a mask of 10 hexadecimal digits, or - for the usual one",
+        LinkWord::Length => b"a length of frames, 48 to 2048",
+        LinkWord::LengthFrom(_) => b"a length of 48 and the insert zone at least, so of ",
+        LinkWord::Insert => b"an insert zone, 0 to 64",
+    }
+}
+
+fn channel_text(word: ChannelWord) -> &'static [u8] {
+    match word {
+        ChannelWord::Number => b"a channel, 0 to 63",
+        ChannelWord::Spacecraft(_) => b"a spacecraft, 0 to ",
+        ChannelWord::VirtualChannel(_) => b"a virtual channel, 0 to ",
+        ChannelWord::Map => b"a MAP, 0 to 63, for the link has segment headers",
+        ChannelWord::NoMap => b"-, for the link has no segment headers",
+        ChannelWord::MapOrNone => b"a MAP, 0 to 63, or - if the link has no segment headers",
+    }
+}
+
+fn key_text(word: KeyWord) -> &'static [u8] {
+    match word {
+        KeyWord::Number => b"a key, 1 to 65535",
+        KeyWord::State => b"preactive or active",
+        KeyWord::Digits => b"32 or 64 hexadecimal digits",
+    }
+}
+
+fn association_text(word: AssociationWord) -> &'static [u8] {
+    match word {
+        AssociationWord::Spi => b"an index, 1 to 65534",
+        AssociationWord::Direction => b"send or receive",
+        AssociationWord::Suite => b"cmac or gcm",
+        AssociationWord::Number => b"a number, 0 to 281474976710656",
+        AssociationWord::Window => b"a window, 1 to 4294967296",
+        AssociationWord::Channels => {
+            b"one to eight channels, 0 to 63, each above the one before, with commas between"
+        }
+    }
+}
+
+fn named_text(named: NamedAbove) -> &'static [u8] {
+    match named {
+        NamedAbove::KnownLink => b"a link that has a line before",
+        NamedAbove::KnownKey => b"a key that has a line before",
+        NamedAbove::KnownChannel(_) => b"channels that have a line before, which lacks for ",
+        NamedAbove::NewLink(_) => b"a link without a line before, but it has line ",
+        NamedAbove::NewChannel(_) => b"a channel without a line before, but it has line ",
+        NamedAbove::NewPlace(_) => b"a place without a channel, but one lies there by line ",
+        NamedAbove::NewKey(_) => b"a key without a line before, but it has line ",
+        NamedAbove::NewSpi(_) => b"an index without a line before, but it has line ",
+    }
+}
+
+fn refused_text(refused: Refused) -> &'static [u8] {
+    match refused {
+        Refused::OtherOctets(_) => b"other octets than those of key ",
+        Refused::KeyRoom => b"no more keys than ",
+        Refused::AssociationRoom => b"no more associations than ",
+        Refused::CmacKey => b"a key for cmac, 32768 to 65535",
+        Refused::GcmKey => b"a key for gcm, 256 to 32767",
+        Refused::ActiveKey => b"a key that is active",
+        Refused::FreeKey(_) => b"a key with which none receives, but it is held by association ",
+        Refused::NumberBelow(_) => b"a number below the end of the key, which is ",
+        Refused::NumberFrom(_) => b"a number not below ",
+        Refused::FreeChannels(_) => {
+            b"channels that none covers in this direction, but one is covered by association "
+        }
+    }
+}
+
+/// What was expected, behind which the number stands if there is one.
+pub(crate) fn wanted_text(wanted: Wanted) -> &'static [u8] {
+    match wanted {
+        Wanted::Spelling(spelling) => spelling_text(spelling),
+        Wanted::Kind => b"sdls, device, slots, block, accept, link, channel, key or sa",
+        Wanted::Head(head) => head_text(head),
+        Wanted::NoHead => b"another line, for the first five stand once and in their order",
+        Wanted::HeadWord(word) => head_word_text(word),
+        Wanted::Link(word) => link_text(word),
+        Wanted::Channel(word) => channel_text(word),
+        Wanted::Key(word) => key_text(word),
+        Wanted::Association(word) => association_text(word),
+        Wanted::NamedAbove(named) => named_text(named),
+        Wanted::Refused(refused) => refused_text(refused),
+        Wanted::ShortText => b"at most 65536 octets in all",
+        Wanted::Other => b"a line that a plan may have",
+    }
+}
+
+/// The number behind the text.
+pub(crate) fn wanted_number(wanted: Wanted) -> Option<u64> {
+    match wanted {
+        Wanted::Link(LinkWord::LengthFrom(n))
+        | Wanted::Channel(ChannelWord::Spacecraft(n) | ChannelWord::VirtualChannel(n))
+        | Wanted::NamedAbove(
+            NamedAbove::KnownChannel(n)
+            | NamedAbove::NewLink(n)
+            | NamedAbove::NewChannel(n)
+            | NamedAbove::NewPlace(n)
+            | NamedAbove::NewKey(n)
+            | NamedAbove::NewSpi(n),
+        )
+        | Wanted::Refused(
+            Refused::OtherOctets(n)
+            | Refused::FreeKey(n)
+            | Refused::NumberBelow(n)
+            | Refused::NumberFrom(n)
+            | Refused::FreeChannels(n),
+        ) => Some(n),
+        Wanted::Refused(Refused::KeyRoom) => Some(MOST_KEYS as u64),
+        Wanted::Refused(Refused::AssociationRoom) => Some(MOST_ASSOCIATIONS as u64),
+        _ => None,
+    }
+}
