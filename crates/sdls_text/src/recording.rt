@@ -3,10 +3,10 @@
 use record_io::ANSWER_HEADER;
 use record_io::code::END;
 use record_io::status::{DONE, NO_MEMORY, REFUSED, SITE_FAULT, SOURCE_FAULT};
-use recorded_runs::{RunFault, put_beginning, put_run};
 use sdls_outside::{FileSite, Site, SureSource};
 use std::fs;
 use std::io::ErrorKind;
+use text_streams::{RunFault, begin_recording, put_run};
 
 /// The octets that a recorded input begins with.
 const INPUT_BEGINNING: &[u8] = b"SDLSREC1";
@@ -115,7 +115,7 @@ fn put_file(rt: &HostRuntime, sink: &mut FileSite, name: &str) -> u8 {
 
 /// Writes the recording of these files.
 fn put_files(rt: &HostRuntime, sink: &mut FileSite, names: &[String]) -> u8 {
-    if put_beginning(sink).is_err() {
+    if begin_recording(sink).is_err() {
         let _ = eprintln!(rt; "sdls_text: standard output could not be written");
         return SITE_FAULT;
     }

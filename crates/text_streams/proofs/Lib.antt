@@ -3,3 +3,4 @@ pub mod Items
 pub mod Progress
 mod AnswerProgress
 mod ItemProgress
+mod Writing

@@ -3,3 +3,4 @@ pub mod AnswerLines
 pub mod NextItem
 pub mod ItemLines
 pub mod Status
+pub mod Recording

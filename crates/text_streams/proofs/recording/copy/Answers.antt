@@ -1,7 +1,7 @@
 use Rattle.std.proofs.Common.{◌≡◌, ◌+◌, ◌-◌, ◌≤◌, ◌++◌, length, take, ap, ◌∙◌, arith, rules, length-append}
 use Rattle.sdls_outside.proofs.Delivering.{sinks_trans}
-use Rattle.recorded_runs.proofs.Writing.{copied_more}
-use Rattle.recorded_runs.proofs.run.copy.Goals as goal
+use Rattle.text_streams.proofs.Writing.{copied_more}
+use Rattle.text_streams.proofs.recording.copy.Goals as goal
 
 pub returns-in_err-copy_piece-clause-sinks : goal.returns-in_err-copy_piece-clause-sinks
 returns-in_err-copy_piece-clause-sinks g c = λ told.

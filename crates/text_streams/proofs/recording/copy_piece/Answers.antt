@@ -1,8 +1,8 @@
 use Rattle.std.proofs.Common.{◌≡◌, ◌++◌, length, take, ap, ◌∙◌, arith, rules}
 use Rattle.std.proofs.lemmas.List.{take_all}
 use Rattle.sdls_outside.proofs.Delivering.{delivers_put}
-use Rattle.recorded_runs.proofs.Writing.{only_put}
-use Rattle.recorded_runs.proofs.run.copy_piece.Goals as goal
+use Rattle.text_streams.proofs.Writing.{only_put}
+use Rattle.text_streams.proofs.recording.copy_piece.Goals as goal
 
 pub returns-in-Ok-put-clause-copied : goal.returns-in-Ok-put-clause-copied
 returns-in-Ok-put-clause-copied g c =

@@ -1,10 +1,10 @@
--- What puts of a run do to the sink, for `copy_piece`, `copy` and `put_run`.
+-- What puts of a run do to the sink, for `copy_piece`, `copy` and `put_run` of `recording.rt`.
 use Rattle.std.proofs.Common.{◌≡◌, ℕ, Bool, IsTrue, IfOk, List, [], ◌++◌, Result, Ok, Err, ap, sym, ◌∙◌, append_assoc}
 use Rattle.sdls_outside.specs.Moments.{Trace}
 use Rattle.sdls_outside.specs.Site.{Puts}
 use Rattle.sdls_outside.specs.Output.{Delivers, OnlySinks}
 use Rattle.sdls_outside.proofs.Delivering.{delivers_put, sinks_then}
-use Rattle.recorded_runs.specs.Written.{Copied}
+use Rattle.text_streams.specs.Recording.{Copied}
 
 only_delivered : {T E : Type 0} (text : List ℕ) (r : Result T E) (old new : Trace) → Delivers text r old new → OnlySinks old new
 only_delivered text (Ok x) old new sinks = sinks.only_sinks

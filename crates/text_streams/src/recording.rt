@@ -1,12 +1,12 @@
-//! A run, behind its length.
+//! A recording: the octets that it begins with, and a run behind its length.
 ghost use Rattle.std.specs.Prelude.{◌≡◌, ◌<◌, ◌≤◌, ◌^◌, ℕ, List, [], Err, IfOk, IfErr, IsTrue, length};
 ghost use Rattle.sdls_outside.specs.Faults.{HasCause, Rose};
 ghost use Rattle.sdls_outside.specs.Output.{Delivers, OnlySinks};
 ghost use Rattle.pair_audit.specs.Recording.{recording_beginning};
-ghost use Rattle.recorded_runs.specs.Written.{Copied, FaultCause, GoesOn, IsWritten, StopsCopy};
-ghost use Rattle.recorded_runs.specs.declared.fault.RunFault.TheVariants as faults;
+ghost use Rattle.text_streams.specs.Recording.{Copied, FaultCause, GoesOn, IsWritten, StopsCopy};
+ghost use Rattle.text_streams.specs.declared.run_fault.RunFault.TheVariants as faults;
 
-use crate::fault::RunFault;
+use crate::run_fault::RunFault;
 use sdls_outside::{Failed, Site, Source, collect};
 
 /// The octets that a recording begins with.
@@ -16,7 +16,7 @@ const BEGINNING: [u8; 8] = *b"SDLSAUD1";
 const PIECE: usize = 4096;
 
 /// Writes the octets that a recording begins with.
-pub fn put_beginning<O: Site>(sink: &mut O) -> Result<(), Failed>
+pub fn begin_recording<O: Site>(sink: &mut O) -> Result<(), Failed>
     ensures written { IsTrue O.told → Delivers recording_beginning result (O.trace sink.old) (O.trace sink.new) }
     ensures cause { HasCause (O.faults sink.old) (O.faults sink.new) result }
 {

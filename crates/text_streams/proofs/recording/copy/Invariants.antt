@@ -1,6 +1,6 @@
 use Rattle.std.proofs.Common.{◌≡◌, ℕ, ◌-◌, ◌≤◌, List, length}
-use Rattle.recorded_runs.specs.Written.{Copied}
-use Rattle.recorded_runs.proofs.run.copy.Given as goal
+use Rattle.text_streams.specs.Recording.{Copied}
+use Rattle.text_streams.proofs.recording.copy.Given as goal
 
 abbrev pub invariant-pieces : goal.invariant-pieces
 invariant-pieces g l =

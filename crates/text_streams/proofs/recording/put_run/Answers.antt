@@ -1,10 +1,10 @@
 use Rattle.std.proofs.Common.{◌≡◌, ℕ, ◌<◌, ◌^◌, ◌++◌, List, length, ap, sym, subst, ◌∙◌, append-nil, rules}
 use Rattle.std.specs.Int.{w32, to_be_bytes}
 use Rattle.sdls_outside.specs.Output.{Sinks}
-use Rattle.recorded_runs.specs.Written.{IsWritten}
+use Rattle.text_streams.specs.Recording.{IsWritten}
 use Rattle.sdls_outside.proofs.Delivering.{delivers_put, sinks_then, sinks_trans}
-use Rattle.recorded_runs.proofs.Writing.{if_ended, only_put}
-use Rattle.recorded_runs.proofs.run.put_run.Goals as goal
+use Rattle.text_streams.proofs.Writing.{if_ended, only_put}
+use Rattle.text_streams.proofs.recording.put_run.Goals as goal
 
 pub returns-in-Err-clause-sinks : goal.returns-in-Err-clause-sinks
 returns-in-Err-clause-sinks g c = λ told. only_put _ c.put.result _ _ (c.put.ensures.put told)
