@@ -1,10 +1,10 @@
 // Items of recorded input, as lines.
-use item_text::{put_fence, put_record};
 use record_io::{Reader, Record, SegmentEnd};
 use sdls_base::NoMemory;
 use sdls_outside::SureSource;
 use std::alloc::{AllocError, Global};
 use std::str;
+use text_streams::{put_fence, put_record};
 
 /// The most segments that are read of a case.
 const MOST_SEGMENTS: u32 = 64;

@@ -1,4 +1,4 @@
-//! Tables of texts, for the calls of `input_text`, `item_text`, `answer_text`, `text_streams` and `plan_text`. A line
+//! Tables of texts, for the calls of `input_text`, `answer_text`, `text_streams` and `plan_text`. A line
 //! of standard input is a case or a step, and what it answers is printed; `#` and a title is printed as it is.
 //!
 //! `line TEXT` reads a line of recorded input, in which `\r` at the end stands for a carriage return. `items OCTETS`

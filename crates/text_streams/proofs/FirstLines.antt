@@ -5,7 +5,7 @@ use Rattle.std.specs.List.{onto_first}
 use Rattle.std.proofs.lemmas.Bool.Decides.{nat_tests}
 use Rattle.std.proofs.lemmas.List.{append-nil}
 use Rattle.unit_plan.specs.Lines.{lines_of}
-use Rattle.item_text.proofs.PlainWords.{before_mark, both, from_both, lacks, part_then}
+use Rattle.text_streams.proofs.PlainWords.{before_mark, both, from_both, lacks, part_then}
 use Rattle.text_streams.specs.declared.lines.TheConstants.{MOST_LINE}
 use Rattle.text_streams.specs.declared.lines.NextLine.{NextLine}
 use Rattle.text_streams.specs.declared.lines.NextLine.TheVariants as next

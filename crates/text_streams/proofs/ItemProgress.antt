@@ -6,7 +6,7 @@ use Rattle.sdls_outside.specs.Moments.{Between}
 use Rattle.record_io.specs.Input.{IsItem, Item, LacksItem, beginning, item_octets, items_octets}
 use Rattle.record_io.specs.Steps.{IsNoHead}
 use Rattle.record_io.proofs.Items.{item_is, lacks_head, lacks_octets, spelled_item}
-use Rattle.item_text.specs.Spelling.{Spells, SpellsAll, seen_item}
+use Rattle.text_streams.specs.Spelling.{Spells, SpellsAll, seen_item}
 use Rattle.text_streams.specs.declared.ends.End.{End}
 use Rattle.text_streams.specs.declared.ends.End.TheVariants.{Done, LineFault, LongLine, CutAnswer, NoAnswer, NoItem, SourceFault, OutputFault, NoMemory}
 use Rattle.text_streams.specs.declared.reading.ItemHead.{ItemHead}

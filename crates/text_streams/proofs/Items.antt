@@ -6,7 +6,7 @@ use Rattle.record_io.specs.Input.{Item, item_octets, items_octets}
 use Rattle.input_text.specs.declared.line.Line.{Line}
 use Rattle.input_text.specs.Plain.{is_skipped}
 use Rattle.input_text.specs.Line.{Says, line_item}
-use Rattle.item_text.specs.Spelling.{SayItems}
+use Rattle.text_streams.specs.Spelling.{SayItems}
 use Rattle.text_streams.specs.TextLine.{AddsNext, Reads}
 
 skipped_more : (lines : List (List ℕ)) (items : List Item) (text : List ℕ) → SayItems lines items → IsTrue (is_skipped text)

@@ -4,7 +4,7 @@ use Rattle.std.specs.Prelude.{Option, Some, None}
 use Rattle.std.specs.List.{AllByRecursion}
 use Rattle.sdls_outside.specs.Moments.{Between}
 use Rattle.record_io.specs.Input.{IsItem, Item, LacksBeginning, LacksItem, beginning, item_octets, items_octets}
-use Rattle.item_text.specs.Spelling.{Spells, SpellsAll, seen_item}
+use Rattle.text_streams.specs.Spelling.{Spells, SpellsAll, seen_item}
 use Rattle.text_streams.specs.declared.ends.End.{End}
 use Rattle.text_streams.specs.declared.ends.End.TheVariants.{Done, LineFault, LongLine, CutAnswer, NoAnswer, NoItem}
 use Rattle.text_streams.specs.declared.ends.End.TheVariants.{SourceFault, OutputFault, NoMemory}

@@ -1,3 +1,4 @@
+pub mod Spelling
 pub mod TextLine
 pub mod AnswerLines
 pub mod NextItem

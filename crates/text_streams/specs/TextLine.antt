@@ -6,7 +6,7 @@ use Rattle.record_io.specs.Input.{Item, beginning, item_octets, items_octets}
 use Rattle.input_text.specs.declared.line.Line.{Line}
 use Rattle.input_text.specs.Plain.{is_skipped}
 use Rattle.input_text.specs.Line.{Says, line_item}
-use Rattle.item_text.specs.Spelling.{SayItems}
+use Rattle.text_streams.specs.Spelling.{SayItems}
 use Rattle.text_streams.specs.declared.ends.End.{End}
 use Rattle.text_streams.specs.declared.ends.End.TheVariants.{Done, LineFault, LongLine, CutAnswer, NoAnswer, NoItem}
 use Rattle.text_streams.specs.declared.ends.End.TheVariants.{SourceFault, OutputFault, NoMemory}

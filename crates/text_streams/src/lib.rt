@@ -1,9 +1,12 @@
-//! Recorded input and answers as text, and recorded outputs of runs as one recording, from a source to a sink (profile).
-//! Each call streams: what is read ahead and what is not yet put is bounded, whatever the length of the input.
+//! Recorded input and answers as text, and outputs of runs as one recording, from a source to a sink (profile). Each
+//! call streams: what is read ahead and what is not yet put is bounded, whatever the length of the input.
 //!
 //! [`put_records`] puts the recorded input that lines of text say, [`put_lines`] the lines of recorded input, and
 //! [`put_answers`] the lines of answers, as words or as JSON objects. Each says by its [`End`] why the input was read
 //! no further.
+//!
+//! The line of one item is put by [`put_record`] and [`put_fence`]. [`line_says_itself`] is the law that the words of a
+//! line say this line, and [`items_said_again`] the law that the lines of items say these items.
 //!
 //! A recording is what the word `audit` reads: [`begin_recording`] puts the octets that it begins with, and [`put_run`]
 //! a run, which is the length of what the run wrote in 4 octets, and that.
@@ -11,17 +14,24 @@
 
 mod answers;
 mod ends;
+mod item_line;
+mod laws;
 mod lines;
+mod printing;
 mod putting;
 mod reading;
 mod recording;
 mod records;
 mod run_fault;
 mod show;
+mod values;
+mod words;
 
 pub use answer_text::Form;
 pub use answers::put_answers;
 pub use ends::End;
+pub use laws::{items_said_again, line_says_itself};
+pub use printing::{put_fence, put_record};
 pub use recording::{begin_recording, put_run};
 pub use records::put_records;
 pub use run_fault::RunFault;

@@ -2,15 +2,15 @@
 ghost use Rattle.std.specs.Prelude.{◌≡◌, ◌≤◌, ◌++◌, IsTrue, OnOk, IfNone, IfSome};
 ghost use Rattle.sdls_outside.specs.Faults.{Rose};
 ghost use Rattle.record_io.specs.Input.{IsItem};
-ghost use Rattle.item_text.specs.Spelling.{AddsLine, seen_item};
+ghost use Rattle.text_streams.specs.Spelling.{AddsLine, seen_item};
 ghost use Rattle.text_streams.specs.NextItem.{item_found};
 ghost use Rattle.text_streams.specs.TextLine.{IsFaultCause};
 ghost use Rattle.text_streams.specs.ItemLines.{FailsNextItem, PutsItem, PutsLines, TakesBeginning, counted};
 
 use crate::ends::End;
+use crate::printing::{put_fence, put_record};
 use crate::putting::put_octets;
 use crate::reading::{Found, NextItem, next_item};
-use item_text::{put_fence, put_record};
 use record_io::{ItemKind, Record};
 use sdls_base::NoMemory;
 use sdls_outside::{Failed, Site, Source, collect};

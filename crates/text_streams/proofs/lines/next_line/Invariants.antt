@@ -1,5 +1,5 @@
 use Rattle.std.proofs.Common.{◌≡◌, ◌-◌, ◌≤◌, ◌++◌, true, length, IsTrue}
-use Rattle.item_text.proofs.PlainWords.{lacks}
+use Rattle.text_streams.proofs.PlainWords.{lacks}
 use Rattle.text_streams.proofs.lines.next_line.Given as goal
 
 -- what was taken has no line feed

@@ -1,4 +1,0 @@
-pub mod PlainWords
-pub mod PlainLines
-pub mod MessageOctets
-pub mod ItemLines

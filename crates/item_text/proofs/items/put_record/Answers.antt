@@ -1,7 +1,0 @@
-use Rattle.item_text.proofs.ItemLines.{adds}
-use Rattle.item_text.proofs.items.put_record.Goals as goal
-
-pub returns : goal.returns
-returns c is =
-    let line = c.in_ok-line.ensures in
-    adds c.in_ok-line.line _ _ _ (line.bounds is) line.item line.named c.in_ok-put_line.ensures
