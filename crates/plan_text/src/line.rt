@@ -155,8 +155,8 @@ fn map_or_none(words: &mut Reader<'_>, wanted: ChannelWord) -> Result<Option<u64
     if word == b"-".as_slice() {
         return Ok(None);
     }
-    match number_of(word) {
-        Some(n) if wanted == ChannelWord::MapOrNone => Ok(Some(n)),
+    match (wanted, number_of(word)) {
+        (ChannelWord::MapOrNone, Some(n)) => Ok(Some(n)),
         _ => Err(words.fault(Wanted::Channel(wanted))),
     }
 }

@@ -1,7 +1,7 @@
 //! What was expected at a word that is at fault.
 
 /// What was expected at a word that is at fault.
-#[derive(Clone, Copy, PartialEq, Eq)]
+#[derive(Clone, Copy)]
 pub(crate) enum Wanted {
     Spelling(Spelling),
     /// The first word of a line.
@@ -24,7 +24,7 @@ pub(crate) enum Wanted {
 }
 
 /// How words stand on a line, whatever they say.
-#[derive(Clone, Copy, PartialEq, Eq)]
+#[derive(Clone, Copy)]
 pub(crate) enum Spelling {
     LineFeed,
     NoMark,
@@ -36,7 +36,7 @@ pub(crate) enum Spelling {
 }
 
 /// The second word of one of the first five lines.
-#[derive(Clone, Copy, PartialEq, Eq)]
+#[derive(Clone, Copy)]
 pub(crate) enum HeadWord {
     Version,
     Device,
@@ -45,7 +45,7 @@ pub(crate) enum HeadWord {
 }
 
 /// A word of the line of a link.
-#[derive(Clone, Copy, PartialEq, Eq)]
+#[derive(Clone, Copy)]
 pub(crate) enum LinkWord {
     Number,
     Frames,
@@ -61,7 +61,7 @@ pub(crate) enum LinkWord {
 }
 
 /// A word of the line of a channel.
-#[derive(Clone, Copy, PartialEq, Eq)]
+#[derive(Clone, Copy)]
 pub(crate) enum ChannelWord {
     Number,
     /// At most this number.
@@ -74,7 +74,7 @@ pub(crate) enum ChannelWord {
 }
 
 /// A word of the line of a key.
-#[derive(Clone, Copy, PartialEq, Eq)]
+#[derive(Clone, Copy)]
 pub(crate) enum KeyWord {
     Number,
     State,
@@ -82,7 +82,7 @@ pub(crate) enum KeyWord {
 }
 
 /// A word of the line of an association.
-#[derive(Clone, Copy, PartialEq, Eq)]
+#[derive(Clone, Copy)]
 pub(crate) enum AssociationWord {
     Spi,
     Direction,
@@ -93,7 +93,7 @@ pub(crate) enum AssociationWord {
 }
 
 /// What the lines above name, or do not name.
-#[derive(Clone, Copy, PartialEq, Eq)]
+#[derive(Clone, Copy)]
 pub(crate) enum NamedAbove {
     KnownLink,
     KnownKey,
@@ -108,7 +108,7 @@ pub(crate) enum NamedAbove {
 }
 
 /// What the books do not refuse.
-#[derive(Clone, Copy, PartialEq, Eq)]
+#[derive(Clone, Copy)]
 pub(crate) enum Refused {
     /// This key has the same octets.
     OtherOctets(u64),
