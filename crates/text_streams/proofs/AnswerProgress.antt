@@ -1,7 +1,6 @@
 -- The lines of answers, one after the other, for `put_next` and `put_answers`.
-use Rattle.std.proofs.Common.{◌≡◌, ℕ, ◌+◌, ◌++◌, List, [], ◌∷◌, length, take, inl, refl, sym, ap, ◌∙◌, arith, append_assoc, length-append}
+use Rattle.std.proofs.Common.{◌≡◌, ℕ, ◌+◌, ◌++◌, List, [], ◌∷◌, length, inl, refl, sym, ap, ◌∙◌, arith, append_assoc, length-append}
 use Rattle.std.proofs.lemmas.List.{append-nil}
-use Rattle.sdls_outside.specs.Moments.{Between}
 use Rattle.record_io.specs.declared.answers.Answer.{Answer}
 use Rattle.record_io.specs.Answers.{answer_octets, answers_octets}
 use Rattle.answer_text.specs.declared.listing.AnswersEnd.{AnswersEnd}
@@ -12,6 +11,7 @@ use Rattle.answer_text.specs.Listing.{EndsAt, Place, behind}
 use Rattle.text_streams.specs.declared.ends.End.{End}
 use Rattle.text_streams.specs.declared.ends.End.TheVariants.{Done, LineFault, LongLine, CutAnswer, NoAnswer, NoItem, SourceFault, OutputFault, NoMemory}
 use Rattle.text_streams.specs.AnswerLines.{AreLines, FailsNext, PutsAnswers, PutsLine, TakesLine, end_of, first_place}
+use Rattle.text_streams.proofs.Writing.{between_behind}
 
 pub fails_of : (form : Form) (end : AnswersEnd) (place : Place) (left left_new old new : List ℕ) → EndsAt place.offset left left_new end
     → new ≡ old → FailsNext form place left old new (end_of end)
@@ -79,15 +79,6 @@ forth form left old left_now now left_next next place place_next count so_far (l
 
 -- ---- the ends
 
-between_on : (old text line now new : List ℕ) → now ≡ old ++ text → Between now (now ++ line) new
-    → Between old (old ++ (text ++ line)) new
-between_on old text line now new is between =
-    let longer = length-append old text in let same = ap length is in let least = between.least in
-    record {
-      least = omega (arith, longer, same, least);
-      prefix = between.prefix ∙ ap (λ octets. take (length new) octets) (ap (λ octets. octets ++ line) is ∙ append_assoc old text line);
-    }
-
 pub ends_as : (form : Form) (end : End) (left old left_now now new : List ℕ) (place : Place) (count : ℕ)
     → Progress form left old left_now now place count → FailsNext form place left_now now new end → PutsAnswers form left old new end
 ends_as form Done left old left_now now new place count so_far fails = record {
@@ -143,7 +134,7 @@ ends_as form OutputFault left old left_now now new place count so_far (place_nex
       text = so_far.text ++ line;
       lines = more.lines;
       ends = tt;
-      put_is = between_on old so_far.text line now new so_far.put between;
+      put_is = between_behind old so_far.text line now new so_far.put between;
     }
 ends_as form NoMemory left old left_now now new place count so_far fails = record {
   answers = so_far.lines.answers;

@@ -1,8 +1,7 @@
 -- The items of recorded input and their lines, one after the other, for `next_item`, `put_next` and `put_lines`.
-use Rattle.std.proofs.Common.{◌≡◌, ◌≢◌, ℕ, ◌+◌, ◌<◌, ◌++◌, List, [], ◌∷◌, length, map, take, inl, refl, sym, ap, ◌∙◌, arith, append_assoc, length-append}
+use Rattle.std.proofs.Common.{◌≡◌, ◌≢◌, ℕ, ◌+◌, ◌<◌, ◌++◌, List, [], ◌∷◌, length, map, inl, refl, sym, ap, ◌∙◌, arith, append_assoc, length-append}
 use Rattle.std.specs.List.{AllByRecursion}
 use Rattle.std.proofs.lemmas.List.{append-nil}
-use Rattle.sdls_outside.specs.Moments.{Between}
 use Rattle.record_io.specs.Input.{IsItem, Item, LacksItem, beginning, item_octets, items_octets}
 use Rattle.record_io.specs.Steps.{IsNoHead}
 use Rattle.record_io.proofs.Items.{item_is, lacks_head, lacks_octets, spelled_item}
@@ -15,6 +14,7 @@ use Rattle.text_streams.specs.declared.reading.NextItem.{NextItem}
 use Rattle.text_streams.specs.declared.reading.NextItem.TheVariants as nexts
 use Rattle.text_streams.specs.NextItem.{IsItemHead, StandsItem, item_found}
 use Rattle.text_streams.specs.ItemLines.{FailsNextItem, PutsItem, PutsItemLines, TakesItem, counted, offset_behind}
+use Rattle.text_streams.proofs.Writing.{between_behind}
 
 -- ---- one item
 
@@ -129,15 +129,6 @@ forth left old left_now now left_next next offset offset_next count so_far (line
 
 -- ---- the ends
 
-between_on : (old text line now new : List ℕ) → now ≡ old ++ text → Between now (now ++ line) new
-    → Between old (old ++ (text ++ line)) new
-between_on old text line now new is between =
-    let longer = length-append old text in let same = ap length is in let least = between.least in
-    record {
-      least = omega (arith, longer, same, least);
-      prefix = between.prefix ∙ ap (λ octets. take (length new) octets) (ap (λ octets. octets ++ line) is ∙ append_assoc old text line);
-    }
-
 pub ends_as : (end : End) (left old left_now now new : List ℕ) (offset count : ℕ)
     → Progress left old left_now now offset count → FailsNextItem offset left_now now new end → PutsItemLines left old new end
 ends_as Done left old left_now now new offset count so_far fails = record {
@@ -184,7 +175,7 @@ ends_as OutputFault left old left_now now new offset count so_far (offset_next, 
       text = so_far.text ++ line;
       lines = more.lines;
       ends = tt;
-      put_is = between_on old so_far.text line now new so_far.put between;
+      put_is = between_behind old so_far.text line now new so_far.put between;
     }
 ends_as NoMemory left old left_now now new offset count so_far fails = record {
   items = so_far.lines.items;

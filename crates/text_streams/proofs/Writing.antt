@@ -1,6 +1,6 @@
--- What puts of a run do to the sink, for `copy_piece`, `copy` and `put_run` of `recording.rt`.
-use Rattle.std.proofs.Common.{◌≡◌, ℕ, Bool, IsTrue, IfOk, List, [], ◌++◌, Result, Ok, Err, ap, sym, ◌∙◌, append_assoc}
-use Rattle.sdls_outside.specs.Moments.{Trace}
+-- What puts do to the sink, for `recording.rt`; and a front of a line, for `AnswerProgress` and `ItemProgress`.
+use Rattle.std.proofs.Common.{◌≡◌, ℕ, Bool, IsTrue, IfOk, List, [], ◌++◌, length, take, Result, Ok, Err, ap, sym, ◌∙◌, arith, append_assoc, length-append}
+use Rattle.sdls_outside.specs.Moments.{Between, Trace}
 use Rattle.sdls_outside.specs.Site.{Puts}
 use Rattle.sdls_outside.specs.Output.{Delivers, OnlySinks}
 use Rattle.sdls_outside.proofs.Delivering.{delivers_put, sinks_then}
@@ -26,3 +26,13 @@ pub if_ended : {T E : Type 0} (r : Result T E) (told : Bool) (left : List ℕ) (
     → ((IsTrue told → left ≡ []) → P) → IfOk r (λ _. P)
 if_ended (Ok x) told left P ended is = is ended
 if_ended (Err e) told left P ended is = tt
+
+-- a front of a line behind a text is a front of both behind what was there
+pub between_behind : (old text line now new : List ℕ) → now ≡ old ++ text → Between now (now ++ line) new
+    → Between old (old ++ (text ++ line)) new
+between_behind old text line now new is between =
+    let longer = length-append old text in let same = ap length is in let least = between.least in
+    record {
+      least = omega (arith, longer, same, least);
+      prefix = between.prefix ∙ ap (λ octets. take (length new) octets) (ap (λ octets. octets ++ line) is ∙ append_assoc old text line);
+    }
