@@ -245,7 +245,7 @@ explain() {
     *" 5") say "standard output could not be written: what was printed is incomplete" ;;
     "init 6") say "memory ran out, and no image was made: call init again with more memory" ;;
     "run 6") say "memory ran out: give the records without an answer to a further run with more memory" ;;
-    *" 6") say "memory ran out, and nothing was changed: call again with more memory" ;;
+    *" 6") say "memory ran out, and nothing is lost: call again with more memory" ;;
     "init 7") say "this folder has an image already, which was left as it is: make another unit in another folder," \
         "from a plan with other keys" ;;
     "run 7" | "stat 7") say "$(refused_image "$1")" ;;
