@@ -1,5 +1,5 @@
 -- What the one worker of each unit of a drill did, by its views: for proofs alone (profile).
-use Rattle.std.specs.Prelude.{◌≡◌, ℕ, zero, suc, ◌+◌, ◌-◌, ◌*◌, min, Bool, true, false, List, [], ◌++◌, Ok}
+use Rattle.std.specs.Prelude.{◌≡◌, ℕ, zero, suc, ◌+◌, ◌-◌, ◌*◌, ◌≤◌, min, Bool, true, false, List, [], ◌++◌, Ok}
 use Rattle.std.specs.List.{list_any}
 use Rattle.sdls_base.specs.declared.TheConstants.{MOST_KEYS}
 use Rattle.image_beginning.specs.Beginning.{SaysPlan, image_of_plan}
@@ -24,6 +24,7 @@ use Rattle.law_workers.specs.Order.{Layout, LiesIn, Handled}
 use Rattle.law_workers.specs.Opened as runs
 use Rattle.law_workers.specs.Began.{BeganWith}
 use Rattle.law_workers.specs.Ends.{EndsSegment}
+use Rattle.unit_drill.specs.declared.chunk.Pair.{Pair}
 use Rattle.unit_drill.specs.declared.counts.Counts.{Counts}
 use Rattle.unit_drill.specs.declared.records.TheConstants.{CHUNK}
 use Rattle.unit_drill.specs.Counting.{count_accepted, count_code, count_fields, no_counts, sum_of}
@@ -62,6 +63,37 @@ pub record HandlesSegment (begin : Begin) (v w : View) (tasks : List Record) (an
   pub ends : EndsSegment begin v w tasks answers full
   pub quiet : list_any says_fault answers ≡ false
   pub whole : IsWhole MOST_KEYS w
+
+-- ---- both units
+
+-- calls may be made on both
+pub record MayServeBoth (pair : Pair) : Type 0 where
+  pub sends : MayServe pair.sender.unit.counters pair.sender.unit.plan pair.sender.worker
+  pub receives : MayServe pair.receiver.unit.counters pair.receiver.unit.plan pair.receiver.worker
+
+-- each was opened on the image of its plan
+pub record AreOpened (pair : Pair) : Type 0 where
+  pub one : Begin
+  pub other : Begin
+  pub sends : UnitIsOpened sender_plan one (view pair.sender.worker)
+  pub receives : UnitIsOpened receiver_plan other (view pair.receiver.worker)
+
+-- From the one time to the other both units went on from what they began with, and R holds of it and of their views:
+-- those of the first unit before and after, and those of the second.
+abbrev pub GoOn : (Begin → Begin → View → View → View → View → Type 0) → Pair → Pair → Type 0
+GoOn R old new = (one other : Begin)
+    → BeganWith true one (view old.sender.worker).turn.known.opening
+    → BeganWith true other (view old.receiver.worker).turn.known.opening
+    → BeganWith true one (view new.sender.worker).turn.known.opening
+    × BeganWith true other (view new.receiver.worker).turn.known.opening
+    × R one other (view old.sender.worker) (view new.sender.worker) (view old.receiver.worker) (view new.receiver.worker)
+
+-- the counts of one chunk
+pub record AreFew (counts : Counts) : Type 0 where
+  pub protected : counts.protected ≤ 1024
+  pub lost : counts.lost ≤ 1024
+  pub accepted : counts.accepted ≤ 1024
+  pub rejected : counts.rejected ≤ 1024
 
 -- ---- chunks
 

@@ -1,14 +1,12 @@
-//! One chunk of frames.
-ghost use Rattle.std.specs.Prelude.{◌≡◌, ◌*◌, ◌+◌, ◌≤◌, true, IfOk};
-ghost use Rattle.counter_table.specs.Worker.{view};
-ghost use Rattle.run_promise.specs.Begin.{Begin};
-ghost use Rattle.law_workers.specs.Began.{BeganWith};
-ghost use Rattle.unit_drill.specs.Chunks.{IsChunk, MayServe};
+//! The two units of a drill, and one chunk of frames.
+ghost use Rattle.std.specs.Prelude.{◌*◌, ◌+◌, ◌≤◌, IfOk};
+ghost use Rattle.unit_drill.specs.Chunks.{AreFew, AreOpened, GoOn, IsChunk, MayServeBoth};
 ghost use Rattle.unit_drill.specs.LinkChunks.{IsLinkChunk};
 
 use crate::arriving::{CHUNK_PLACES, arrived_frames, arrived_tasks, count_lost};
 use crate::counting::{count_accepted, count_code, count_fields, count_given};
 use crate::counts::Counts;
+use crate::image::{receiver_plan, sender_plan};
 use crate::records::{CHUNK, open_tasks, protect_tasks, replay_tasks};
 use crate::unit::DrillUnit;
 use frame_workers::Gate;
@@ -34,6 +32,17 @@ impl Drop for Pair {
 }
 
 impl Pair {
+    /// The two units, each opened on the image that its plan begins with.
+    pub(crate) fn open<R: Wait>(rt: &R, alloc: Global) -> Result<Pair, NoMemory>
+        ensures ready { IfOk result MayServeBoth }
+        ensures opened { IfOk result AreOpened }
+    {
+        Ok(Pair {
+            sender: DrillUnit::open(rt, alloc, sender_plan())?,
+            receiver: DrillUnit::open(rt, alloc, receiver_plan())?,
+        })
+    }
+
     /// Protects the frames of a chunk, those before `end`, opens those that were protected, and opens the first of them
     /// again.
     pub(crate) fn serve_chunk<R: Threads + Wait + Sync, G: Gate + Sync>(
@@ -47,24 +56,11 @@ impl Pair {
         requires few { chunk ≤ 1024 }
         requires least { CHUNK * chunk ≤ end }
         requires most { end ≤ CHUNK * chunk + CHUNK }
-        requires sends { MayServe self.old.sender.unit.counters self.old.sender.unit.plan self.old.sender.worker }
-        requires receives { MayServe self.old.receiver.unit.counters self.old.receiver.unit.plan
-            self.old.receiver.worker }
-        ensures sends { IfOk result (λ _. MayServe self.new.sender.unit.counters self.new.sender.unit.plan
-            self.new.sender.worker) }
-        ensures receives { IfOk result (λ _. MayServe self.new.receiver.unit.counters self.new.receiver.unit.plan
-            self.new.receiver.worker) }
-        ensures chunk { IfOk result (λ counts. (one other : Begin)
-            → BeganWith true one (view self.old.sender.worker).turn.known.opening
-            → BeganWith true other (view self.old.receiver.worker).turn.known.opening
-            → BeganWith true one (view self.new.sender.worker).turn.known.opening
-            × BeganWith true other (view self.new.receiver.worker).turn.known.opening
-            × IsChunk one other chunk end (view self.old.sender.worker) (view self.new.sender.worker)
-            (view self.old.receiver.worker) (view self.new.receiver.worker) counts) }
-        ensures protected { IfOk result (λ counts. counts.protected ≤ 1024) }
-        ensures lost { IfOk result (λ counts. counts.lost ≡ 0) }
-        ensures accepted { IfOk result (λ counts. counts.accepted ≤ 1024) }
-        ensures rejected { IfOk result (λ counts. counts.rejected ≤ 1024) }
+        requires ready { MayServeBoth self.old }
+        ensures ready { IfOk result (λ _. MayServeBoth self.new) }
+        ensures chunk { IfOk result (λ counts. GoOn (λ one other s t v w. IsChunk one other chunk end s t v w counts)
+            self.old self.new) }
+        ensures few { IfOk result AreFew }
     {
         let first = CHUNK * chunk;
         let tasks = protect_tasks(alloc, first, end)?;
@@ -96,24 +92,11 @@ impl Pair {
         requires few { chunk ≤ 1024 }
         requires least { CHUNK * chunk ≤ end }
         requires most { end ≤ CHUNK * chunk + CHUNK }
-        requires sends { MayServe self.old.sender.unit.counters self.old.sender.unit.plan self.old.sender.worker }
-        requires receives { MayServe self.old.receiver.unit.counters self.old.receiver.unit.plan
-            self.old.receiver.worker }
-        ensures sends { IfOk result (λ _. MayServe self.new.sender.unit.counters self.new.sender.unit.plan
-            self.new.sender.worker) }
-        ensures receives { IfOk result (λ _. MayServe self.new.receiver.unit.counters self.new.receiver.unit.plan
-            self.new.receiver.worker) }
-        ensures chunk { IfOk result (λ counts. (one other : Begin)
-            → BeganWith true one (view self.old.sender.worker).turn.known.opening
-            → BeganWith true other (view self.old.receiver.worker).turn.known.opening
-            → BeganWith true one (view self.new.sender.worker).turn.known.opening
-            × BeganWith true other (view self.new.receiver.worker).turn.known.opening
-            × IsLinkChunk one other chunk end (view self.old.sender.worker) (view self.new.sender.worker)
-            (view self.old.receiver.worker) (view self.new.receiver.worker) counts) }
-        ensures protected { IfOk result (λ counts. counts.protected ≤ 1024) }
-        ensures lost { IfOk result (λ counts. counts.lost ≤ 1024) }
-        ensures accepted { IfOk result (λ counts. counts.accepted ≤ 1024) }
-        ensures rejected { IfOk result (λ counts. counts.rejected ≤ 1024) }
+        requires ready { MayServeBoth self.old }
+        ensures ready { IfOk result (λ _. MayServeBoth self.new) }
+        ensures chunk { IfOk result (λ counts. GoOn (λ one other s t v w. IsLinkChunk one other chunk end s t v w counts)
+            self.old self.new) }
+        ensures few { IfOk result AreFew }
     {
         let first = CHUNK * chunk;
         let tasks = protect_tasks(alloc, first, end)?;

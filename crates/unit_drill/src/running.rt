@@ -12,11 +12,9 @@ ghost use Rattle.unit_drill.specs.OverLink.{EndsLinkDrill, IsLinkDrilled};
 
 use crate::chunk::Pair;
 use crate::counts::Counts;
-use crate::image::{receiver_plan, sender_plan};
 use crate::laws::{drill_is_sound, link_drill_is_sound};
 use crate::line::{drill_line, link_line};
 use crate::records::CHUNK;
-use crate::unit::DrillUnit;
 use command_words::{MOST_FRAMES, end_with};
 use frame_workers::Gate;
 use record_io::Outcome;
@@ -45,10 +43,7 @@ fn counts_of<R: Threads + Wait + Sync, G: Gate + Sync>(
     requires { number ≤ MOST_FRAMES }
     ensures { IfOk result (λ counts. (answers : List Answer) × HandlesDrill number answers counts) }
 {
-    let mut pair = Pair {
-        sender: DrillUnit::open(rt, alloc, sender_plan())?,
-        receiver: DrillUnit::open(rt, alloc, receiver_plan())?,
-    };
+    let mut pair = Pair::open(rt, alloc)?;
     let mut counts = Counts::none();
     for chunk in 0..(number + (CHUNK - 1)) / CHUNK {
         let end = end_of(number, chunk);
@@ -85,10 +80,7 @@ fn link_counts_of<R: Threads + Wait + Sync, G: Gate + Sync>(
     requires { number ≤ MOST_FRAMES }
     ensures { IfOk result (λ counts. (answers : List Answer) × HandlesLinkDrill number answers counts) }
 {
-    let mut pair = Pair {
-        sender: DrillUnit::open(rt, alloc, sender_plan())?,
-        receiver: DrillUnit::open(rt, alloc, receiver_plan())?,
-    };
+    let mut pair = Pair::open(rt, alloc)?;
     let mut counts = Counts::none();
     for chunk in 0..(number + (CHUNK - 1)) / CHUNK {
         let end = end_of(number, chunk);

@@ -2,14 +2,12 @@ use Rattle.std.proofs.Common.{◌≡◌, ℕ, suc, ◌+◌, ◌/◌, List, ◌++
 use Rattle.counter_table.specs.Worker.{view}
 use Rattle.unit_drill.specs.declared.counts.Counts.{Counts}
 use Rattle.record_io.specs.declared.answers.Answer.{Answer}
-use Rattle.unit_drill.specs.Chunks.{UnitIsOpened}
 use Rattle.unit_drill.specs.LinkChunks.{AreLinkChunks, IsLinkChunk}
 use Rattle.unit_drill.proofs.running.link_counts_of.Goals as goal
 
 pub loop-chunk-preserved : goal.loop-chunk-preserved
 loop-chunk-preserved g c = record {
-  sends = c.in_ok-more.ensures.sends;
-  receives = c.in_ok-more.ensures.receives;
+  ready = c.in_ok-more.ensures.ready;
   chunks = λ one other began_one began_other.
       let so_far = c.loop-chunk.invariant.chunks one other began_one began_other in
       let step = c.in_ok-more.ensures.chunk one other so_far.0 so_far.1 in
@@ -22,7 +20,7 @@ loop-chunk-preserved g c = record {
         step.1,
         (
           answers,
-          subst (λ (n : ℕ). AreLinkChunks one other c.args.number (view c.in_ok-open.field-0.worker) (view c.in_ok-open-2.field-0.worker) n
+          subst (λ (n : ℕ). AreLinkChunks one other c.args.number (view c.in_ok-pair.pair.sender.worker) (view c.in_ok-pair.pair.receiver.worker) n
               (view c.serve_link_chunk.new.self.sender.worker) (view c.serve_link_chunk.new.self.receiver.worker) answers c.plus-counts.result) next (
                 view c.loop-chunk.pair.sender.worker,
                 view c.loop-chunk.pair.receiver.worker,
@@ -37,36 +35,32 @@ loop-chunk-preserved g c = record {
         ),
       );
   protected = let p : c.plus-counts.result.protected ≡ c.loop-chunk.counts.protected + c.in_ok-more.more.protected =
-      ap (λ (n : Counts). n.protected) c.plus-counts.ensures in omega (arith, c.in_ok-more.ensures.protected);
+      ap (λ (n : Counts). n.protected) c.plus-counts.ensures in omega (arith, c.in_ok-more.ensures.few.protected);
   lost = let p : c.plus-counts.result.lost ≡ c.loop-chunk.counts.lost + c.in_ok-more.more.lost =
-      ap (λ (n : Counts). n.lost) c.plus-counts.ensures in omega (arith, c.in_ok-more.ensures.lost);
+      ap (λ (n : Counts). n.lost) c.plus-counts.ensures in omega (arith, c.in_ok-more.ensures.few.lost);
   accepted = let p : c.plus-counts.result.accepted ≡ c.loop-chunk.counts.accepted + c.in_ok-more.more.accepted =
-      ap (λ (n : Counts). n.accepted) c.plus-counts.ensures in omega (arith, c.in_ok-more.ensures.accepted);
+      ap (λ (n : Counts). n.accepted) c.plus-counts.ensures in omega (arith, c.in_ok-more.ensures.few.accepted);
   rejected = let p : c.plus-counts.result.rejected ≡ c.loop-chunk.counts.rejected + c.in_ok-more.more.rejected =
-      ap (λ (n : Counts). n.rejected) c.plus-counts.ensures in omega (arith, c.in_ok-more.ensures.rejected);
+      ap (λ (n : Counts). n.rejected) c.plus-counts.ensures in omega (arith, c.in_ok-more.ensures.few.rejected);
 }
 
 pub returns : goal.returns
 returns g c =
-    let sends = c.in_ok-open.ensures.1 in
-    let receives = c.in_ok-open-2.ensures.1 in
-    let sender = subst (λ (plan : List ℕ). UnitIsOpened plan sends.0 (view c.in_ok-open.field-0.worker)) c.sender_plan.ensures.lines sends.1 in
-    let receiver = subst (λ (plan : List ℕ). UnitIsOpened plan receives.0 (view c.in_ok-open-2.field-0.worker)) c.receiver_plan.ensures.lines
-    receives.1 in
-    let chunks = c.loop-chunk.invariant.chunks sends.0 receives.0 sender.began receiver.began in
+    let opened = c.in_ok-pair.ensures.opened in
+    let chunks = c.loop-chunk.invariant.chunks opened.one opened.other opened.sends.began opened.receives.began in
     let last : c.loop-chunk.chunk ≡ (c.args.number + 255) / 256 = omega arith in (
       chunks.2.0,
       record {
-        sender = sends.0;
-        receiver = receives.0;
-        s = view c.in_ok-open.field-0.worker;
+        sender = opened.one;
+        receiver = opened.other;
+        s = view c.in_ok-pair.pair.sender.worker;
         t = view c.loop-chunk.pair.sender.worker;
-        v = view c.in_ok-open-2.field-0.worker;
+        v = view c.in_ok-pair.pair.receiver.worker;
         w = view c.loop-chunk.pair.receiver.worker;
-        sends = sender;
-        receives = receiver;
-        chunks = subst (λ (n : ℕ). AreLinkChunks sends.0 receives.0 c.args.number (view c.in_ok-open.field-0.worker)
-            (view c.in_ok-open-2.field-0.worker) n (view c.loop-chunk.pair.sender.worker) (view c.loop-chunk.pair.receiver.worker)
+        sends = opened.sends;
+        receives = opened.receives;
+        chunks = subst (λ (n : ℕ). AreLinkChunks opened.one opened.other c.args.number (view c.in_ok-pair.pair.sender.worker)
+            (view c.in_ok-pair.pair.receiver.worker) n (view c.loop-chunk.pair.sender.worker) (view c.loop-chunk.pair.receiver.worker)
             chunks.2.0 c.loop-chunk.counts) last chunks.2.1;
       },
     )
