@@ -128,8 +128,8 @@ keep_others_out() {
     [ -s unit.img ] && had_image=1
 }
 
-# Has the system forget what it holds of the image in memory, so that the program reads what is on the disk. After a sync
-# that failed, memory may have octets that the disk never got, and nothing says so to a process that begins later.
+# Has the system forget what it holds of the image in memory, so that the program reads what is on the disk. After a
+# sync that failed, memory may have octets that the disk never got, and nothing says so to a process that begins later.
 drop_pages() {
     dd if=unit.img of=/dev/null iflag=nocache count=0 status=none 2>/dev/null ||
         give_up 71 "nothing was started, for the system's copy of unit.img in memory could not be dropped by dd"
@@ -271,7 +271,8 @@ unread_input() {
 # Why a word that uses the image ended with status 5.
 site_fault() {
     if [ -L unit.img ] && [ ! -e unit.img ]; then
-        echo "unit.img is a link to a file that is not there: restore that file or remove the link"
+        echo "unit.img is a link to a file that is not there: mount the disk that holds it, and never put a copy in" \
+            "its place"
     elif [ -e unit.img ] && [ ! -f unit.img ]; then
         echo "unit.img is no plain file: call again in the folder of a unit"
     elif [ -e unit.img ] && [ ! -r unit.img ]; then
@@ -304,8 +305,9 @@ after_disk() {
 # Why `run` or `stat` ended with status 7.
 refused_image() {
     if [ ! -e unit.img ]; then
-        echo "there is no unit.img in this folder: call again in the folder of a unit, or make one by" \
-            "\`sdls init < PLAN\`"
+        echo "there is no unit.img in this folder: call again in the folder of a unit; if one was here, see" \
+            "OPERATING.md, \"If an image is lost\"; a new unit is made by \`sdls init < PLAN\`, from a plan that has" \
+            "made none"
     elif [ "$1" = stat ]; then
         echo "unit.img is no valid image and was left as it is: standard output has the offset of the failed check," \
             "and OPERATING.md, \"If an image is lost\", says how a new unit is made"

@@ -1,5 +1,5 @@
 #!/usr/bin/env python3
-"""The other end of a link, written from docs/FORMATS.md in plain Python: nothing but the standard library.
+"""The other end of a link, written from the pages of formats in plain Python: nothing but the standard library.
 
 As a module it has ciphers, frames and messages, and `Unit`, which holds a running `sdls run` over pipes. As a program
 it tries all of them on units that it makes in a temporary folder, and prints what came out. With a word it is the
@@ -160,7 +160,7 @@ def gcm(key, vector, text, additional, is_sealing):
     return out, xor(octets_of(state, 16), aes.encrypt(vector + octets_of(1, 4)))
 
 
-# -- frames: docs/FORMATS.md, "Transfer frames" -----------------------------------------------------------------------
+# -- frames: docs/FRAMES.md, "Transfer frames" ------------------------------------------------------------------------
 
 
 class Refused(Exception):
@@ -306,7 +306,7 @@ def aos_frame(spacecraft, channel, count, data):
     return struct.pack(">HI", 1 << 14 | spacecraft << 6 | channel, (count & 0xFFFFFF) << 8) + data
 
 
-# -- messages: docs/FORMATS.md, "Procedure messages" ------------------------------------------------------------------
+# -- messages: docs/FRAMES.md, "Procedure messages" -------------------------------------------------------------------
 
 TAGS = {
     "rekeying": 0x01, "activate": 0x02, "deactivate": 0x03, "verify": 0x04, "destroy": 0x06, "inventory": 0x07,
@@ -343,7 +343,7 @@ def is_verified(reply, key, octets, challenge):
     return hmac.compare_digest(tag, wanted) and hmac.compare_digest(text, challenge)
 
 
-# -- verification in lines of text: docs/FORMATS.md, "Recorded input as text" and "Answers as text" -------------------
+# -- verification in lines of text: docs/RECORDS.md, "Recorded input as text" and "Answers as text" -------------------
 
 
 class Fault(Exception):
@@ -420,7 +420,7 @@ def key_of(plan, identifier):
     return octets
 
 
-# -- a unit over pipes: docs/FORMATS.md, "The recorded input" and "An answer" -----------------------------------------
+# -- a unit over pipes: docs/RECORDS.md, "The recorded input" and "An answer" -----------------------------------------
 
 CODES = {
     0x00: "protected", 0x01: "accepted", 0x02: "clear", 0x03: "done", 0x04: "refused", 0x05: "monitored",

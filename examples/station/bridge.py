@@ -10,7 +10,8 @@ segment ends after so many records, or so many milliseconds after its first one 
 log: a JSON object with a time. SIGTERM ends the bridge in order, SIGHUP has it open its log anew.
 
 With --ask it hands a recorded input to the control socket of a bridge that runs, and writes the answers, both as
-octets: so commands and monitoring messages are handed in beside the frames.
+octets: so commands and monitoring messages are handed in beside the frames. The status is then 0, or 3 if records have
+no answer. Else it is 1 if a socket, a pipe or a file is at fault, and 2 if the settings are.
 """
 import argparse
 import asyncio
@@ -40,7 +41,7 @@ LONGEST = 2048  # octets of a record
 BUFFER = 1 << 20  # octets that wait in a socket
 PATIENCE = 10  # seconds for each of the last answers
 
-# The words of details: docs/FORMATS.md, "Answers as text".
+# The words of details: docs/RECORDS.md, "Answers as text".
 FAULTS = ("NoLink", "Short", "Long", "LengthField", "Version", "Spare", "SecondaryHeader", "Fecf")
 STATES = ("none", "unkeyed", "keyed", "operational")
 REFUSALS = {
@@ -72,7 +73,7 @@ async def read_answer(reader):
 
 
 def described(answer):
-    """The members of an answer's JSON object, named as in docs/FORMATS.md, "As JSON objects".
+    """The members of an answer's JSON object, named as in docs/RECORDS.md, "As JSON objects".
 
     Of a frame or a data field stands its length, in `octets`; a reply stands as its octets, in `body`.
     """
@@ -682,13 +683,25 @@ async def run_bridge(path):
 
 
 def ask(path):
-    """Hands standard input to the control socket of a bridge, and writes the answers."""
-    given = sys.stdin.buffer.read()
+    """Hands standard input to the control socket of a bridge, and writes the answers. Returns how many are missing."""
+    given, items, answers = sys.stdin.buffer.read(), Items(), b""
+    records = sum(piece != BEGINNING and piece[0] != ground.FENCE for piece in items.take(given)) + bool(items.rest)
     with socket.socket(socket.AF_UNIX) as control:
         control.connect(path)
         threading.Thread(target=lambda: (control.sendall(given), control.shutdown(socket.SHUT_WR)), daemon=True).start()
         while octets := control.recv(PIECE):
             sys.stdout.buffer.write(octets)
+            answers += octets
+    return records - count_answers(answers)
+
+
+def count_answers(octets):
+    """How many whole answers stand in these octets."""
+    count = at = 0
+    while at + ANSWER.size <= len(octets):
+        at += ANSWER.size + ANSWER.unpack_from(octets, at)[3]
+        count += at <= len(octets)
+    return count
 
 
 def main():
@@ -698,7 +711,10 @@ def main():
     given = words.parse_args()
     try:
         if given.ask:
-            ask(given.path)
+            missing = ask(given.path)
+            if missing:
+                print(f"bridge: {missing} records have no answer, and may have been done", file=sys.stderr)
+                return 3
         else:
             asyncio.run(run_bridge(given.path))
     except (BadSettings, OSError) as fault:

@@ -49,7 +49,7 @@ def say(text):
 
 
 class Items:
-    """Cuts a recorded input into its beginning and its items, as the octets come (FORMATS.md, "The recorded input")."""
+    """Cuts a recorded input into its beginning and its items, as the octets come (RECORDS.md, "The recorded input")."""
 
     def __init__(self):
         self.rest, self.is_begun = b"", False
