@@ -1,3 +1,4 @@
 pub mod Lanes
 pub mod Permits
+pub mod Records
 pub mod Bodies

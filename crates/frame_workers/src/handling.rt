@@ -1,16 +1,13 @@
 // One record.
-ghost use Rattle.std.specs.Prelude.{◌≡◌, ◌≢◌, ◌≤◌, ◌+◌, ℕ, All, [], IfOk, length, vec_capacity};
+ghost use Rattle.std.specs.Prelude.{◌≡◌, ◌≢◌, ◌≤◌, ◌+◌, All, [], IfOk, length, vec_capacity};
 ghost use Rattle.frame_shield.specs.declared.protecting_frames.TheConstants.{FRAME_ROOM};
 ghost use Rattle.counter_table.specs.Worker.{view};
 ghost use Rattle.record_io.specs.declared.kinds.RecordKind.TheVariants as kinds;
 ghost use Rattle.shared_unit.specs.Opening.{IsOpenTrueIfKept};
 ghost use Rattle.shared_unit.specs.Protecting.{IsTrueIfKept};
-ghost use Rattle.shared_unit.specs.Turn.{IsReady, KnowsMoreOfBook};
+ghost use Rattle.shared_unit.specs.Turn.{IsReady};
 ghost use Rattle.frame_workers.specs.Permits.{AreTrueFor};
-ghost use Rattle.run_promise.specs.Begin.{Begin};
-ghost use Rattle.law_workers.specs.Order.{Layout};
-ghost use Rattle.law_calls.specs.Answering.{Answered, AnsweredExactly};
-ghost use Rattle.law_workers.specs.Began.{BeganWith};
+ghost use Rattle.frame_workers.specs.Records.{HandlesRecord};
 
 use crate::answering::{
     WINDOW_OCTETS, answer_no_memory, commanded_answer, opened_answer, protected_answer,
@@ -49,15 +46,8 @@ fn protect<R: Wait, O: Site>(
     requires ready { IsReady unit.now.counters unit.now.plan worker.old }
     requires kept { IsTrueIfKept kept.old (view worker.old).turn }
     requires room { length room.old ≡ FRAME_ROOM }
-    ensures ready { IsReady unit.now.counters unit.now.plan worker.new }
     ensures kept { IsTrueIfKept kept.new (view worker.new).turn }
-    ensures grows { KnowsMoreOfBook (view worker.old).turn (view worker.new).turn }
-    ensures shares { (view worker.new).numbers.shares ≡ (view worker.old).numbers.shares }
-    ensures answered { (layout : Layout) (begin : Begin) (segment : ℕ)
-        → BeganWith O.told begin (view worker.old).turn.known.opening
-        → Answered layout begin segment (view worker.old) (view worker.new) task.now result }
-    ensures exactly { (begin : Begin) (segment : ℕ) → BeganWith O.told begin (view worker.old).turn.known.opening
-        → AnsweredExactly begin segment (view worker.old) (view worker.new) task.now result }
+    ensures handles { HandlesRecord O.told unit.now.counters unit.now.plan worker.old worker.new task.now result }
 {
     let clear = task.octets.as_slice();
     let Ok(body) = body_for(alloc, spare, clear) else {
@@ -90,15 +80,8 @@ fn open<R: Wait, O: Site>(
     requires kind { task.now.kind ≡ kinds.Open }
     requires ready { IsReady unit.now.counters unit.now.plan worker.old }
     requires kept { IsOpenTrueIfKept kept.old (view worker.old).turn }
-    ensures ready { IsReady unit.now.counters unit.now.plan worker.new }
     ensures kept { IsOpenTrueIfKept kept.new (view worker.new).turn }
-    ensures grows { KnowsMoreOfBook (view worker.old).turn (view worker.new).turn }
-    ensures shares { (view worker.new).numbers.shares ≡ (view worker.old).numbers.shares }
-    ensures answered { (layout : Layout) (begin : Begin) (segment : ℕ)
-        → BeganWith O.told begin (view worker.old).turn.known.opening
-        → Answered layout begin segment (view worker.old) (view worker.new) task.now result }
-    ensures exactly { (begin : Begin) (segment : ℕ) → BeganWith O.told begin (view worker.old).turn.known.opening
-        → AnsweredExactly begin segment (view worker.old) (view worker.new) task.now result }
+    ensures handles { HandlesRecord O.told unit.now.counters unit.now.plan worker.old worker.new task.now result }
 {
     let octets = task.octets.as_slice();
     let Ok(mut frame) = copy_octets(alloc, spare, octets) else {
@@ -126,14 +109,7 @@ fn command<R: Wait, O: Site>(
 ) -> Option<Answer>
     requires kind { task.now.kind ≡ kinds.Command }
     requires ready { IsReady unit.now.counters unit.now.plan worker.old }
-    ensures ready { IsReady unit.now.counters unit.now.plan worker.new }
-    ensures grows { KnowsMoreOfBook (view worker.old).turn (view worker.new).turn }
-    ensures shares { (view worker.new).numbers.shares ≡ (view worker.old).numbers.shares }
-    ensures answered { (layout : Layout) (begin : Begin) (segment : ℕ)
-        → BeganWith O.told begin (view worker.old).turn.known.opening
-        → Answered layout begin segment (view worker.old) (view worker.new) task.now result }
-    ensures exactly { (begin : Begin) (segment : ℕ) → BeganWith O.told begin (view worker.old).turn.known.opening
-        → AnsweredExactly begin segment (view worker.old) (view worker.new) task.now result }
+    ensures { HandlesRecord O.told unit.now.counters unit.now.plan worker.old worker.new task.now result }
 {
     let commanded = unit.command(rt, worker, task.index, task.octets.as_slice());
     commanded_answer(alloc, commanded)
@@ -154,15 +130,8 @@ fn handle_under<R: Wait, O: Site>(
     requires ready { IsReady unit.now.counters unit.now.plan worker.old }
     requires kept { AreTrueFor kept.old (view worker.old).turn }
     requires room { length room.old ≡ FRAME_ROOM }
-    ensures ready { IsReady unit.now.counters unit.now.plan worker.new }
     ensures kept { AreTrueFor kept.new (view worker.new).turn }
-    ensures grows { KnowsMoreOfBook (view worker.old).turn (view worker.new).turn }
-    ensures shares { (view worker.new).numbers.shares ≡ (view worker.old).numbers.shares }
-    ensures answered { (layout : Layout) (begin : Begin) (segment : ℕ)
-        → BeganWith O.told begin (view worker.old).turn.known.opening
-        → Answered layout begin segment (view worker.old) (view worker.new) task.now result }
-    ensures exactly { (begin : Begin) (segment : ℕ) → BeganWith O.told begin (view worker.old).turn.known.opening
-        → AnsweredExactly begin segment (view worker.old) (view worker.new) task.now result }
+    ensures handles { HandlesRecord O.told unit.now.counters unit.now.plan worker.old worker.new task.now result }
 {
     match task.kind {
         RecordKind::Protect => protect(
@@ -197,15 +166,8 @@ pub(crate) fn handle<R: Wait, O: Site>(
     requires ready { IsReady unit.now.counters unit.now.plan worker.old }
     requires kept { All (λ permits. AreTrueFor permits (view worker.old).turn) kept.old }
     requires room { length room.old ≡ FRAME_ROOM }
-    ensures ready { IsReady unit.now.counters unit.now.plan worker.new }
     ensures kept { All (λ permits. AreTrueFor permits (view worker.new).turn) kept.new }
-    ensures grows { KnowsMoreOfBook (view worker.old).turn (view worker.new).turn }
-    ensures shares { (view worker.new).numbers.shares ≡ (view worker.old).numbers.shares }
-    ensures answered { (layout : Layout) (begin : Begin) (segment : ℕ)
-        → BeganWith O.told begin (view worker.old).turn.known.opening
-        → Answered layout begin segment (view worker.old) (view worker.new) task.now result }
-    ensures exactly { (begin : Begin) (segment : ℕ) → BeganWith O.told begin (view worker.old).turn.known.opening
-        → AnsweredExactly begin segment (view worker.old) (view worker.new) task.now result }
+    ensures handles { HandlesRecord O.told unit.now.counters unit.now.plan worker.old worker.new task.now result }
 {
     let place = place_for(task);
     handle_under(rt, alloc, unit, worker, &mut kept[place], room, spare, task)

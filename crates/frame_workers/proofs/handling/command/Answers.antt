@@ -12,28 +12,28 @@ use Rattle.law_calls.proofs.CommandsExactly.{commanding_exactly}
 use Rattle.shared_unit.proofs.Steps.{takes_grows}
 use Rattle.frame_workers.proofs.handling.command.Goals as goal
 
-pub returns-clause-answered : goal.returns-clause-answered
-returns-clause-answered g c layout begin segment b =
-    let v : View = view c.args.worker.now in let w : View = view c.command-commanded.new.worker in let task : Record = c.args.task.now in
-    let (found, given, visits, told) = c.command-commanded.ensures.commanded in
-    let handled = subst (λ (l : List ℕ). WithPosition c.command-commanded.result (known_of_book given)
-    (λ answer. IsCommanded task.index l answer found given v.numbers w.numbers)) c.as_slice.ensures told in
-    subst (Answered layout begin segment v w task) (sym c.commanded_answer.ensures)
-    (commanding_answers g.O.Site.told begin layout segment task v w found given b c.requires.ready.free c.requires.kind
-    visits c.command-commanded.result handled)
-
-pub returns-clause-exactly : goal.returns-clause-exactly
-returns-clause-exactly g c begin segment b =
-    let v : View = view c.args.worker.now in let w : View = view c.command-commanded.new.worker in let task : Record = c.args.task.now in
-    let apart : Layout = record { lane_of = λ i. 0; segment_of = λ i. 0 } in
-    let (found, given, visits, told) = c.command-commanded.ensures.commanded in
-    let handled = subst (λ (l : List ℕ). WithPosition c.command-commanded.result (known_of_book given)
-    (λ answer. IsCommanded task.index l answer found given v.numbers w.numbers)) c.as_slice.ensures told in
-    subst (AnsweredExactly begin segment v w task) (sym c.commanded_answer.ensures)
-    (commanding_exactly g.O.Site.told begin apart segment task v w found given b c.requires.ready.free c.requires.kind
-    visits c.command-commanded.ensures.covered c.command-commanded.result handled)
-
-pub returns-clause-grows : goal.returns-clause-grows
-returns-clause-grows g c =
-    let (found, given, visits, told) = c.command-commanded.ensures.commanded in
-    takes_grows _ _ _ _ visits.takes
+pub returns : goal.returns
+returns g c = record {
+  ready = c.command-commanded.ensures.ready;
+  grows =
+      let (found, given, visits, told) = c.command-commanded.ensures.commanded in
+      takes_grows _ _ _ _ visits.takes;
+  shares = c.command-commanded.ensures.shares;
+  answered = λ layout begin segment b.
+      let v : View = view c.args.worker.now in let w : View = view c.command-commanded.new.worker in let task : Record = c.args.task.now in
+      let (found, given, visits, told) = c.command-commanded.ensures.commanded in
+      let handled = subst (λ (l : List ℕ). WithPosition c.command-commanded.result (known_of_book given)
+      (λ answer. IsCommanded task.index l answer found given v.numbers w.numbers)) c.as_slice.ensures told in
+      subst (Answered layout begin segment v w task) (sym c.commanded_answer.ensures)
+      (commanding_answers g.O.Site.told begin layout segment task v w found given b c.requires.ready.free c.requires.kind
+      visits c.command-commanded.result handled);
+  exactly = λ begin segment b.
+      let v : View = view c.args.worker.now in let w : View = view c.command-commanded.new.worker in let task : Record = c.args.task.now in
+      let apart : Layout = record { lane_of = λ i. 0; segment_of = λ i. 0 } in
+      let (found, given, visits, told) = c.command-commanded.ensures.commanded in
+      let handled = subst (λ (l : List ℕ). WithPosition c.command-commanded.result (known_of_book given)
+      (λ answer. IsCommanded task.index l answer found given v.numbers w.numbers)) c.as_slice.ensures told in
+      subst (AnsweredExactly begin segment v w task) (sym c.commanded_answer.ensures)
+      (commanding_exactly g.O.Site.told begin apart segment task v w found given b c.requires.ready.free c.requires.kind
+      visits c.command-commanded.ensures.covered c.command-commanded.result handled);
+}

@@ -85,18 +85,18 @@ returns-in-None g c =
     record {
       ran = record {
         number = inv.number;
-        is_ready = c.handle-answer.ensures.ready;
-        shares = c.handle-answer.ensures.shares ∙ inv.shares;
+        is_ready = c.handle-answer.ensures.handles.ready;
+        shares = c.handle-answer.ensures.handles.shares ∙ inv.shares;
         handled = λ begin layout s b.
             let x = inv.handled begin layout s b in
             let b' : BeganWith g.O.Site.told begin v.turn.known.opening = subst (BeganWith g.O.Site.told begin) (sym x.does.grows.opening) b in
-            let y : Answered layout begin s v w r None = subst (Answered layout begin s v w r) c.in-None.is (c.handle-answer.ensures.answered layout begin s b') in
+            let y : Answered layout begin s v w r None = subst (Answered layout begin s v w r) c.in-None.is (c.handle-answer.ensures.handles.answered layout begin s b') in
             lane_stop n rs k r c.task-item.is within layout begin u v w s xs own inv.ascend inv.count x y.0;
         ends = λ begin b.
             let layout : Layout = record { lane_of = λ i. 0; segment_of = λ i. 0 } in
             let x = inv.handled begin layout 0 b in
             let b' : BeganWith g.O.Site.told begin v.turn.known.opening = subst (BeganWith g.O.Site.told begin) (sym x.does.grows.opening) b in
-            let y : Answered layout begin 0 v w r None = subst (Answered layout begin 0 v w r) c.in-None.is (c.handle-answer.ensures.answered layout begin 0 b') in (
+            let y : Answered layout begin 0 v w r None = subst (Answered layout begin 0 v w r) c.in-None.is (c.handle-answer.ensures.handles.answered layout begin 0 b') in (
               r,
               subst (λ (m : ℕ). slice_get (of_lane n rs) m ≡ Some r) (sym inv.count) (lane_next n rs k r c.task-item.is within own),
               full_stays begin u v w w r x.does.grows (grows_itself w) y.1
@@ -108,8 +108,8 @@ returns-in-None g c =
             let layout : Layout = record { lane_of = λ i. 0; segment_of = λ i. 0 } in
             let x = inv.handled begin layout s b in
             let b' : BeganWith g.O.Site.told begin v.turn.known.opening = subst (BeganWith g.O.Site.told begin) (sym x.does.grows.opening) b in
-            let y : Answered layout begin s v w r None = subst (Answered layout begin s v w r) c.in-None.is (c.handle-answer.ensures.answered layout begin s b') in
-            let z : AnsweredExactly begin s v w r None = subst (AnsweredExactly begin s v w r) c.in-None.is (c.handle-answer.ensures.exactly begin s b') in
+            let y : Answered layout begin s v w r None = subst (Answered layout begin s v w r) c.in-None.is (c.handle-answer.ensures.handles.answered layout begin s b') in
+            let z : AnsweredExactly begin s v w r None = subst (AnsweredExactly begin s v w r) c.in-None.is (c.handle-answer.ensures.handles.exactly begin s b') in
             subst (λ (l : List Record). MovedInTurn begin u w (length l) (deeds_of s l xs)) (sym (lane_whole n rs k r c.task-item.is within own))
             (stop_exactly begin s u v w (of_lane n (take k rs)) xs inv.count x.does y.0.does.grows (inv.exactly begin s b) (of_lane n (drop (suc k) rs)) r z);
       };
@@ -129,9 +129,9 @@ loop-task-preserved g c =
     let taken = lane_own n rs k r c.task-item.is within own in
     record {
       number = inv.number;
-      is_ready = c.handle-answer.ensures.ready;
+      is_ready = c.handle-answer.ensures.handles.ready;
       kept = c.handle-answer.ensures.kept;
-      shares = c.handle-answer.ensures.shares ∙ inv.shares;
+      shares = c.handle-answer.ensures.handles.shares ∙ inv.shares;
       going = inv.going;
       room = let a = pushed.capacity in let z = inv.room in omega arith;
       ascend = inv.ascend;
@@ -141,7 +141,7 @@ loop-task-preserved g c =
           let x = inv.handled begin layout s b in
           let b' : BeganWith g.O.Site.told begin v.turn.known.opening = subst (BeganWith g.O.Site.told begin) (sym x.does.grows.opening) b in
           let y : Answered layout begin s v w r (Some c.in-Some.answer) =
-          subst (Answered layout begin s v w r) c.in-Some.is (c.handle-answer.ensures.answered layout begin s b') in
+          subst (Answered layout begin s v w r) c.in-Some.is (c.handle-answer.ensures.handles.answered layout begin s b') in
           subst (λ (l : List Answer). Handled layout begin u w (of_lane n (take (k + 1) rs)) (deeds_of s (of_lane n (take (k + 1) rs)) l)) (sym pushed.items)
           (lane_step n rs k r c.task-item.is within layout begin u v w s xs own inv.ascend inv.count c.in-Some.answer x y.0);
       exactly = λ begin s b.
@@ -149,9 +149,9 @@ loop-task-preserved g c =
           let x = inv.handled begin layout s b in
           let b' : BeganWith g.O.Site.told begin v.turn.known.opening = subst (BeganWith g.O.Site.told begin) (sym x.does.grows.opening) b in
           let y : Answered layout begin s v w r (Some c.in-Some.answer) =
-          subst (Answered layout begin s v w r) c.in-Some.is (c.handle-answer.ensures.answered layout begin s b') in
+          subst (Answered layout begin s v w r) c.in-Some.is (c.handle-answer.ensures.handles.answered layout begin s b') in
           let z : AnsweredExactly begin s v w r (Some c.in-Some.answer) =
-          subst (AnsweredExactly begin s v w r) c.in-Some.is (c.handle-answer.ensures.exactly begin s b') in
+          subst (AnsweredExactly begin s v w r) c.in-Some.is (c.handle-answer.ensures.handles.exactly begin s b') in
           subst (λ (l : List Answer). MovedInTurn begin u w (length (of_lane n (take (k + 1) rs))) (deeds_of s (of_lane n (take (k + 1) rs)) l)) (sym pushed.items)
           (subst (λ (l : List Record). MovedInTurn begin u w (length l) (deeds_of s l (xs ++ c.in-Some.answer ∷ []))) (sym taken)
           (next_exactly begin s u v w (of_lane n (take k rs)) xs inv.count x.does y.0.does.grows (inv.exactly begin s b) r c.in-Some.answer z));
