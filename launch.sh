@@ -10,6 +10,7 @@ parts=$(cd "$(dirname "${BASH_SOURCE[0]}")" && pwd)
 name=
 program=
 status=0
+was_image=
 
 # Prints a line for people.
 say() {
@@ -44,6 +45,8 @@ launch() {
     run_through exec "$program" "$@"
     if [ "$status" = 2 ]; then
         say "${fault:-these words are none that it serves}; see \`$name --help\`"
+    elif [ "$status" = 5 ] && [ -n "$was_image" ] && is_held_elsewhere; then
+        turn_away "this image, by a name in another folder"
     elif [ "$name" = sdls ]; then
         explain "${1-}"
     fi
@@ -110,9 +113,9 @@ end_alike() {
     exit "$status"
 }
 
-# Takes the locks of a unit without waiting: on the folder, and on the image if there is one, which may have a name in
-# another folder too. Two units on one image would use a number twice. The program inherits both files, so they stay
-# locked until it has ended, even if this script is killed before.
+# Takes the folder's lock without waiting. The program inherits the open folder, so it stays locked until the program
+# has ended, even if this script is killed before. The image may have a name in another folder too, and two units on one
+# image would use a number twice. The program locks it, so here its lock is only tried, and let go at once.
 keep_others_out() {
     command -v flock >/dev/null || give_up 71 "nothing was started, for there is no command flock to lock the folder"
     { exec 9<.; } 2>/dev/null || give_up 71 "nothing was started, for this folder could not be opened to lock it"
@@ -123,9 +126,28 @@ keep_others_out() {
             give_up 71 "nothing was started, for unit.img could not be opened to lock it"
         take_lock 8 "this image, by a name in another folder"
         drop_pages
+        exec 8<&-
     fi
-    had_image=
+    had_image= was_image=$(image_stamp)
     [ -s unit.img ] && had_image=1
+}
+
+# What changes if something is written to the image.
+image_stamp() {
+    stat -L -c '%d %i %s %y' unit.img 2>/dev/null
+}
+
+# Whether another unit holds the image, and nothing was written to it since the program was started: then the program
+# has not opened it, and nothing was done.
+is_held_elsewhere() {
+    [ -r unit.img ] && [ "$(image_stamp)" = "$was_image" ] || return 1
+    flock -n -E 75 unit.img true 2>/dev/null
+    [ "$?" = 75 ]
+}
+
+# Says that another unit holds the folder or the image, and ends.
+turn_away() {
+    give_up 75 "nothing was started, for another unit holds $1: call again when it has ended"
 }
 
 # Has the system forget what it holds of the image in memory, so that the program reads what is on the disk. After a
@@ -147,7 +169,7 @@ take_lock() {
     flock -n "$1"
     case $? in
     0) ;;
-    1) give_up 75 "nothing was started, for another unit holds $2: call again when it has ended" ;;
+    1) turn_away "$2" ;;
     *) give_up 71 "nothing was started, for $2 could not be locked" ;;
     esac
 }
@@ -331,45 +353,19 @@ read_version() {
     echo "commit $commit, $kit"
 }
 
+# Prints the page of `sdls_text`. It stands in the program's source; `./install` has kept a copy.
+print_text_help() {
+    if [ -f "$parts/sdls_text.help" ]; then
+        cat "$parts/sdls_text.help"
+    else
+        sed -n '/^const HELP/,/";$/p' "$parts/crates/sdls_text/src/main.rt" | sed '1d;$s/";$//'
+    fi
+}
+
 # Prints what each word reads and writes, and an example.
 print_help() {
     if [ "$name" = sdls_text ]; then
-        cat <<'HELP'
-usage: sdls_text records < TEXT > INPUT
-       sdls_text show < INPUT > TEXT
-       sdls_text answers [--json] < ANSWERS > TEXT
-       sdls_text plan < PLAN
-       sdls_text recording FILE.. > RECORDING
-Recorded input and answers of `sdls run`, as text.
-
-  records      reads lines of text, and writes the recorded input that they say
-  show         reads recorded input, and prints its lines
-  answers      reads answers, and prints a line for each; with --json each line is a JSON object
-  plan         reads a plan, and prints each line at fault, or the state that the plan makes
-  recording    reads files, each the answers that a run wrote, and writes them as the input of `sdls audit`
-  --help       prints this page
-  --version    prints the version
-
-Lines of text: fence; protect LANE LINK OCTETS; open LANE LINK OCTETS; command LANE octets OCTETS;
-command LANE PROCEDURE VALUE.. The procedures are rekeying, activate, deactivate, verify, destroy, inventory, compose,
-read-number, create, delete, set-window, rekey, expire, set-number, start, stop and status; FORMATS.md has their values.
-Monitoring messages: ping; log-status; dump-log; erase-log; alarm-reset; self-test BLOCK; monitor OCTETS; before each
-of them perhaps at LANE LINK.
-Spaces or commas part words, letters count in either case, and a word that begins with # begins a comment.
-
-Status: 0 done; 1 a line, an item or an answer is at fault, or a file has 4 gibibytes or more; 2 other words;
-3 standard input is no plan; 4 standard input or a file could not be read; 5 standard output could not be written;
-6 out of memory.
-Of the launcher: 70 the program could not be built.
-
-Examples:
-  echo 'protect 0 0 002a140509c3' | sdls_text records > input.bin
-  sdls_text show < input.bin
-  sdls run < input.bin | sdls_text answers
-  sdls run < input.bin | sdls_text answers --json
-  sdls_text plan < plan.txt && sdls init < plan.txt
-  sdls_text recording monday.bin tuesday.bin | sdls audit
-HELP
+        print_text_help
     else
         cat <<'HELP'
 usage: sdls check KEY < FRAME

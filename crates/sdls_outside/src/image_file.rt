@@ -9,13 +9,16 @@ use std::path::Path;
 // Readable and writable by the owner, and by nobody else.
 const OWNER_ALONE: u32 = 0o600;
 
-// A file that is opened when it is found, and made at the first write where there was none.
+// A file that is opened when it is found, and made at the first write where there was none. While it
+// is open no other process opens it as an image.
 #[derive(Drop)]
 pub struct ImageFile {
     file: Option<File>,
-    // nothing was written to it yet, and its mode may be any
-    is_empty: bool,
+    // how many octets it has, as far as is known
+    length: u64,
+    // it was empty when it was first written to, and its entry in the folder may not be on the disk
     is_new: bool,
+    has_grown: bool,
     is_suspect: bool,
 }
 
@@ -23,8 +26,9 @@ impl ImageFile {
     pub fn new() -> Self {
         ImageFile {
             file: None,
-            is_empty: false,
+            length: 0,
             is_new: false,
+            has_grown: false,
             is_suspect: false,
         }
     }
@@ -33,16 +37,15 @@ impl ImageFile {
     pub fn find(&mut self, files: &HostRuntime, path: &str) -> io::Result<u64> {
         if self.file.is_none() {
             match File::options().read(true).write(true).open(files, path) {
-                Ok(file) => self.file = Some(beside_the_streams(file)?),
+                Ok(file) => self.file = Some(taken(file)?),
                 Err(error) if error.kind() == ErrorKind::NotFound => return Ok(0),
                 Err(error) => return Err(error),
             }
         }
         match &self.file {
             Some(file) => {
-                let length = file.metadata()?.len();
-                self.is_empty = length == 0;
-                Ok(length)
+                self.length = file.metadata()?.len();
+                Ok(self.length)
             }
             None => Ok(0),
         }
@@ -66,15 +69,18 @@ impl ImageFile {
         octets: &[u8],
     ) -> io::Result<()> {
         if self.file.is_none() {
-            self.file = Some(beside_the_streams(make(files, path)?)?);
-            self.is_new = true;
-            self.is_empty = true;
+            self.file = Some(taken(make(files, path)?)?);
         }
         match &self.file {
             Some(file) => {
-                if self.is_empty {
+                if self.length == 0 {
                     file.set_permissions(Permissions::from_mode(OWNER_ALONE))?;
-                    self.is_empty = false;
+                    self.is_new = true;
+                }
+                let end = at.saturating_add(octets.len() as u64);
+                if self.length < end {
+                    self.length = end;
+                    self.has_grown = true;
                 }
                 file.write_all_at(octets, at)
             }
@@ -82,16 +88,21 @@ impl ImageFile {
         }
     }
 
-    // Brings the file's data and length to the disk, and its entry in the folder where it was
-    // made. Once that has failed it is never Ok again: the system may have dropped what was
-    // pending, and would answer Ok to the next try.
+    // Brings the file's data to the disk; its length and mode too if it is new or grew, and its entry
+    // in the folder if it is new. Once that has failed it is never Ok again: the system may have
+    // dropped what was pending, and would answer Ok to the next try.
     pub fn sync(&mut self, files: &HostRuntime, path: &str) -> io::Result<()> {
         if self.is_suspect {
             return Err(ErrorKind::Other.into());
         }
         self.is_suspect = true;
         if let Some(file) = &self.file {
-            file.sync_all()?;
+            if self.has_grown {
+                file.sync_all()?;
+                self.has_grown = false;
+            } else {
+                file.sync_data()?;
+            }
         }
         if self.is_new {
             File::open(files, folder_of(path))?.sync_all()?;
@@ -120,11 +131,13 @@ fn folder_of(path: &str) -> &str {
     }
 }
 
-// Refuses a file that was given the number of a standard stream which is closed: what is put
-// would be written over the image.
-fn beside_the_streams(file: File) -> io::Result<File> {
-    if file.as_raw_fd() <= 2 {
+// Takes an open file as the image, for this process alone: it is locked, without waiting, until the
+// process ends. Refuses what is no regular file, as a device or a FIFO. Refuses a file, too, that was
+// given the number of a standard stream which is closed: what is put would be written over the image.
+fn taken(file: File) -> io::Result<File> {
+    if file.as_raw_fd() <= 2 || !file.metadata()?.is_file() {
         return Err(ErrorKind::Other.into());
     }
+    file.try_lock()?;
     Ok(file)
 }

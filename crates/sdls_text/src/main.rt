@@ -17,7 +17,7 @@ use std::rt::Env;
 use std::{env, io};
 use text_streams::{End, Form, put_answers, put_lines, put_records};
 
-/// The page of help, which launch.sh prints too.
+/// The page of help. The launcher prints it from here, without a build.
 const HELP: &str = "\
 usage: sdls_text records < TEXT > INPUT
        sdls_text show < INPUT > TEXT
