@@ -1,3 +1,5 @@
+// The checks of the word `check`, which has a key and no unit: no association and no window is asked. Its order is that
+// of `Check.antt`; the order of a unit is that of `frame_checks`.
 ghost use Rattle.std.specs.Prelude.{◌≡◌, ◌↔◌, ◌-◌, ◌≤◌, List, ℕ, length, drop, take, IfOk, IfErr, IsTrue};
 ghost use Rattle.cmac.specs.Cmac.{mac};
 ghost use Rattle.sdls_base.specs.Suite.{overhead_of};

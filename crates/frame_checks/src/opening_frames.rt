@@ -1,3 +1,6 @@
+// The checks of a frame that was received, in their order: ProcessSecurity of CCSDS 355.0-B-2. `IsOpenReply` of
+// specs/OpeningFrames.antt is the definition of that order. `open_frame` makes all the checks at once, and `trying.rt`
+// makes them in two parts under the same definition.
 ghost use Rattle.std.specs.Prelude.{◌≡◌, ◌≤◌, List, ℕ, length, take, Some, IfOk, IfErr, IfSome};
 ghost use Rattle.std.specs.Int.{w16, to_be_bytes};
 ghost use Rattle.std.specs.Option.{option_map};

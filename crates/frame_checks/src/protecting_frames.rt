@@ -1,3 +1,5 @@
+// The checks of a frame that is to be protected, in their order, and what it is protected under: ApplySecurity of CCSDS
+// 355.0-B-2. `protect_check` of specs/ProtectingFrames.antt is the definition of that order.
 ghost use Rattle.std.specs.Prelude.{◌≡◌, ◌↔◌, Some, None, Ok, IfOk, IfSome};
 ghost use Rattle.sa_book.specs.SaRow.{IsSaRow};
 ghost use Rattle.sdls_base.specs.Link.{IsLink};

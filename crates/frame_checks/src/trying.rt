@@ -1,3 +1,5 @@
+// The checks of a frame that was received, in two parts: what no other frame can change, MAC included, and then the
+// number. So lanes compare MACs at the same time. Both parts together meet `IsOpenReply`, the definition of the order.
 ghost use Rattle.std.specs.Prelude.{◌≡◌, Some, IfSome, IsNone, IsTrue};
 ghost use Rattle.frame_shield.specs.Binding.{IsBinding};
 ghost use Rattle.unit_plan.specs.PlanLines.{link_of};

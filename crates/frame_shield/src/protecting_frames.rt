@@ -1,3 +1,5 @@
+// A clear frame is protected: prefix, security header, data field, security trailer and error control field are written
+// into a room, one behind the other. `Protects` of specs/Protects.antt says which octets these are.
 ghost use Rattle.std.specs.Prelude.{◌≡◌, ◌+◌, ◌^◌, ◌<◌, ◌≤◌, [], ◌++◌, unwrap_or, option_copied, None, Some, length};
 ghost use Rattle.std.specs.Prelude.{take, drop, MatchResult};
 ghost use Rattle.sdls_base.specs.declared.layout.FrameFault.{FrameFault};

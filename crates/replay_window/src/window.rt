@@ -1,3 +1,5 @@
+// The anti-replay window: which number may come next (`judge`), and what is known once one was accepted (`accept`). It
+// reaches `width` numbers ahead of the highest one accepted, and up to 64 back.
 ghost use Rattle.std.specs.Prelude.{◌≡◌, ◌≢◌, ℕ, ◌-◌, ◌*◌, ◌%◌, ◌^◌, ◌<◌, ◌≤◌, ◌↔◌, IsTrue, bit_or};
 ghost use Rattle.std.specs.Int.{bit_at};
 

@@ -1,3 +1,4 @@
+// The top call: one match over the words. Its clauses are what `docs/HEADLINE.md` reads aloud.
 ghost use Rattle.std.specs.Prelude.{◌≡◌, ◌≢◌, ℕ, List, []};
 ghost use Rattle.record_io.specs.declared.status.TheConstants.{SITE_FAULT, SOURCE_FAULT};
 ghost use Rattle.run_promise.specs.Lives.{EndsAndLives, KeepsLivesReading};
