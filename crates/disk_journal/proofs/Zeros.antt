@@ -31,7 +31,7 @@ written_zero image octets at n i are size within low high =
     written_octet image at i octets (omega arith) low (omega arith)
     ∙ ap (λ (some : List ℕ). get_or some (i - at) 0) are ∙ get_or-replicate n (i - at) 0 0 below
 
-zeros_size : (n : ℕ) (octets : List ℕ) → octets ≡ replicate n 0 → length octets ≡ n
+pub zeros_size : (n : ℕ) (octets : List ℕ) → octets ≡ replicate n 0 → length octets ≡ n
 zeros_size n octets are = ap (λ (some : List ℕ). length some) are ∙ length-replicate n 0
 
 -- zeros behind zeros

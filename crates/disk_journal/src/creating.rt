@@ -15,9 +15,10 @@ ghost use Rattle.disk_journal.specs.Journal.{HasSiteFault};
 use crate::fault::JournalFault;
 use crate::layout::{
     BANKS_AT, CONTENT_AT, FIRST_GENERATION, GENERATION_AT, GENERATION_LENGTH, HeaderForm, Layout,
-    MIGRATED_AT,
+    MIGRATED_AT, RUN_LENGTH,
 };
 use crate::storing::store;
+use crate::zeroing::{piece_of, zeros_of};
 use byteorder::{BigEndian, ByteOrder};
 use image_parts::{
     CLOSED, HEADER_LENGTH, LEAST_SLOTS, MAGIC_AT, MOST_SLOTS, OPEN, PLAN_LENGTH_AT, PLAN_ROOM,
@@ -70,8 +71,13 @@ fn write_blocks<O: Site>(site: &mut O, blocks: u32) -> Result<(), Failed>
     ensures cause { HasCause (O.faults site.old) (O.faults site.new) result }
     ensures puts { O.put_faults site.new ≡ O.put_faults site.old }
 {
-    for block in 1..blocks {
-        write_behind(site, SLOT_LENGTH * block as u64, &[0; SLOT_LENGTH as usize])?;
+    let zeros = [0; RUN_LENGTH];
+    let mut block = 1;
+    while block < blocks {
+        let count = piece_of(blocks - block);
+        let octets = zeros_of(&zeros, count);
+        write_behind(site, SLOT_LENGTH * block as u64, octets)?;
+        block += count;
     }
     Ok(())
 }

@@ -30,7 +30,7 @@ pub const CONTENT_AT: u64 = 9;
 /// The generation of the bank that an image begins with.
 pub const FIRST_GENERATION: u64 = 1;
 
-/// The most slots, or blocks of their length, that are read in a call.
+/// The most slots, or blocks of their length, that are read or written in a call.
 pub(crate) const RUN: u32 = 64;
 
 /// The octets of so many.

@@ -23,6 +23,7 @@ mod opening_image;
 mod settling;
 mod storing;
 mod turning;
+mod zeroing;
 
 pub use creating::{create, create_two};
 pub use fault::JournalFault;

@@ -10,8 +10,10 @@ ghost use Rattle.disk_journal.specs.Changes.{IsLaidBehind, Migrates, with_migrat
 
 use crate::layout::{
     BANKS_AT, CONTENT_AT, FIRST_GENERATION, GENERATION_AT, GENERATION_LENGTH, Layout, MIGRATED_AT,
+    RUN_LENGTH,
 };
 use crate::storing::{clear_blocks, store};
+use crate::zeroing::{piece_of, zeros_of};
 use byteorder::{BigEndian, ByteOrder};
 use image_parts::{OPEN, SLOT_LENGTH};
 use sdls_outside::{Failed, Site};
@@ -50,13 +52,13 @@ fn lay_zeros<O: Site>(site: &mut O, from: u64, blocks: u32) -> Result<(), Failed
     ensures cause { HasCause (O.faults site.old) (O.faults site.new) result }
     ensures puts { O.put_faults site.new ≡ O.put_faults site.old }
 {
-    for block in 0..blocks {
-        write_behind(
-            site,
-            from,
-            from + SLOT_LENGTH * block as u64,
-            &[0; SLOT_LENGTH as usize],
-        )?;
+    let zeros = [0; RUN_LENGTH];
+    let mut block = 0;
+    while block < blocks {
+        let count = piece_of(blocks - block);
+        let octets = zeros_of(&zeros, count);
+        write_behind(site, from, from + SLOT_LENGTH * block as u64, octets)?;
+        block += count;
     }
     Ok(())
 }

@@ -6,7 +6,8 @@ ghost use Rattle.sdls_outside.specs.Site.{overwritten};
 ghost use Rattle.image_parts.specs.Changes.{AllBut, EachImage};
 ghost use Rattle.disk_journal.specs.Changes.{filled, IsZero, IsCleared, IsErased, Row};
 
-use crate::layout::{CONTENT_AT, GENERATION_AT, GENERATION_LENGTH};
+use crate::layout::{CONTENT_AT, GENERATION_AT, GENERATION_LENGTH, RUN_LENGTH};
+use crate::zeroing::{piece_of, zeros_of};
 use byteorder::{BigEndian, ByteOrder};
 use image_parts::{OPEN, SLOT_LENGTH};
 use sdls_base::BODY_LENGTH;
@@ -91,11 +92,13 @@ fn zero_blocks<O: Site>(site: &mut O, bank: u64, blocks: u32) -> Result<(), Fail
     ensures cause { HasCause (O.faults site.old) (O.faults site.new) result }
     ensures puts { O.put_faults site.new ≡ O.put_faults site.old }
 {
-    for block in 1..blocks {
-        site.write_at(
-            bank + SLOT_LENGTH * block as u64,
-            &[0; SLOT_LENGTH as usize],
-        )?;
+    let zeros = [0; RUN_LENGTH];
+    let mut block = 1;
+    while block < blocks {
+        let count = piece_of(blocks - block);
+        let octets = zeros_of(&zeros, count);
+        site.write_at(bank + SLOT_LENGTH * block as u64, octets)?;
+        block += count;
     }
     Ok(())
 }
@@ -148,8 +151,13 @@ fn write_zeros<O: Site>(site: &mut O, at: u64, blocks: u32) -> Result<(), Failed
     ensures cause { HasCause (O.faults site.old) (O.faults site.new) result }
     ensures puts { O.put_faults site.new ≡ O.put_faults site.old }
 {
-    for block in 0..blocks {
-        site.write_at(at + SLOT_LENGTH * block as u64, &[0; SLOT_LENGTH as usize])?;
+    let zeros = [0; RUN_LENGTH];
+    let mut block = 0;
+    while block < blocks {
+        let count = piece_of(blocks - block);
+        let octets = zeros_of(&zeros, count);
+        site.write_at(at + SLOT_LENGTH * block as u64, octets)?;
+        block += count;
     }
     Ok(())
 }

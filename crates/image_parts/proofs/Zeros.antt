@@ -112,20 +112,20 @@ pub zeros_end : (image : List ℕ) (n : ℕ) → image ≡ zeros n → length im
 zeros_end image n filled = ap (λ (octets : List ℕ). length octets) filled ∙ length_zeros n
 
 -- a block of zeros, as it is written
-pub is_block : zeros SLOT_LENGTH ≡ replicate SLOT_LENGTH 0
+pub are_zeros : (n : ℕ) → zeros n ≡ replicate n 0
 unfolding zeros
-is_block = refl
+are_zeros n = refl
 
 pub block_size : (octets : List ℕ) → octets ≡ zeros SLOT_LENGTH → length octets ≡ SLOT_LENGTH
 block_size octets filled = zeros_end octets SLOT_LENGTH filled
 
-pub block_zeros : (mid new : List ℕ) (block : ℕ) (octets : List ℕ) → octets ≡ zeros SLOT_LENGTH → mid ≡ zeros (SLOT_LENGTH * block)
-    → new ≡ overwritten mid (SLOT_LENGTH * block) octets → new ≡ zeros (SLOT_LENGTH * (block + 1))
-block_zeros mid new block octets block_is filled written =
-    let next : SLOT_LENGTH * block + SLOT_LENGTH ≡ SLOT_LENGTH * (block + 1) = omega arith in
+pub blocks_zeros : (mid new : List ℕ) (block count : ℕ) (octets : List ℕ) → octets ≡ zeros (SLOT_LENGTH * count) → mid ≡ zeros (SLOT_LENGTH * block)
+    → new ≡ overwritten mid (SLOT_LENGTH * block) octets → new ≡ zeros (SLOT_LENGTH * (block + count))
+blocks_zeros mid new block count octets blocks_are filled written =
+    let next : SLOT_LENGTH * block + SLOT_LENGTH * count ≡ SLOT_LENGTH * (block + count) = omega arith in
     written ∙ ap (λ (image : List ℕ). overwritten image (SLOT_LENGTH * block) octets) filled
-    ∙ ap (λ (some : List ℕ). overwritten (zeros (SLOT_LENGTH * block)) (SLOT_LENGTH * block) some) block_is
-    ∙ more_zeros (SLOT_LENGTH * block) SLOT_LENGTH
+    ∙ ap (λ (some : List ℕ). overwritten (zeros (SLOT_LENGTH * block)) (SLOT_LENGTH * block) some) blocks_are
+    ∙ more_zeros (SLOT_LENGTH * block) (SLOT_LENGTH * count)
     ∙ ap zeros next
 
 pub then_failed : (at : ℕ) (octets : List ℕ) (bound : ℕ) (old mid new : Trace) → EachImage old mid (AtMost bound)

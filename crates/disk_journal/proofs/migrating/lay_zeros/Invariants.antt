@@ -1,14 +1,18 @@
-use Rattle.std.proofs.Common.{◌≡◌, ◌+◌, ◌*◌, ◌≤◌, length, IsTrue}
+use Rattle.std.proofs.Common.{◌≡◌, ◌+◌, ◌-◌, ◌*◌, ◌≤◌, length, IsTrue}
 use Rattle.image_parts.specs.declared.layout.TheConstants.{SLOT_LENGTH}
 use Rattle.image_parts.specs.Changes.{EachImage}
 use Rattle.disk_journal.specs.Changes.{IsZero, KeepsBelow, KeepsPast}
 use Rattle.disk_journal.proofs.Behind.{StillBehind}
 use Rattle.disk_journal.proofs.migrating.lay_zeros.Given as goal
 
+abbrev pub decreases-loop-block : goal.decreases-loop-block
+decreases-loop-block g l = l.blocks - l.block
+
 abbrev pub invariant-loop-block : goal.invariant-loop-block
 invariant-loop-block g l = record {
   stood : g.O.Site.faults l.site ≡ g.O.Site.faults l.initial.site;
   puts : g.O.Site.put_faults l.site ≡ g.O.Site.put_faults l.initial.site;
+  within : l.block ≤ l.blocks;
   zero : IsTrue g.O.Site.told → IsZero l.from (l.from + SLOT_LENGTH * l.block) (g.O.Site.trace l.site).now.image
       × (l.from + SLOT_LENGTH * l.block ≤ length (g.O.Site.trace l.site).now.image);
   past : IsTrue g.O.Site.told → KeepsPast (l.from + SLOT_LENGTH * l.block) (g.O.Site.trace l.initial.site).now.image (g.O.Site.trace l.site).now.image;
