@@ -11,8 +11,7 @@
 //!
 //! `dead STEP KIND` does a step from the image once for each call of it that the site can be dead from, which it then
 //! crashes so: `kept`, `lost`, or filled with an octet. It prints what the image holds after each when it is opened
-//! again, and how often that stands so in a row. `dead STEP KIND FIRST END` takes some of the calls alone. `left CALL
-//! STEP KIND` takes the image that one of them leaves.
+//! again, and how often that stands so in a row. `left CALL STEP KIND` takes the image that one of them leaves.
 //!
 //! `outside CASE` prints a case of the disk, the sink or the input, and what it answers. `crash KIND IMAGE STEP..` does
 //! the steps on a site in memory that holds the image, and shows the image after a crash: `kept`, `lost`, or filled

@@ -8,12 +8,11 @@
 //! this input. `next` begins the input of the run behind it, which else is over the same input again.
 //!
 //! `stops KIND`: the site is dead from call k, for k from 0 on, until a run meets no stop. Behind each the image is
-//! crashed: `kept`, `lost`, or filled with an octet. Then comes the next run. `stops KIND FIRST END EACH` takes some of
-//! the calls. `gone FIRST KIND OCTETS`: the same from a call on, and these octets stand nowhere in what the crash
-//! leaves, nor behind the next run.
+//! crashed: `kept`, `lost`, or filled with an octet. Then comes the next run. `gone FIRST KIND OCTETS`: the same from a
+//! call on, and these octets stand nowhere in what the crash leaves, nor behind the next run.
 //!
-//! `stat` prints what `stat` says of the image, and takes the image that it leaves. `stats KIND`, or with
-//! `FIRST END EACH`: `stat` on a site that is dead from call k, a crash, and three more of it.
+//! `stat` prints what `stat` says of the image, and takes the image that it leaves. `stats KIND`: `stat` on a site that
+//! is dead from call k, a crash, and three more of it.
 //!
 //! `failing OPENING KIND`: one call fails, for each call of a run, of which so many open the image. Behind each come a
 //! crash and the next run.

@@ -6,7 +6,7 @@ use sdls_outside::{Crash, Failed, MemSite, Site};
 use std::alloc::{AllocError, Global};
 
 /// A site that passes each call on to one in memory. A `MemSite` looks for each octet that a crash may fill through all
-/// writes that are pending, and a migration has 1,600 of them; here those in a row are one.
+/// writes that are pending, and a migration has some thirty of them; here those in a row are one.
 #[derive(Drop)]
 pub struct NotedSite {
     inside: MemSite,

@@ -1,6 +1,6 @@
 //! A site that is dead from a call on, a crash, and the next runs.
 use crate::answers::{Answer, has_repeat, push_answers};
-use crate::calls::Calls;
+use crate::calls::MOST_CALLS;
 use crate::runs::{Ran, Runs};
 use record_io::code::PROTECTED;
 use record_io::status::{DONE, SITE_FAULT};
@@ -139,33 +139,30 @@ impl<R: Threads + Wait + Sync> Runs<'_, R> {
         }
     }
 
-    /// Writes what is wrong with the stops at these calls: `N stops, sound` if nothing is.
+    /// Writes what is wrong with the stops from a call on: `N stops, sound` if nothing is.
     pub fn judge_stops(
         &self,
         alloc: Global,
-        calls: Calls,
+        first: u64,
         crash: Crash,
         rule: Rule<'_>,
         answer: &mut String,
     ) -> Result<(), AllocError> {
         let mut stops = 0u64;
-        for call in calls.first..calls.end {
-            if calls.has(call) {
-                match self.flaw_at(alloc, call, crash, rule)? {
-                    None => break,
-                    Some("") => stops = stops.saturating_add(1),
-                    Some(flaw) => return write!(answer, "a stop at call {call}: {flaw}"),
-                }
+        for call in first..MOST_CALLS {
+            match self.flaw_at(alloc, call, crash, rule)? {
+                None => return write!(answer, "{stops} stops, sound"),
+                Some("") => stops = stops.saturating_add(1),
+                Some(flaw) => return write!(answer, "a stop at call {call}: {flaw}"),
             }
         }
-        write!(answer, "{stops} stops, sound")
+        answer.push_str("no end")
     }
 
     /// The same of `stat`, which ends well without a stop.
     pub fn judge_stats(
         &self,
         alloc: Global,
-        calls: Calls,
         crash: Crash,
         answer: &mut String,
     ) -> Result<(), AllocError> {
@@ -173,6 +170,6 @@ impl<R: Threads + Wait + Sync> Runs<'_, R> {
         if whole.status != DONE {
             return answer.push_str("it does not end well");
         }
-        self.judge_stops(alloc, calls, crash, Rule::Stat(&whole), answer)
+        self.judge_stops(alloc, 0, crash, Rule::Stat(&whole), answer)
     }
 }

@@ -1,5 +1,5 @@
 //! The steps, and what they answer.
-use crate::calls::{Calls, crash_at};
+use crate::calls::crash_at;
 use crate::runs::Runs;
 use crate::stops::{Rule, stand};
 use case_lines::{Gathered, number_at, part_of, set_part_of, word_at};
@@ -131,9 +131,7 @@ impl<R: Threads + Wait + Sync> Table<'_, R> {
         if word == "stat" {
             self.stat(alloc, answer)?;
         } else {
-            let calls = Calls::of_line(rest, 1);
-            self.runs
-                .judge_stats(alloc, calls, crash_at(rest, 0), answer)?;
+            self.runs.judge_stats(alloc, crash_at(rest, 0), answer)?;
         }
         self.runs.set_words(alloc, "")?;
         Ok(true)
@@ -142,10 +140,10 @@ impl<R: Threads + Wait + Sync> Table<'_, R> {
     /// Writes what is wrong with stops behind which octets are to be gone: `FIRST KIND OCTETS`.
     fn gone(&self, alloc: Global, rest: &str, answer: &mut String) -> anyhow::Result<()> {
         let octets = hex::decode(alloc, word_at(rest, 2))?;
-        let calls = Calls::of_line(word_at(rest, 0), 0);
+        let first = number_at(rest, 0);
         let rule = Rule::Numbers(octets.as_slice());
         self.runs
-            .judge_stops(alloc, calls, crash_at(rest, 1), rule, answer)?;
+            .judge_stops(alloc, first, crash_at(rest, 1), rule, answer)?;
         Ok(())
     }
 
@@ -163,10 +161,9 @@ impl<R: Threads + Wait + Sync> Table<'_, R> {
                 write!(answer, "{length} octets")
             }
             "stops" => {
-                let calls = Calls::of_line(rest, 1);
                 let rule = Rule::Numbers(&[]);
                 self.runs
-                    .judge_stops(alloc, calls, crash_at(rest, 0), rule, answer)
+                    .judge_stops(alloc, 0, crash_at(rest, 0), rule, answer)
             }
             "failing" => {
                 let opening = number_at(rest, 0);
