@@ -1,13 +1,44 @@
 //! One call of the site that fails.
 use crate::answers::{Answer, push_answers};
-use crate::calls::MOST_CALLS;
+use crate::calls::{MOST_CALLS, Trouble, crash_at};
 use crate::runs::{Ran, Runs};
+use case_lines::{number_at, word_at};
 use record_io::code::END;
 use record_io::status::{DONE, SITE_FAULT};
 use sdls_outside::Crash;
 use std::alloc::{AllocError, Global};
 use std::sync::Wait;
 use std::thread::Threads;
+
+/// Runs in each of which one call fails, and the crash behind it.
+#[derive(Clone, Copy)]
+pub struct Failing {
+    /// How many calls open the image.
+    opening: u64,
+    crash: Crash,
+    /// Whether a write that fails is written all the same.
+    is_written: bool,
+}
+
+impl Failing {
+    /// What a line says: `OPENING KIND`, and perhaps `written`.
+    pub fn of_line(line: &str) -> Failing {
+        Failing {
+            opening: number_at(line, 0),
+            crash: crash_at(line, 1),
+            is_written: word_at(line, 2) == "written",
+        }
+    }
+
+    /// What goes wrong if this call fails.
+    fn trouble(self, call: u64) -> Trouble {
+        if self.is_written {
+            Trouble::FailsWritten(call)
+        } else {
+            Trouble::Fails(call)
+        }
+    }
+}
 
 /// What a call of a run is for.
 #[derive(Clone, Copy, PartialEq, Eq)]
@@ -90,13 +121,12 @@ impl<R: Threads + Wait + Sync> Runs<'_, R> {
         &self,
         alloc: Global,
         call: u64,
-        opening: u64,
-        crash: Crash,
+        failing: Failing,
         whole: &Ran,
         alone: &Ran,
     ) -> Result<Call, AllocError> {
-        let ran = self.first(alloc, Some(call), None)?;
-        let kind = call_of(call, opening, &ran);
+        let ran = self.first(alloc, failing.trouble(call))?;
+        let kind = call_of(call, failing.opening, &ran);
         if kind == Call::None {
             return Ok(kind);
         }
@@ -104,7 +134,7 @@ impl<R: Threads + Wait + Sync> Runs<'_, R> {
         push_answers(&mut answers, ran.site.sunk())?;
         let records = self.input.records;
         if is_due(kind, records, &ran, answers.as_slice(), whole.site.sunk())
-            && self.is_next_due(alloc, kind, &mut answers, ran, crash, alone)?
+            && self.is_next_due(alloc, kind, &mut answers, ran, failing.crash, alone)?
         {
             return Ok(kind);
         }
@@ -115,8 +145,7 @@ impl<R: Threads + Wait + Sync> Runs<'_, R> {
     fn judge_calls(
         &self,
         alloc: Global,
-        opening: u64,
-        crash: Crash,
+        failing: Failing,
         whole: &Ran,
         alone: &Ran,
         answer: &mut String,
@@ -124,11 +153,12 @@ impl<R: Threads + Wait + Sync> Runs<'_, R> {
         let mut puts = 0u64;
         let mut others = 0u64;
         for call in 0..MOST_CALLS {
-            match self.judge_call(alloc, call, opening, crash, whole, alone)? {
+            match self.judge_call(alloc, call, failing, whole, alone)? {
                 Call::Opening => {}
                 Call::Put => puts = puts.saturating_add(1),
                 Call::Other => others = others.saturating_add(1),
                 Call::None => {
+                    let opening = failing.opening;
                     return write!(
                         answer,
                         "{opening} calls of the opening, {puts} puts, {others} others, sound"
@@ -144,12 +174,11 @@ impl<R: Threads + Wait + Sync> Runs<'_, R> {
     pub fn judge_failing(
         &self,
         alloc: Global,
-        opening: u64,
-        crash: Crash,
+        failing: Failing,
         answer: &mut String,
     ) -> Result<(), AllocError> {
-        let whole = self.first(alloc, None, None)?;
+        let whole = self.first(alloc, Trouble::None)?;
         let alone = self.next_alone(alloc)?;
-        self.judge_calls(alloc, opening, crash, &whole, &alone, answer)
+        self.judge_calls(alloc, failing, &whole, &alone, answer)
     }
 }

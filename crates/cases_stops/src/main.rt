@@ -15,7 +15,7 @@
 //! is dead from call k, a crash, and three more of it.
 //!
 //! `failing OPENING KIND`: one call fails, for each call of a run, of which so many open the image. Behind each come a
-//! crash and the next run.
+//! crash and the next run. With `written` behind it, the octets of a write that fails read as written afterwards.
 //!
 //! `refused` makes two runs, each over the image of the unit, and the next one behind each. `docs/refuse_memory` has
 //! each allocation of that refused in turn.

@@ -2,6 +2,7 @@
 ghost use Rattle.std.specs.Prelude.{true};
 ghost use Rattle.sdls_outside.specs.contracts.mem_site.MemSiteSite.TheImpl.Laws as mem_laws;
 
+use crate::calls::Trouble;
 use sdls_outside::{Crash, Failed, MemSite, Site};
 use std::alloc::{AllocError, Global};
 
@@ -14,6 +15,8 @@ pub struct NotedSite {
     written: Vec<(u64, u64)>,
     /// How many octets were sunk when a put failed first.
     failed_put: Option<usize>,
+    /// Whether the octets of a write that fails are written all the same.
+    writes_failed: bool,
 }
 
 /// Writes this octet to each place that was written.
@@ -39,18 +42,21 @@ fn note(written: &mut Vec<(u64, u64)>, at: u64, length: u64) {
 }
 
 impl NotedSite {
-    /// A site that holds this image. `failing` lists the calls that fail, and each call from `dead_from` on fails.
-    pub fn new(
-        alloc: Global,
-        image: Vec<u8>,
-        failing: Vec<u64>,
-        dead_from: Option<u64>,
-    ) -> NotedSite {
-        NotedSite {
+    /// A site that holds this image.
+    pub fn new(alloc: Global, image: Vec<u8>, trouble: Trouble) -> Result<NotedSite, AllocError> {
+        let mut failing = Vec::new(alloc);
+        let mut dead_from = None;
+        match trouble {
+            Trouble::None => {}
+            Trouble::Fails(call) | Trouble::FailsWritten(call) => failing.push(call)?,
+            Trouble::Dead(call) => dead_from = Some(call),
+        }
+        Ok(NotedSite {
             inside: MemSite::new(alloc, image, failing, dead_from),
             written: Vec::new(alloc),
             failed_put: None,
-        }
+            writes_failed: matches!(trouble, Trouble::FailsWritten(_)),
+        })
     }
 
     /// The image as it reads.
@@ -79,17 +85,19 @@ impl NotedSite {
     pub fn crashed(self, alloc: Global, how: Crash) -> Result<NotedSite, AllocError> {
         if let Crash::Filled(octet) = how {
             let image = self.filled(alloc, octet)?;
-            return Ok(NotedSite::new(alloc, image, Vec::new(alloc), None));
+            return NotedSite::new(alloc, image, Trouble::None);
         }
         let NotedSite {
             inside,
             written: _,
             failed_put: _,
+            writes_failed: _,
         } = self;
         Ok(NotedSite {
             inside: inside.crashed(how),
             written: Vec::new(alloc),
             failed_put: None,
+            writes_failed: false,
         })
     }
 }
@@ -116,9 +124,13 @@ impl Site for NotedSite {
     }
 
     fn write_at(&mut self, at: u64, octets: &[u8]) -> Result<(), Failed> {
-        self.inside.write_at(at, octets)?;
-        note(&mut self.written, at, octets.len() as u64);
-        Ok(())
+        let answer = self.inside.write_at(at, octets);
+        let is_written = answer.is_ok()
+            || (self.writes_failed && self.inside.write_at(at, octets).is_ok());
+        if is_written {
+            note(&mut self.written, at, octets.len() as u64);
+        }
+        answer
     }
 
     fn sync(&mut self) -> Result<(), Failed> {

@@ -1,5 +1,6 @@
 //! A run to which memory is refused once, and the next one.
 use crate::answers::{Answer, has_repeat, push_answers};
+use crate::calls::Trouble;
 use crate::runs::{Ran, Runs};
 use record_io::code::{END, NO_MEMORY, SITE_FAULT, STOPPED};
 use record_io::status;
@@ -107,8 +108,8 @@ impl<R: Threads + Wait + Sync> Runs<'_, R> {
 
     /// Writes what is wrong with two such runs.
     pub fn judge_refused(&self, alloc: Global, answer: &mut String) -> Result<(), AllocError> {
-        let one = self.first(alloc, None, None)?;
-        let other = self.first(alloc, None, None)?;
+        let one = self.first(alloc, Trouble::None)?;
+        let other = self.first(alloc, Trouble::None)?;
         let mut first = Vec::new(alloc);
         let mut second = Vec::new(alloc);
         answer.push_str(self.judge_two(alloc, one, other, &mut first, &mut second)?)

@@ -1,4 +1,5 @@
 //! Runs over one image and one input.
+use crate::calls::Trouble;
 use crate::noted_site::NotedSite;
 use case_lines::words_of;
 use case_units::{BEGINNING, FENCE};
@@ -147,19 +148,10 @@ impl<'a, R> Runs<'a, R> {
         Ok(())
     }
 
-    /// A site with the image that fails at one call alone, or from one on.
-    fn site(
-        &self,
-        alloc: Global,
-        failing: Option<u64>,
-        dead_from: Option<u64>,
-    ) -> Result<NotedSite, AllocError> {
+    /// A site with the image.
+    fn site(&self, alloc: Global, trouble: Trouble) -> Result<NotedSite, AllocError> {
         let image = Vec::from_slice(alloc, self.image.as_slice())?;
-        let mut calls = Vec::new(alloc);
-        if let Some(call) = failing {
-            calls.push(call)?;
-        }
-        Ok(NotedSite::new(alloc, image, calls, dead_from))
+        NotedSite::new(alloc, image, trouble)
     }
 }
 
@@ -173,14 +165,9 @@ impl<R: Threads + Wait + Sync> Runs<'_, R> {
         Ok(session(self.rt, alloc, input, site))
     }
 
-    /// The command over the input on a site that fails at one call alone, or from one on.
-    pub fn first(
-        &self,
-        alloc: Global,
-        failing: Option<u64>,
-        dead_from: Option<u64>,
-    ) -> Result<Ran, AllocError> {
-        let site = self.site(alloc, failing, dead_from)?;
+    /// The command over the input, on a site with the image.
+    pub fn first(&self, alloc: Global, trouble: Trouble) -> Result<Ran, AllocError> {
+        let site = self.site(alloc, trouble)?;
         self.on(alloc, self.input.octets.as_slice(), site)
     }
 
@@ -194,7 +181,7 @@ impl<R: Threads + Wait + Sync> Runs<'_, R> {
 
     /// The same on a site with the image, of which no call fails.
     pub fn next_alone(&self, alloc: Global) -> Result<Ran, AllocError> {
-        let site = self.site(alloc, None, None)?;
+        let site = self.site(alloc, Trouble::None)?;
         self.next(alloc, site)
     }
 }

@@ -1,6 +1,6 @@
 //! A site that is dead from a call on, a crash, and the next runs.
 use crate::answers::{Answer, has_repeat, push_answers};
-use crate::calls::MOST_CALLS;
+use crate::calls::{MOST_CALLS, Trouble};
 use crate::runs::{Ran, Runs};
 use record_io::code::PROTECTED;
 use record_io::status::{DONE, SITE_FAULT};
@@ -128,7 +128,7 @@ impl<R: Threads + Wait + Sync> Runs<'_, R> {
         crash: Crash,
         rule: Rule<'_>,
     ) -> Result<Option<&'static str>, AllocError> {
-        let first = self.first(alloc, None, Some(call))?;
+        let first = self.first(alloc, Trouble::Dead(call))?;
         match (first.status, rule) {
             (DONE, Rule::Numbers(gone)) if stand(gone, first.site.image()) => {
                 Ok(Some("the octets are left"))
@@ -166,7 +166,7 @@ impl<R: Threads + Wait + Sync> Runs<'_, R> {
         crash: Crash,
         answer: &mut String,
     ) -> Result<(), AllocError> {
-        let whole = self.first(alloc, None, None)?;
+        let whole = self.first(alloc, Trouble::None)?;
         if whole.status != DONE {
             return answer.push_str("it does not end well");
         }

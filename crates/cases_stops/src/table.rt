@@ -1,5 +1,6 @@
 //! The steps, and what they answer.
-use crate::calls::crash_at;
+use crate::calls::{Trouble, crash_at};
+use crate::failing::Failing;
 use crate::runs::Runs;
 use crate::stops::{Rule, stand};
 use case_lines::{Gathered, number_at, part_of, set_part_of, word_at};
@@ -109,7 +110,7 @@ impl<'a, R> Table<'a, R> {
 impl<R: Threads + Wait + Sync> Table<'_, R> {
     /// Writes what `stat` says of the image, and takes the image that it leaves.
     fn stat(&mut self, alloc: Global, answer: &mut String) -> Result<(), AllocError> {
-        let ran = self.runs.first(alloc, None, None)?;
+        let ran = self.runs.first(alloc, Trouble::None)?;
         self.runs.image.clear();
         self.runs.image.extend_from_slice(ran.site.image())?;
         let text = String::from_utf8_lossy(alloc, ran.site.sunk())?;
@@ -165,11 +166,9 @@ impl<R: Threads + Wait + Sync> Table<'_, R> {
                 self.runs
                     .judge_stops(alloc, 0, crash_at(rest, 0), rule, answer)
             }
-            "failing" => {
-                let opening = number_at(rest, 0);
-                self.runs
-                    .judge_failing(alloc, opening, crash_at(rest, 1), answer)
-            }
+            "failing" => self
+                .runs
+                .judge_failing(alloc, Failing::of_line(rest), answer),
             "refused" => self.runs.judge_refused(alloc, answer),
             _ => answer.push_str("no step"),
         }
