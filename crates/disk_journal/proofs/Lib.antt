@@ -1,5 +1,6 @@
 pub mod Pending
 pub mod Zeros
+pub mod Joined
 pub mod Erasing
 pub mod Behind
 pub mod Laying

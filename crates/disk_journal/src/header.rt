@@ -30,11 +30,11 @@ fn number_at(header: &[u8], at: u64) -> u32
     BigEndian::read_u32(&header[at as usize..])
 }
 
-/// Whether an octet is not 0.
+/// Whether an octet is not 0. All are looked at: so many are joined at a time.
 pub(crate) fn has_other(octets: &[u8]) -> bool
     ensures { result ≡ list_any (λ octet. not (octet == 0)) octets.now }
 {
-    octets.iter().any(|octet| *octet != 0)
+    octets.iter().fold(0, |all, octet| all | *octet) != 0
 }
 
 /// Whether a header has this magic.
