@@ -1,3 +1,4 @@
+mod Joined
 mod Fields
 mod RowsRead
 mod Highs

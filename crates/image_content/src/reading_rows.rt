@@ -23,15 +23,11 @@ use sa_book::SaRow;
 use sdls_base::{Direction, KeyId, NewSa};
 use std::alloc::Global;
 
+/// Whether all octets are 0. None decides whether the next is looked at, so many are joined at a time.
 pub(crate) fn are_zeros(octets: &[u8]) -> bool
     ensures { IsTrue result ↔ (octets.now ≡ replicate (length octets.now) 0) }
 {
-    for octet in octets {
-        if *octet != 0 {
-            return false;
-        }
-    }
-    true
+    octets.iter().fold(0, |all, octet| all | *octet) == 0
 }
 
 fn key_row_of(parts: &KeyParts) -> KeyRow
