@@ -22,7 +22,7 @@ use Rattle.sdls_base.specs.declared.states.SaState.TheVariants.{Unkeyed, Keyed, 
 use Rattle.replay_window.specs.declared.TheConstants.{MOST_BACK}
 use Rattle.replay_window.specs.declared.window.Window.{Window}
 use Rattle.replay_window.specs.WindowField.{IsWindowField}
-use Rattle.replay_window.specs.Window.{accepted, with_field}
+use Rattle.replay_window.specs.Window.{accepted, begun_at, with_field}
 use Rattle.sa_book.specs.declared.sa_row.SaRow.{SaRow}
 use Rattle.sa_book.specs.declared.sa_refusal.SaRefusal.{SaRefusal}
 use Rattle.sa_book.specs.declared.sa_refusal.SaRefusal.TheVariants.{SpiTaken, UnknownChannel, TableFull, WrongSuite}
@@ -245,6 +245,11 @@ with_window rows i row window ok within read fits =
     })
     refl
     (λ k d low not_i agree. record { channels = agree.channels; keys = agree.keys })
+
+pub IsSaBook-begin : (rows : List SaRow) (i : ℕ) (row : SaRow) (high : ℕ) → IsSaBook rows → i < length rows → row ≡ get_or rows i row → HasHigh row.direction row.key high → IsSaBook (set rows i (record row { window = begun_at high row.window }))
+IsSaBook-begin rows i row high ok within read has =
+    let rules = rules_at rows i row ok within read in
+    with_window rows i row (begun_at high row.window) ok within read (record { high = has; width = rules.width; back = rules.back })
 
 high_set : (direction : Direction) (key : Option ℕ) (number floor : ℕ) (window : Window) → HasHigh direction key window.high → (IsNone key → ⊥) → number_refusal_of key number floor ≡ None → HasHigh direction key (following direction number window).high
 high_set Send key number floor window h keyed free = h

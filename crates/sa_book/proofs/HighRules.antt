@@ -1,11 +1,9 @@
 -- What the rules keep where windows begin anew.
-use Rattle.std.proofs.Common.{◌≡◌, ℕ, ◌<◌, ◌≤◌, Bool, true, false, cond, nat_eq, nat_lt, ◌&&◌, List, [], ◌∷◌, map, get_or, Option, Some, None, sym, refl, ap, ◌∙◌, subst, arith}
+use Rattle.std.proofs.Common.{◌≡◌, ℕ, ◌≤◌, Bool, true, false, cond, nat_lt, List, [], ◌∷◌, map, get_or, Option, Some, None, sym, refl, ap, ◌∙◌, subst, arith}
 use Rattle.std.proofs.lemmas.Bool.{ltb-true}
-use Rattle.std.proofs.lemmas.Bool.Decides.{nat_tests}
 use Rattle.std.proofs.lemmas.List.{length-map}
 use Rattle.std.proofs.lemmas.List.Elements.{All-map}
 use Rattle.sdls_base.specs.Bounds.{IsWidth}
-use Rattle.sdls_base.specs.KeyId.{end_of}
 use Rattle.sdls_base.specs.declared.TheConstants.{MOST_ASSOCIATIONS}
 use Rattle.sdls_base.specs.declared.states.Direction.{Direction}
 use Rattle.sdls_base.specs.declared.states.Direction.TheVariants.{Send, Receive}
@@ -15,8 +13,8 @@ use Rattle.replay_window.specs.Window.{begun_at, lowered_to}
 use Rattle.sa_book.specs.declared.sa_row.SaRow.{SaRow}
 use Rattle.sa_book.specs.SaRow.{IsSaRow, HasHigh}
 use Rattle.sa_book.specs.SaBook.{RowsAreApart, IsSaBook}
-use Rattle.sa_book.specs.SaRefusal.{receives_with, is_receiving, is_key}
-use Rattle.sa_book.specs.Numbers.{with_high, with_floor, lowered, all_high, all_begun}
+use Rattle.sa_book.specs.SaRefusal.{receives_with}
+use Rattle.sa_book.specs.Numbers.{lowered}
 use Rattle.sdls_base.proofs.Searches.{pairs_map}
 
 -- an association may have the window
@@ -67,31 +65,3 @@ IsSaBook-lowered rows key floor ok =
     subst IsSaBook (sym (same_maps _ _ rows (λ row. same_window (receives_with key row) row (lowered_to floor row.window))))
     (IsSaBook-windows rows (λ row. cond (receives_with key row) (lowered_to floor row.window) row.window) ok
     (λ row rules. lowered_fits row (receives_with key row) floor rules))
-
--- one number for all
-
-same_key : (own key high : ℕ) (b : Bool) → nat_eq own key ≡ b → high < end_of key → (old : ℕ) → old < end_of own → cond b high old < end_of own
-same_key own key high true test below old kept =
-    let same : own ≡ key = grind (arith, nat_tests) in
-    subst (λ k. high < end_of k) (sym same) below
-same_key own key high false test below old kept = kept
-
-one_high : (direction : Direction) (held : Option ℕ) (key high old : ℕ) → high < end_of key → HasHigh direction held old → HasHigh direction held (cond (is_receiving direction && is_key key held) high old)
-one_high Receive (Some own) key high old below has = same_key own key high (nat_eq own key) refl below old has
-one_high Receive None key high old below has = has
-one_high Send held key high old below has = has
-
-begun_fits : (row : SaRow) (b : Bool) (high : ℕ) → IsSaRow row → HasHigh row.direction row.key (cond b high row.window.high)
-    → FitsWindow row (cond b (begun_at high row.window) row.window)
-begun_fits row true high ok has = record { high = has; width = ok.width; back = ok.back }
-begun_fits row false high ok has = record { high = has; width = ok.width; back = ok.back }
-
-pub IsSaBook-all_high : (rows : List SaRow) (key high : ℕ) → high < end_of key → IsSaBook rows → IsSaBook (all_high rows key high)
-IsSaBook-all_high rows key high below ok =
-    subst IsSaBook (sym (same_maps _ _ rows (λ row. same_window (receives_with key row) row (begun_at high row.window))))
-    (IsSaBook-windows rows (λ row. cond (receives_with key row) (begun_at high row.window) row.window) ok
-    (λ row rules. begun_fits row (receives_with key row) high rules (one_high row.direction row.key key high row.window.high below rules.high)))
-
-pub IsSaBook-all_begun : (rows : List SaRow) → IsSaBook rows → IsSaBook (all_begun rows)
-IsSaBook-all_begun rows ok =
-    IsSaBook-windows rows (λ row. begun_at row.window.high row.window) ok (λ row rules. record { high = rules.high; width = rules.width; back = rules.back })

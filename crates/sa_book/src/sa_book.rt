@@ -1,4 +1,4 @@
-ghost use Rattle.std.specs.Prelude.{◌≡◌, ℕ, ◌+◌, ◌<◌, ◌≤◌, List, length, take, slice_index_or, [], ◌∷◌, ◌++◌, All};
+ghost use Rattle.std.specs.Prelude.{◌≡◌, ℕ, ◌+◌, ◌<◌, ◌≤◌, List, length, take, slice_index_or, slice_set, [], ◌∷◌, ◌++◌, All};
 ghost use Rattle.std.specs.Prelude.{Some, IfOk, IfErr, OnOk, OnErr, IsSomeAnd};
 ghost use Rattle.std.specs.Option.{option_map, ForSome};
 ghost use Rattle.std.specs.Result.{result_err};
@@ -8,10 +8,9 @@ ghost use Rattle.sdls_base.specs.declared.states.SaState.TheVariants.{Keyed, Ope
 ghost use Rattle.replay_window.specs.WindowField.{IsWindowField};
 ghost use Rattle.replay_window.specs.Window.{accepted, with_field};
 ghost use Rattle.sa_book.specs.declared.sa_row.SaRow.{SaRow};
-ghost use Rattle.sa_book.specs.SaRow.{IsSaRow, MayAccept, new_row, with_key, without_key, following};
+ghost use Rattle.sa_book.specs.SaRow.{HasHigh, IsSaRow, MayAccept, new_row, with_key, without_key, following};
 ghost use Rattle.sa_book.specs.SaBook.{IsSaBook, MayFollow, row_of, changed, without, with_row, sender_on, in_use};
-ghost use Rattle.sa_book.specs.Numbers.{lowered, all_high, all_begun};
-ghost use Rattle.sdls_base.specs.KeyId.{end_of};
+ghost use Rattle.sa_book.specs.Numbers.{lowered, with_high};
 ghost use Rattle.sa_book.specs.SaRefusal.{IsSaRefusal, create_refusal, rekey_refusal, start_refusal, stop_refusal};
 ghost use Rattle.sa_book.specs.SaRefusal.{expire_refusal, delete_refusal, set_number_refusal, set_window_refusal};
 ghost use Rattle.sa_book.specs.SaRefusal.{read_number_refusal};
@@ -202,19 +201,15 @@ impl SaBook {
         highs::lower(&mut self.rows, key, floor);
     }
 
-    /// Begins the windows of the associations that receive with a key anew at a number. Takes no memory.
-    pub fn set_high(&mut self, key: KeyId, high: u64)
-        requires { high < end_of key }
-        ensures { self.new ≡ all_high self.old key high }
+    /// Begins the window of the association at a place anew at a number. Takes no memory.
+    pub fn begin_window(&mut self, place: usize, high: u64)
+        requires there { place < length self.old }
+        requires high { (row : SaRow) → row ≡ slice_index_or self.old place row → HasHigh row.direction row.key high }
+        ensures { (row : SaRow) → row ≡ slice_index_or self.old place row
+            → self.new ≡ slice_set self.old place (with_high row high) }
     {
-        highs::set(&mut self.rows, key, high);
-    }
-
-    /// Begins the window of every association anew at its highest number. Takes no memory.
-    pub fn begin_windows(&mut self)
-        ensures { self.new ≡ all_begun self.old }
-    {
-        highs::begin(&mut self.rows);
+        let row = &mut self.rows[place];
+        row.window.begin_at(high);
     }
 
     /// The next number of a receiving association that has a key: the one after the highest accepted.

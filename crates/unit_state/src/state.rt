@@ -1,14 +1,14 @@
 ghost use Rattle.std.specs.Prelude.{◌≡◌, map, IfOk, OnOk, OnErr};
-ghost use Rattle.key_book.specs.KeyBook.{AreKeyRows};
+ghost use Rattle.sa_book.specs.SaRow.{HasHigh, IsSaRow};
 ghost use Rattle.sa_book.specs.SaBook.{IsSaBook};
 ghost use Rattle.unit_state.specs.State.{KeepsRules};
 ghost use Rattle.unit_state.specs.Applied.{applied};
 ghost use Rattle.unit_state.specs.Allows.{Allows};
-ghost use Rattle.unit_state.specs.Restart.{IsLight, restarted_row, restarted};
+ghost use Rattle.unit_state.specs.Restart.{IsLight, restarted_high, restarted_row, restarted};
 
-use key_book::{KeyBook, KeyRow};
-use sa_book::SaBook;
-use sdls_base::{Change, ChannelList, NoMemory};
+use key_book::KeyBook;
+use sa_book::{SaBook, SaRow};
+use sdls_base::{Change, ChannelList, Direction, NoMemory};
 
 /// What a unit knows: its keys, its security associations, and what the plan says of channels and device.
 #[derive(Debug, Drop)]
@@ -21,17 +21,30 @@ pub struct State {
     pub device: [u8; 4],
 }
 
+/// The highest number that a restart gives an association.
+fn restarted_high(keys: &KeyBook, row: &SaRow) -> u64
+    ensures high { result ≡ restarted_high keys.now row.now.direction row.now.key row.now.window.high }
+    ensures fits { IsSaRow row.now → HasHigh row.now.direction row.now.key result }
+{
+    match (row.direction, row.key) {
+        (Direction::Receive, Some(key)) => match keys.find(key) {
+            Some((_, held)) => held.floor,
+            None => row.window.high,
+        },
+        (Direction::Receive, None) | (Direction::Send, _) => row.window.high,
+    }
+}
+
 /// Begins the window of each association that receives with one of the keys anew at the key's floor, and every other
 /// window at its highest number.
-fn to_floors(associations: &mut SaBook, keys: &[KeyRow])
-    requires { AreKeyRows keys.now }
+fn to_floors(associations: &mut SaBook, keys: &KeyBook)
     ensures set { associations.new ≡ map (restarted_row keys.now) associations.old }
     ensures rules { IsSaBook associations.old → IsSaBook associations.new }
 {
-    for key in keys {
-        associations.set_high(key.id, key.floor);
+    for place in 0..associations.rows().len() {
+        let high = restarted_high(keys, &associations.rows()[place]);
+        associations.begin_window(place, high);
     }
-    associations.begin_windows();
 }
 
 impl State {
@@ -84,7 +97,7 @@ impl State {
         ensures left { self.new ≡ restarted self.old }
         ensures rules { KeepsRules self.old → KeepsRules self.new }
     {
-        to_floors(&mut self.associations, self.keys.rows());
+        to_floors(&mut self.associations, &self.keys);
     }
 
     /// An equal state.

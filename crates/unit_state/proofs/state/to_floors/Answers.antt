@@ -1,39 +1,69 @@
-use Rattle.sa_book.specs.Numbers.{all_high}
-use Rattle.sa_book.specs.SaBook.{IsSaBook}
-use Rattle.sa_book.proofs.HighRules.{IsSaBook-all_high, IsSaBook-all_begun}
-use Rattle.std.proofs.Common.{◌+◌, List, get_or, map, drop, sym, ap, subst, ◌∙◌}
-use Rattle.std.proofs.lemmas.List.{at_drop_more, drop_all}
-use Rattle.key_book.specs.declared.key_row.KeyRow.{KeyRow}
+use Rattle.std.proofs.Common.{◌≡◌, ◌<◌, ◌≤◌, ◌++◌, List, length, map, drop, get_or, set, sym, ap, subst, ◌∙◌, refl, arith}
+use Rattle.std.proofs.lemmas.List.{append-nil, drop_all, get_or_default, length-set, take_all}
+use Rattle.std.proofs.lemmas.List.Edits.{map_over_more}
 use Rattle.sa_book.specs.declared.sa_row.SaRow.{SaRow}
+use Rattle.sa_book.specs.Numbers.{with_high}
+use Rattle.sa_book.specs.SaBook.{IsSaBook}
+use Rattle.sa_book.specs.SaRow.{HasHigh, IsSaRow}
 use Rattle.unit_state.specs.Restart.{restarted_row}
-use Rattle.unit_state.proofs.Floors.{none_behind, rows_set, rows_left}
+use Rattle.sa_book.proofs.Changes.{IsSaBook-begin}
 use Rattle.unit_state.proofs.state.to_floors.Goals as goal
 
-pub loop-key-preserved : goal.loop-key-preserved
-loop-key-preserved c =
-    let keys : List KeyRow = c.args.keys.now in
-    let i = c.loop-key.key-index in
-    let key : KeyRow = get_or keys i c.key-item.result in
-    let rows : List SaRow = c.loop-key.associations in
+pub loop-place-init : goal.loop-place-init
+loop-place-init c = record { set = refl; many = refl; rules = λ rules. rules }
+
+pub bounds-rows-place : goal.bounds-rows-place
+bounds-rows-place c =
+    let end = ap (λ (rows : List SaRow). length rows) c.rows-place-end.ensures.rows in
+    let here = ap (λ (rows : List SaRow). length rows) c.rows.ensures.rows in
+    omega (arith, end, here, c.loop-place.invariant.many, c.loop-place-test.true)
+
+pub begin_window-requires-clause-there : goal.begin_window-requires-clause-there
+begin_window-requires-clause-there c =
+    let end = ap (λ (rows : List SaRow). length rows) c.rows-place-end.ensures.rows in
+    omega (arith, end, c.loop-place.invariant.many, c.loop-place-test.true)
+
+pub begin_window-requires-clause-high : goal.begin_window-requires-clause-high
+begin_window-requires-clause-high c = λ row is.
+    let rows : List SaRow = c.loop-place.associations in
+    let place = c.loop-place.place in
+    let own : SaRow = c.index-rows-place.result in
+    let there : place < length rows = begin_window-requires-clause-there c in
+    let read : own ≡ get_or rows place own = c.index-rows-place.is ∙ ap (λ (some : List SaRow). get_or some place own) c.rows.ensures.rows in
+    let same : own ≡ row = read ∙ get_or_default rows place own row there ∙ sym is in
+    let rules : IsSaRow own = subst IsSaRow (sym read) (c.rows.ensures.rules.each place own there) in
+    subst (λ (some : SaRow). HasHigh some.direction some.key c.restarted_high-high.result) same (c.restarted_high-high.ensures.fits rules)
+
+pub loop-place-preserved : goal.loop-place-preserved
+loop-place-preserved c =
+    let rows : List SaRow = c.loop-place.associations in
+    let place = c.loop-place.place in
+    let own : SaRow = c.index-rows-place.result in
+    let end = ap (λ (some : List SaRow). length some) c.rows-place-end.ensures.rows in
+    let low : place < length c.args.associations.now = omega (arith, end, c.loop-place-test.true) in
+    let read : own ≡ get_or rows place own = c.index-rows-place.is ∙ ap (λ (some : List SaRow). get_or some place own) c.rows.ensures.rows in
+    let there : place < length rows = omega (arith, low, c.loop-place.invariant.many) in
+    let new = c.begin_window.ensures own read in
     record {
-      set = c.loop-key.invariant.set
-          ∙ at_drop_more (λ ks. map (restarted_row ks) rows) keys i c.key-item.result c.loop-key-test.true
-          ∙ rows_set key (drop (i + 1) keys) rows (none_behind keys i c.key-item.result c.requires c.loop-key-test.true)
-          ∙ ap (λ (k : KeyRow). map (restarted_row (drop (i + 1) keys)) (all_high rows k.id k.floor)) (sym c.key-item.is)
-          ∙ ap (map (restarted_row (drop (i + 1) keys))) (sym c.set_high.ensures);
-      rules = λ rules. subst IsSaBook (ap (λ (k : KeyRow). all_high rows k.id k.floor) (sym c.key-item.is) ∙ sym c.set_high.ensures)
-          (IsSaBook-all_high rows key.id key.floor (c.requires.each i c.key-item.result c.loop-key-test.true).floor_below_end
-          (c.loop-key.invariant.rules rules));
+      set = new
+          ∙ ap (λ high. set rows place (with_high own high)) c.restarted_high-high.ensures.high
+          ∙ map_over_more (restarted_row c.args.keys.now) c.args.associations.now rows place own low c.loop-place.invariant.set read;
+      rules = λ _. subst IsSaBook (sym new) (IsSaBook-begin rows place own c.restarted_high-high.result c.rows.ensures.rules there read
+          (c.restarted_high-high.ensures.fits (subst IsSaRow (sym read) (c.rows.ensures.rules.each place own there))));
+      many = ap (λ (some : List SaRow). length some) new
+          ∙ length-set rows place (with_high own c.restarted_high-high.result) ∙ c.loop-place.invariant.many;
     }
 
 pub returns-clause-set : goal.returns-clause-set
 returns-clause-set c =
-    sym
-    (c.loop-key.invariant.set
-    ∙ ap (λ ks. map (restarted_row ks) c.loop-key.associations) (drop_all c.loop-key.key-index c.args.keys.now c.loop-key-test.false)
-    ∙ rows_left c.loop-key.associations
-    ∙ sym c.begin_windows.ensures)
+    let old : List SaRow = c.args.associations.now in
+    let place = c.loop-place.place in
+    let end = ap (λ (some : List SaRow). length some) c.rows-place-end.ensures.rows in
+    let all : length old ≤ place = omega (arith, end, c.loop-place-test.false) in
+    c.loop-place.invariant.set
+    ∙ ap (λ (some : List SaRow). map (restarted_row c.args.keys.now) some ++ drop place old) (take_all place old all)
+    ∙ ap (λ (some : List SaRow). map (restarted_row c.args.keys.now) old ++ some) (drop_all place old all)
+    ∙ append-nil (map (restarted_row c.args.keys.now) old)
 
 pub returns-clause-rules : goal.returns-clause-rules
-returns-clause-rules c rules =
-    subst IsSaBook (sym c.begin_windows.ensures) (IsSaBook-all_begun c.loop-key.associations (c.loop-key.invariant.rules rules))
+returns-clause-rules c = c.loop-place.invariant.rules
