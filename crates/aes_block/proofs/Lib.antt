@@ -1,3 +1,5 @@
 mod OctetFacts
-mod ColumnFacts
+pub mod XorFacts
+mod BasisFacts
+mod RoundFacts
 mod ScheduleFacts

@@ -1,13 +1,13 @@
--- The words of a schedule: the key stands first, and the cipher reads no word past the last round's.
-use Rattle.std.proofs.Common.{◌≡◌, ℕ, zero, suc, ◌+◌, ◌-◌, ◌*◌, ◌/◌, ◌<◌, ◌≤◌, List, [], ◌∷◌, ◌++◌, length, replicate, take, get_or, slice_index, slice_set, refl, sym, ap, ◌∙◌, subst, arith, min}
-use Rattle.std.specs.List.{flat_map}
-use Rattle.std.specs.Int.{w32, to_be_bytes}
-use Rattle.std.proofs.lemmas.List.{append_assoc, length_push, length-append, length-take, take-append-le, take-take, take_all, take_more, take_more_set, flat_map_more, get_or-take}
+-- The words of a schedule, and the round keys that are made of them.
+use Rattle.std.proofs.Common.{◌≡◌, ◌≢◌, ℕ, zero, suc, ◌+◌, ◌-◌, ◌*◌, ◌/◌, ◌%◌, ◌^◌, ◌<◌, ◌≤◌, List, [], ◌∷◌, ◌++◌, length, map, replicate, take, get_or, slice_set, refl, sym, ap, ◌∙◌, subst, inl, inr, arith}
+use Rattle.std.specs.Simd.Lanes.{pick_l, number_l, digits_l}
+use Rattle.std.proofs.lemmas.List.{length_push, take_more_set, get_or-take, get_or-set_same, get_or-set_other}
+use Rattle.std.proofs.lemmas.Bool.{cases_eq}
 use Rattle.std.proofs.lemmas.List.FromFn.{fill_by_all, map-range_with_len_more, length-map-range_with_len}
-use Rattle.std.proofs.lemmas.Nat.{be_bytes_4}
-use Rattle.aes_block.proofs.ColumnFacts.{four_octets}
-use Rattle.aes_block.specs.Aes.{word_at, first_words, next_word, schedule, round_key, add_round_key, mix_columns, shift_rows, sub_bytes, after, cipher, encrypted}
-use Rattle.aes_block.specs.Schedule.{octets_of, IsExpanded, IsKeyWords, IsSchedule}
+use Rattle.aes_block.specs.Aes.{word_at, first_words, next_word, schedule, round_key, cipher, encrypted}
+use Rattle.aes_block.specs.Basis.{element, with_constant}
+use Rattle.aes_block.specs.Schedule.{IsExpanded, IsKeyWords, IsSchedule}
+use Rattle.aes_block.specs.Vectors.{HoldsKeys, columns}
 
 -- ---- one more word
 
@@ -52,78 +52,7 @@ others_none nk i words key all made =
     let none : nk - nk ≡ 0 = omega arith in
     sym (ap (λ (n : ℕ). take n words) all) ∙ made ∙ ap (first_words key) all ∙ sym (ap (schedule nk key) none)
 
--- ---- the key stands first
-
-take-schedule : (nk : ℕ) (key : List ℕ) (n : ℕ) → take nk (schedule nk key n) ≡ first_words key nk
-unfolding schedule
-take-schedule nk key zero = take_all nk (first_words key nk) (omega (arith, length-map-range_with_len (λ i. word_at key (4 * i)) 0 nk))
-take-schedule nk key (suc n) =
-    take-append-le nk (schedule nk key n) (next_word nk (schedule nk key n) (nk + n) ∷ []) (omega (arith, length-schedule nk key n))
-    ∙ take-schedule nk key n
-
-take_four : (key : List ℕ) (n : ℕ) → n + 4 ≤ length key
-    → take (n + 4) key ≡ take n key ++ (slice_index key n ∷ slice_index key (n + 1) ∷ slice_index key (n + 2) ∷ slice_index key (n + 3) ∷ [])
-take_four key n le =
-    let e1 = take_more key n 0 (omega arith) in
-    let e2 = take_more key (n + 1) 0 (omega arith) in
-    let e3 = take_more key (n + 2) 0 (omega arith) in
-    let e4 = take_more key (n + 3) 0 (omega arith) in
-    let n2 : n + 1 + 1 ≡ n + 2 = omega arith in
-    let n3 : n + 2 + 1 ≡ n + 3 = omega arith in
-    let n4 : n + 3 + 1 ≡ n + 4 = omega arith in
-    let f2 = rw n2 at e2 in
-    let f3 = rw n3 at e3 in
-    let f4 = rw n4 at e4 in
-    rw (f4, f3, f2, e1) (simp append_assoc)
-
-octets_of-first_words : (key : List ℕ) (n : ℕ) → 4 * n ≤ length key → ((i : ℕ) → slice_index key i < 256)
-    → flat_map (to_be_bytes w32) (first_words key n) ≡ take (4 * n) key
-octets_of-first_words key zero le octets = refl
-octets_of-first_words key (suc n) le octets =
-    let four : List ℕ = slice_index key (4 * n) ∷ slice_index key (4 * n + 1) ∷ slice_index key (4 * n + 2) ∷ slice_index key (4 * n + 3) ∷ [] in
-    let word : to_be_bytes w32 (word_at key (4 * n)) ≡ four =
-    be_bytes_4 four (word_at key (4 * n)) refl
-    (four_octets _ _ _ _ (octets (4 * n)) (octets (4 * n + 1)) (octets (4 * n + 2)) (octets (4 * n + 3))) refl in
-    let before : flat_map (to_be_bytes w32) (first_words key n) ≡ take (4 * n) key =
-    octets_of-first_words key n (omega arith) octets in
-    let more : flat_map (to_be_bytes w32) (first_words key (n + 1)) ≡ take (4 * n + 4) key =
-    ap (flat_map (to_be_bytes w32)) (first_words-suc key n)
-    ∙ sym (flat_map_more (to_be_bytes w32) [] (first_words key n) (word_at key (4 * n)))
-    ∙ ap (λ (l : List ℕ). l ++ to_be_bytes w32 (word_at key (4 * n))) before
-    ∙ ap (λ (l : List ℕ). take (4 * n) key ++ l) word
-    ∙ sym (take_four key (4 * n) (omega arith)) in
-    let next : 4 * n + 4 ≡ 4 * suc n = omega arith in
-    let here : n + 1 ≡ suc n = omega arith in
-    sym (ap (λ (m : ℕ). flat_map (to_be_bytes w32) (first_words key m)) here)
-    ∙ more ∙ ap (λ (m : ℕ). take m key) next
-
--- the first nk words of a schedule are its key
-pub octets_of-schedule : (nk : ℕ) (words key : List ℕ) → length key ≡ 4 * nk → ((i : ℕ) → slice_index key i < 256)
-    → IsSchedule nk key words → octets_of words nk ≡ key
-octets_of-schedule nk words key long octets made =
-    let firsts : take nk words ≡ first_words key nk =
-    sym (take-take nk (4 * (nk + 7)) words (omega arith)) ∙ ap (take nk) made ∙ take-schedule nk key (3 * nk + 28) in
-    ap (flat_map (to_be_bytes w32)) firsts ∙ octets_of-first_words key nk (omega arith) octets
-    ∙ take_all (4 * nk) key (omega arith)
-
-length-octets : (words : List ℕ) → length (flat_map (to_be_bytes w32) words) ≡ 4 * length words
-length-octets [] = refl
-length-octets (w ∷ ws) =
-    length-append (to_be_bytes w32 w) (flat_map (to_be_bytes w32) ws)
-    ∙ (let rest : length (flat_map (to_be_bytes w32) ws) ≡ 4 * length ws = length-octets ws in
-    let four : length (to_be_bytes w32 w) ≡ 4 = refl in
-    omega arith)
-
-length-octets_of : (nk : ℕ) (words key : List ℕ) → IsSchedule nk key words → length (octets_of words nk) ≡ 4 * nk
-length-octets_of nk words key made =
-    let whole : length (take (4 * (nk + 7)) words) ≡ nk + (3 * nk + 28) =
-    ap length made ∙ length-schedule nk key (3 * nk + 28) in
-    let cut : length (take (4 * (nk + 7)) words) ≡ min (4 * (nk + 7)) (length words) = length-take (4 * (nk + 7)) words in
-    let few : length (take nk words) ≡ min nk (length words) = length-take nk words in
-    let octets : length (octets_of words nk) ≡ 4 * length (take nk words) = length-octets (take nk words) in
-    omega arith
-
--- ---- the cipher reads the words of its rounds
+-- ---- the round keys of a schedule's words
 
 round_key-take : (m : ℕ) (words : List ℕ) (round : ℕ) → 4 * (round + 1) ≤ m → round_key (take m words) round ≡ round_key words round
 round_key-take m words round le =
@@ -134,48 +63,106 @@ round_key-take m words round le =
       get_or-take m words (4 * round + 3) 0 (omega arith),
     ) refl
 
-after-take : (m : ℕ) (words block : List ℕ) (n : ℕ) → 4 * (n + 1) ≤ m → after (take m words) block n ≡ after words block n
-unfolding after
-after-take m words block zero le = ap (add_round_key block) (round_key-take m words 0 (omega arith))
-after-take m words block (suc n) le =
-    let same : after (take m words) block n ≡ after words block n = after-take m words block n (omega arith) in
-    let round : round_key (take m words) (suc n) ≡ round_key words (suc n) = round_key-take m words (suc n) (omega arith) in
-    ap (λ (s : List ℕ). add_round_key (mix_columns (shift_rows (sub_bytes s))) (round_key (take m words) (suc n))) same
-    ∙ ap (add_round_key (mix_columns (shift_rows (sub_bytes (after words block n))))) round
+-- the octets of a word that stands lowest in a number, and what stands above it
+low_word : (w rest : ℕ) → w < 2 ^ 32
+    → ((w + 2 ^ 32 * rest) % 256 ≡ w % 256)
+    × ((w + 2 ^ 32 * rest) / 256 % 256 ≡ w / 2 ^ 8 % 256)
+    × ((w + 2 ^ 32 * rest) / 256 / 256 % 256 ≡ w / 2 ^ 16 % 256)
+    × ((w + 2 ^ 32 * rest) / 256 / 256 / 256 % 256 ≡ w / 2 ^ 24 % 256)
+    × ((w + 2 ^ 32 * rest) / 256 / 256 / 256 / 256 ≡ rest)
+low_word w rest lt = (omega arith, omega arith, omega arith, omega arith, omega arith)
 
-pub cipher-take : (m : ℕ) (words : List ℕ) (rounds : ℕ) (block : List ℕ) → 4 * (rounds + 1) ≤ m
-    → cipher (take m words) rounds block ≡ cipher words rounds block
-unfolding cipher
-cipher-take m words rounds block le =
-    let same : after (take m words) block (rounds - 1) ≡ after words block (rounds - 1) = after-take m words block (rounds - 1) (omega arith) in
-    ap (λ (s : List ℕ). add_round_key (shift_rows (sub_bytes s)) (round_key (take m words) rounds)) same
-    ∙ ap (add_round_key (shift_rows (sub_bytes (after words block (rounds - 1))))) (round_key-take m words rounds (omega arith))
+-- four words in a vector of octets, where the lowest octet of each stands first, taken from the highest on
+pub words_in_vector : (a b c d : ℕ) → a < 2 ^ 32 → b < 2 ^ 32 → c < 2 ^ 32 → d < 2 ^ 32
+    → pick_l 0 (digits_l 256 16 (number_l (2 ^ 32) (a ∷ b ∷ c ∷ d ∷ [])))
+    (3 ∷ 2 ∷ 1 ∷ 0 ∷ 7 ∷ 6 ∷ 5 ∷ 4 ∷ 11 ∷ 10 ∷ 9 ∷ 8 ∷ 15 ∷ 14 ∷ 13 ∷ 12 ∷ [])
+    ≡ columns (a ∷ b ∷ c ∷ d ∷ [])
+words_in_vector a b c d la lb lc ld =
+    let n3 : ℕ = d + 2 ^ 32 * 0 in
+    let n2 : ℕ = c + 2 ^ 32 * n3 in
+    let n1 : ℕ = b + 2 ^ 32 * n2 in
+    let wa = low_word a n1 la in
+    let wb = low_word b n2 lb in
+    let wc = low_word c n3 lc in
+    let wd = low_word d 0 ld in
+    rw (wa.4, wb.4, wc.4, wa.0, wa.1, wa.2, wa.3, wb.0, wb.1, wb.2, wb.3, wc.0, wc.1, wc.2, wc.3, wd.0, wd.1, wd.2, wd.3) refl
 
--- the words that a schedule keeps encipher as its key does
-pub encrypted_by : (nk : ℕ) (words key block : List ℕ) → octets_of words nk ≡ key
-    → IsSchedule nk (octets_of words nk) words → cipher words (nk + 6) block ≡ encrypted key block
+-- round keys of words are those of any words that begin with the same rounds
+pub holds_keys-take : (m : ℕ) (words : List ℕ) (rounds : ℕ) (keys : List (List ℕ)) → 4 * (rounds + 1) ≤ m
+    → HoldsKeys words rounds keys → HoldsKeys (take m words) rounds keys
+holds_keys-take m words rounds keys le holds = record {
+  first = holds.first ∙ sym (round_key-take m words 0 (omega arith));
+  between = λ n some lt. holds.between n some lt ∙ sym (ap with_constant (round_key-take m words n (omega arith)));
+  last = holds.last ∙ sym (ap with_constant (round_key-take m words rounds (omega arith)));
+}
+
+-- one round key more
+pub keys_none : (words x : List ℕ) (keys : List (List ℕ)) → 0 < length keys → x ≡ round_key words 0
+    → get_or (slice_set keys 0 x) 0 [] ≡ round_key words 0
+keys_none words x keys some is = get_or-set_same keys 0 x [] some ∙ is
+
+pub keys_more : (words x : List ℕ) (keys : List (List ℕ)) (n : ℕ) → n < length keys
+    → ((m : ℕ) → 0 < m → m < n → map element (get_or keys m []) ≡ with_constant (round_key words m))
+    → map element x ≡ with_constant (round_key words n)
+    → (m : ℕ) → 0 < m → m < n + 1 → map element (get_or (slice_set keys n x) m []) ≡ with_constant (round_key words m)
+keys_more words x keys n within so_far is m some lt = elim (cases_eq m n) [
+  | inl same ↦
+      subst (λ i. map element (get_or (slice_set keys n x) i []) ≡ with_constant (round_key words i)) (sym same)
+      (ap (map element) (get_or-set_same keys n x [] within) ∙ is)
+  | inr other ↦ ap (map element) (get_or-set_other keys n m x [] other) ∙ so_far m some (omega arith)
+]
+
+pub keys_all : (words x : List ℕ) (keys : List (List ℕ)) (n rounds : ℕ) → 0 < rounds → rounds ≤ n → rounds < length keys
+    → get_or keys 0 [] ≡ round_key words 0
+    → ((m : ℕ) → 0 < m → m < n → map element (get_or keys m []) ≡ with_constant (round_key words m))
+    → x ≡ with_constant (round_key words rounds) → HoldsKeys words rounds (slice_set keys rounds x)
+keys_all words x keys n rounds some all within first so_far is = record {
+  first = (let other : 0 ≢ rounds = omega arith in get_or-set_other keys rounds 0 x [] other) ∙ first;
+  between = λ m low lt.
+      let other : m ≢ rounds = omega arith in
+      ap (map element) (get_or-set_other keys rounds m x [] other) ∙ so_far m low (omega arith);
+  last = get_or-set_same keys rounds x [] within ∙ is;
+}
+
+-- ---- the schedule's cipher is that of its key
+
+pub encrypted_by : (nk : ℕ) (key block : List ℕ) → length key ≡ 4 * nk
+    → cipher (schedule nk key (3 * nk + 28)) (nk + 6) block ≡ encrypted key block
 unfolding encrypted
-encrypted_by nk words key block view made =
-    let long : length key ≡ 4 * nk = sym (ap length view) ∙ length-octets_of nk words (octets_of words nk) made in
-    let words_of_key : length key / 4 ≡ nk = omega arith in
-    let kept : IsSchedule nk key words = subst (λ (k : List ℕ). IsSchedule nk k words) view made in
-    let base : cipher words (nk + 6) block ≡ cipher (schedule nk key (3 * nk + 28)) (nk + 6) block =
-    sym (cipher-take (4 * (nk + 7)) words (nk + 6) block (omega arith))
-    ∙ ap (λ (l : List ℕ). cipher l (nk + 6) block) kept in
-    subst (λ (k : ℕ). cipher words (nk + 6) block ≡ cipher (schedule k key (3 * k + 28)) (k + 6) block) (sym words_of_key) base
+encrypted_by nk key block long =
+    let words : length key / 4 ≡ nk = omega arith in
+    sym (ap (λ n. cipher (schedule n key (3 * n + 28)) (n + 6) block) words)
 
--- the words, and zeros enciphered by them, are what a schedule of the key has
-pub is_expanded : (nk : ℕ) (words key zeros : List ℕ) → IsKeyWords nk → length key ≡ 4 * nk
-    → ((i : ℕ) → slice_index key i < 256) → IsSchedule nk key words → zeros ≡ cipher words (nk + 6) (replicate 16 0)
-    → IsExpanded (octets_of words nk) nk words zeros
-is_expanded nk words key zeros right long octets made is =
-    let view : octets_of words nk ≡ key = octets_of-schedule nk words key long octets made in
-    let own : IsSchedule nk (octets_of words nk) words = subst (λ (k : List ℕ). IsSchedule nk k words) (sym view) made in
+pub each_encrypted : (nk : ℕ) (key : List ℕ) (blocks : List (List ℕ)) → length key ≡ 4 * nk
+    → map (cipher (schedule nk key (3 * nk + 28)) (nk + 6)) blocks ≡ map (encrypted key) blocks
+each_encrypted nk key [] long = refl
+each_encrypted nk key (block ∷ blocks) long =
+    ap (λ b. b ∷ map (cipher (schedule nk key (3 * nk + 28)) (nk + 6)) blocks) (encrypted_by nk key block long)
+    ∙ ap (λ bs. encrypted key block ∷ bs) (each_encrypted nk key blocks long)
+
+-- the round keys of the words, and zeros enciphered by them, are what a schedule of the key has
+pub is_expanded : (nk : ℕ) (words key zeros : List ℕ) (keys : List (List ℕ)) → IsKeyWords nk → length key ≡ 4 * nk
+    → IsSchedule nk key words → HoldsKeys words (nk + 6) keys
+    → ((own : List ℕ) → HoldsKeys own (nk + 6) keys → zeros ≡ cipher own (nk + 6) (replicate 16 0))
+    → IsExpanded key nk keys zeros
+is_expanded nk words key zeros keys right long made holds is =
+    let own : HoldsKeys (schedule nk key (3 * nk + 28)) (nk + 6) keys =
+    subst (λ (l : List ℕ). HoldsKeys l (nk + 6) keys) made (holds_keys-take (4 * (nk + 7)) words (nk + 6) keys (omega arith) holds) in
     record {
       key_words = right;
-      expanded = own;
-      enciphered = is ∙ encrypted_by nk words (octets_of words nk) (replicate 16 0) refl own;
+      whole = long;
+      round_keys = own;
+      enciphered = is (schedule nk key (3 * nk + 28)) own ∙ encrypted_by nk key (replicate 16 0) long;
     }
+
+-- ---- lists by their elements
+
+pub three : {A : Type 0} (d : A) (xs : List A) → length xs ≡ 3 → xs ≡ get_or xs 0 d ∷ get_or xs 1 d ∷ get_or xs 2 d ∷ []
+three d xs long = fill_by_all (λ i. get_or xs i d) xs 3 d long (λ k lt. refl)
+
+pub four : {A : Type 0} (d : A) (xs : List A) → length xs ≡ 4
+    → xs ≡ get_or xs 0 d ∷ get_or xs 1 d ∷ get_or xs 2 d ∷ get_or xs 3 d ∷ []
+four d xs long = fill_by_all (λ i. get_or xs i d) xs 4 d long (λ k lt. refl)
 
 -- a list of eight by its elements
 pub eight : {A : Type 0} (d : A) (xs : List A) → length xs ≡ 8

@@ -1,3 +1,4 @@
 pub mod Aes
-pub mod Columns
+pub mod Basis
 pub mod Schedule
+pub mod Vectors

@@ -1,77 +1,75 @@
-// One block enciphered with the words of a schedule (FIPS 197, 5.1).
+// Blocks enciphered by the round keys of a schedule (FIPS 197, 5.1). Several blocks at once do not wait for one another.
 
-ghost use Rattle.std.specs.Prelude.{◌≡◌, ◌%◌, ◌<◌, ◌∷◌, []};
-ghost use Rattle.aes_block.specs.Aes.{add_round_key, cipher, round_key, shift_rows, sub_bytes};
-ghost use Rattle.aes_block.specs.Columns.{columns};
+ghost use Rattle.std.specs.Prelude.{◌≡◌, ℕ, ◌<◌, List, map};
+ghost use Rattle.aes_block.specs.Aes.{cipher};
+ghost use Rattle.aes_block.specs.Vectors.{HoldsKeys};
 
-use crate::octet::sub_byte;
-use crate::round::{first_columns, next_columns, octets_of};
-use std::simd::{u8x16, u32x4};
+use crate::round::{first_round, last_round, next_round};
+use std::simd::u8x16;
 
-// `SubBytes`, then `ShiftRows`.
-fn sub_shift(state: [u8; 16]) -> [u8; 16]
-    ensures { result ≡ shift_rows (sub_bytes state) }
+fn vector(octets: &[u8; 16]) -> u8x16
+    ensures { result ≡ octets.now }
 {
+    u8x16::from_array(*octets)
+}
+
+pub fn encrypt_one(keys: &[[u8; 16]; 15], rounds: usize, block: u8x16) -> u8x16
+    requires some { 0 < rounds }
+    requires most { rounds < 15 }
+    ensures { (words : List ℕ) → HoldsKeys words rounds keys.now → result ≡ cipher words rounds block }
+{
+    let mut state = first_round(block, vector(&keys[0]));
+    'rounds: for round in 1..rounds {
+        state = next_round(state, vector(&keys[round]));
+    }
+    last_round(state, vector(&keys[rounds]))
+}
+
+pub fn encrypt_three(keys: &[[u8; 16]; 15], rounds: usize, blocks: &[[u8; 16]; 3]) -> [[u8; 16]; 3]
+    requires some { 0 < rounds }
+    requires most { rounds < 15 }
+    ensures { (words : List ℕ) → HoldsKeys words rounds keys.now → result ≡ map (cipher words rounds) blocks.now }
+{
+    let first = vector(&keys[0]);
+    let mut a = first_round(vector(&blocks[0]), first);
+    let mut b = first_round(vector(&blocks[1]), first);
+    let mut c = first_round(vector(&blocks[2]), first);
+    'rounds: for round in 1..rounds {
+        let key = vector(&keys[round]);
+        a = next_round(a, key);
+        b = next_round(b, key);
+        c = next_round(c, key);
+    }
+    let last = vector(&keys[rounds]);
     [
-        sub_byte(state[0]),
-        sub_byte(state[5]),
-        sub_byte(state[10]),
-        sub_byte(state[15]),
-        sub_byte(state[4]),
-        sub_byte(state[9]),
-        sub_byte(state[14]),
-        sub_byte(state[3]),
-        sub_byte(state[8]),
-        sub_byte(state[13]),
-        sub_byte(state[2]),
-        sub_byte(state[7]),
-        sub_byte(state[12]),
-        sub_byte(state[1]),
-        sub_byte(state[6]),
-        sub_byte(state[11]),
+        last_round(a, last).to_array(),
+        last_round(b, last).to_array(),
+        last_round(c, last).to_array(),
     ]
 }
 
-// The octets of four words, which stand in a vector with the last of each word first.
-fn octets_of_words(a: u32, b: u32, c: u32, d: u32) -> [u8; 16]
-    ensures { result ≡ columns (a ∷ b ∷ c ∷ d ∷ []) }
-{
-    u32x4::from_array([a, b, c, d])
-        .to_le_bytes()
-        .swizzle([3, 2, 1, 0, 7, 6, 5, 4, 11, 10, 9, 8, 15, 14, 13, 12])
-        .to_array()
-}
-
-fn round_key(words: &[u32; 60], round: usize) -> [u8; 16]
-    requires { round < 15 }
-    ensures { result ≡ round_key words.now round }
-{
-    octets_of_words(
-        words[4 * round],
-        words[4 * round + 1],
-        words[4 * round + 2],
-        words[4 * round + 3],
-    )
-}
-
-fn add_round_key(state: &[u8; 16], key: &[u8; 16]) -> [u8; 16]
-    ensures { result ≡ add_round_key state.now key.now }
-{
-    (u8x16::from_array(*state) ^ u8x16::from_array(*key)).to_array()
-}
-
-// Enciphers `block` with the words of a schedule of `rounds` rounds, two in each turn of the loop.
-pub fn encrypt_words(words: &[u32; 60], rounds: usize, block: [u8; 16]) -> [u8; 16]
+pub fn encrypt_four(keys: &[[u8; 16]; 15], rounds: usize, blocks: &[[u8; 16]; 4]) -> [[u8; 16]; 4]
     requires some { 0 < rounds }
-    requires even { rounds % 2 ≡ 0 }
     requires most { rounds < 15 }
-    ensures { result ≡ cipher words.now rounds block }
+    ensures { (words : List ℕ) → HoldsKeys words rounds keys.now → result ≡ map (cipher words rounds) blocks.now }
 {
-    let mut state = next_columns(words, 1, first_columns(block, words));
-    'pairs: for pair in 1..rounds / 2 {
-        let next = next_columns(words, 2 * pair, state);
-        let after = next_columns(words, 2 * pair + 1, next);
-        state = after;
+    let first = vector(&keys[0]);
+    let mut a = first_round(vector(&blocks[0]), first);
+    let mut b = first_round(vector(&blocks[1]), first);
+    let mut c = first_round(vector(&blocks[2]), first);
+    let mut d = first_round(vector(&blocks[3]), first);
+    'rounds: for round in 1..rounds {
+        let key = vector(&keys[round]);
+        a = next_round(a, key);
+        b = next_round(b, key);
+        c = next_round(c, key);
+        d = next_round(d, key);
     }
-    add_round_key(&sub_shift(octets_of(state)), &round_key(words, rounds))
+    let last = vector(&keys[rounds]);
+    [
+        last_round(a, last).to_array(),
+        last_round(b, last).to_array(),
+        last_round(c, last).to_array(),
+        last_round(d, last).to_array(),
+    ]
 }

@@ -10,7 +10,7 @@ mod expansion;
 mod octet;
 mod round;
 mod schedule;
-mod tables;
+mod substitution;
 
 pub use octet::inverse_is_inverse;
 pub use schedule::{KeyLength, Schedule};

@@ -1,11 +1,12 @@
-ghost use Rattle.std.specs.Prelude.{◌≡◌, ◌*◌, ◌↔◌, length, map, replicate, IfOk, IfErr, IsOk};
+ghost use Rattle.std.specs.Prelude.{◌≡◌, ◌+◌, ◌*◌, ◌≤◌, ◌↔◌, length, map, replicate, take, IfOk, IfErr, IsOk};
 ghost use Rattle.sdls_base.specs.Bounds.{IsKeyLength};
 ghost use Rattle.aes_block.specs.Aes.{encrypted};
 ghost use Rattle.aes_block.specs.Schedule.{IsKeyWords};
 
-use crate::cipher::encrypt_words;
-use crate::expansion::expand;
+use crate::cipher::{encrypt_four, encrypt_one, encrypt_three};
+use crate::expansion::{expand, keys_of};
 use std::marker::Model;
+use std::simd::u8x16;
 use thiserror::Error;
 
 /// A key of a length that is neither 16 nor 32 octets: its length.
@@ -16,22 +17,33 @@ pub struct KeyLength(pub usize);
 /// A key, expanded. It has no `Debug`, so that no log shows it.
 #[derive(Drop)]
 pub struct Schedule {
-    words: [u32; 60],
+    // The key's octets, and zeros after them: for contracts alone.
+    key: [u8; 32],
     key_words: usize,
+    keys: [[u8; 16]; 15],
     // The block of zeros, enciphered.
     zeros: [u8; 16],
 }
 
 impl Model for Schedule {
-    ghost use Rattle.std.specs.Prelude.{◌≡◌, ℕ, List, length};
-    ghost use Rattle.aes_block.specs.Schedule.{IsExpanded, octets_of};
+    ghost use Rattle.std.specs.Prelude.{◌*◌, ℕ, List, take};
+    ghost use Rattle.aes_block.specs.Schedule.{IsExpanded};
 
     // The octets of the key.
     ghost Value = { List ℕ };
 
-    ghost view = { λ s. octets_of s.words s.key_words };
+    ghost view = { λ s. take (4 * s.key_words) s.key };
 
-    ghost invariant = { λ s. IsExpanded (octets_of s.words s.key_words) s.key_words s.words s.zeros };
+    ghost invariant = { λ s. IsExpanded (take (4 * s.key_words) s.key) s.key_words s.keys s.zeros };
+}
+
+fn filled(key: &[u8]) -> [u8; 32]
+    requires { length key.now ≤ 32 }
+    ensures { take (length key.now) result ≡ key.now }
+{
+    let mut octets = [0u8; 32];
+    octets[..key.len()].copy_from_slice(key);
+    octets
 }
 
 // The schedule of a key of `key_words` words.
@@ -40,11 +52,12 @@ fn expanded(key: &[u8], key_words: usize) -> Schedule
     requires key { length key.now ≡ 4 * key_words }
     ensures { result ≡ key.now }
 {
-    let words = expand(key, key_words);
-    let zeros = encrypt_words(&words, key_words + 6, [0; 16]);
+    let keys = keys_of(&expand(key, key_words), key_words + 6);
+    let zeros = encrypt_one(&keys, key_words + 6, u8x16::splat(0)).to_array();
     Schedule {
-        words,
+        key: filled(key),
         key_words,
+        keys,
         zeros,
     }
 }
@@ -67,23 +80,37 @@ impl Schedule {
     pub fn encrypt(&self, block: [u8; 16]) -> [u8; 16]
         ensures { result ≡ encrypted self.now block }
     {
-        encrypt_words(&self.words, self.key_words + 6, block)
+        self.encrypt_vector(u8x16::from_array(block)).to_array()
+    }
+
+    /// The same, of a block that stands in a vector.
+    pub fn encrypt_vector(&self, block: u8x16) -> u8x16
+        ensures { result ≡ encrypted self.now block }
+    {
+        encrypt_one(&self.keys, self.key_words + 6, block)
+    }
+
+    /// Enciphers three blocks of 16 octets, each for itself.
+    pub fn encrypt3(&self, blocks: [[u8; 16]; 3]) -> [[u8; 16]; 3]
+        ensures { result ≡ map (encrypted self.now) blocks }
+    {
+        encrypt_three(&self.keys, self.key_words + 6, &blocks)
+    }
+
+    /// Enciphers four blocks of 16 octets, each for itself.
+    pub fn encrypt4(&self, blocks: [[u8; 16]; 4]) -> [[u8; 16]; 4]
+        ensures { result ≡ map (encrypted self.now) blocks }
+    {
+        encrypt_four(&self.keys, self.key_words + 6, &blocks)
     }
 
     fn encrypt_each(&self, blocks: &[[u8; 16]; 8]) -> [[u8; 16]; 8]
         ensures { result ≡ map (encrypted self.now) blocks.now }
     {
         let [a, b, c, d, e, f, g, h] = *blocks;
-        [
-            self.encrypt(a),
-            self.encrypt(b),
-            self.encrypt(c),
-            self.encrypt(d),
-            self.encrypt(e),
-            self.encrypt(f),
-            self.encrypt(g),
-            self.encrypt(h),
-        ]
+        let [a, b, c, d] = self.encrypt4([a, b, c, d]);
+        let [e, f, g, h] = self.encrypt4([e, f, g, h]);
+        [a, b, c, d, e, f, g, h]
     }
 
     /// Enciphers eight blocks of 16 octets, each for itself.
