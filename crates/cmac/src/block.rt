@@ -6,18 +6,18 @@ ghost use Rattle.cmac.specs.Cmac.{chain, doubled, last_block, mac, subkey1, subk
 use aes_block::Schedule;
 use std::simd::{u8x16, u64x2};
 
-fn xor(a: [u8; 16], b: [u8; 16]) -> [u8; 16]
+fn xor(a: [u8; 16], b: [u8; 16]) -> u8x16
     ensures { result ≡ xored a b }
 {
-    (u8x16::from_array(a) ^ u8x16::from_array(b)).to_array()
+    u8x16::from_array(a) ^ u8x16::from_array(b)
 }
 
 // The block of `text` from octet `at` on, xored into `chained`.
-fn xor_block(chained: [u8; 16], text: &[u8], at: usize) -> [u8; 16]
+fn xor_block(chained: u8x16, text: &[u8], at: usize) -> u8x16
     requires { at + 16 ≤ length text.now }
     ensures { result ≡ xored chained (take 16 (drop at text.now)) }
 {
-    (u8x16::from_array(chained) ^ u8x16::from_slice(&text[at..])).to_array()
+    chained ^ u8x16::from_slice(&text[at..])
 }
 
 // The octets of a number, which stand in a vector with the lowest first.
@@ -74,7 +74,7 @@ fn whole(rest: &[u8]) -> [u8; 16]
     u8x16::from_slice(rest).to_array()
 }
 
-fn last_block(key: &Schedule, rest: &[u8]) -> [u8; 16]
+fn last_block(key: &Schedule, rest: &[u8]) -> u8x16
     requires { length rest.now ≤ 16 }
     ensures { result ≡ last_block key.now rest.now }
 {
@@ -86,23 +86,24 @@ fn last_block(key: &Schedule, rest: &[u8]) -> [u8; 16]
 }
 
 // The MAC of a text whose last block is `rest`, from the chain over the blocks before it.
-pub fn closed(key: &Schedule, chained: [u8; 16], rest: &[u8]) -> [u8; 16]
+pub fn closed(key: &Schedule, chained: u8x16, rest: &[u8]) -> [u8; 16]
     requires { length rest.now ≤ 16 }
     ensures { result ≡ encrypted key.now (xored chained (last_block key.now rest.now)) }
 {
-    key.encrypt(xor(chained, last_block(key, rest)))
+    key.encrypt_vector(chained ^ last_block(key, rest))
+        .to_array()
 }
 
 // One more block in the chain.
-pub fn chained_on(key: &Schedule, chained: [u8; 16], text: &[u8], at: usize) -> [u8; 16]
+pub fn chained_on(key: &Schedule, chained: u8x16, text: &[u8], at: usize) -> u8x16
     requires { at + 16 ≤ length text.now }
     ensures { result ≡ encrypted key.now (xored chained (take 16 (drop at text.now))) }
 {
-    key.encrypt(xor_block(chained, text, at))
+    key.encrypt_vector(xor_block(chained, text, at))
 }
 
 // The first `blocks` blocks of `text` in the chain, after those before it.
-pub fn chained_over(key: &Schedule, chained: [u8; 16], text: &[u8], blocks: usize) -> [u8; 16]
+pub fn chained_over(key: &Schedule, chained: u8x16, text: &[u8], blocks: usize) -> u8x16
     requires { 16 * blocks ≤ length text.now }
     ensures { (whole : List ℕ) (before : ℕ) → chained ≡ chain key.now whole before → text.now ≡ drop (16 * before) whole
         → result ≡ chain key.now whole (before + blocks) }
@@ -120,6 +121,6 @@ pub fn mac(key: &Schedule, text: &[u8]) -> [u8; 16]
     ensures { result ≡ mac key.now text.now }
 {
     let before_last = text.len().saturating_sub(1) / 16;
-    let chained = chained_over(key, [0; 16], text, before_last);
+    let chained = chained_over(key, u8x16::splat(0), text, before_last);
     closed(key, chained, &text[16 * before_last..])
 }

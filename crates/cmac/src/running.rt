@@ -5,6 +5,7 @@ ghost use Rattle.cmac.specs.Running.{Holds};
 use crate::block::{chained_on, chained_over, closed};
 use aes_block::Schedule;
 use std::marker::Model;
+use std::simd::u8x16;
 
 /// A MAC under way: [`Running::new`], then the text in pieces of any lengths by
 /// [`Running::update`], then [`Running::finish`].
@@ -60,8 +61,8 @@ impl<'a> Running<'a> {
         ensures more { (m : List ℕ) → Holds self.old m → Holds self.new (m ++ octets.now) }
     {
         let before_last = (octets.len() - 1) / 16;
-        let first = chained_on(self.key, self.chained, &self.held, 0);
-        self.chained = chained_over(self.key, first, octets, before_last);
+        let first = chained_on(self.key, u8x16::from_array(self.chained), &self.held, 0);
+        self.chained = chained_over(self.key, first, octets, before_last).to_array();
         let last = &octets[16 * before_last..];
         self.held[..last.len()].copy_from_slice(last);
         self.used = last.len();
@@ -85,6 +86,10 @@ impl<'a> Running<'a> {
     pub fn finish(self) -> [u8; 16]
         ensures { (m : List ℕ) → Holds self.entry m → result ≡ mac self.entry.key m }
     {
-        closed(self.key, self.chained, &self.held[..self.used])
+        closed(
+            self.key,
+            u8x16::from_array(self.chained),
+            &self.held[..self.used],
+        )
     }
 }

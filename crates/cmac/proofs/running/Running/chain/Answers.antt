@@ -16,8 +16,8 @@ returns-clause-more c = λ m holds_now.
     let full : length (take s.used s.held) ≡ 16 = ap (λ (k : Kept). length k.rest) c.self.view_is ∙ c.requires.whole in
     let count : length (take s.used s.held) ≡ min s.used (length s.held) = length-take s.used s.held in
     let all : 16 ≡ s.used = omega (arith, c.self.told.1, c.self.invariant) in
-    chained_holds kept m octets c.chained_over-self-inside.result _ n holds full c.requires.more refl
-    (c.chained_over-self-inside.ensures (m ++ octets) (before_last (length m) + 1)
+    chained_holds kept m octets c.chained_over.result _ n holds full c.requires.more refl
+    (c.chained_over.ensures (m ++ octets) (before_last (length m) + 1)
     (full_is_chained kept m octets c.chained_on-first.result holds full
     (c.chained_on-first.ensures ∙ ap (λ (k : ℕ). encrypted s.key.now (xored s.chained (take k s.held))) all))
     (after_full kept m octets holds full))
