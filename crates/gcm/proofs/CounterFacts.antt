@@ -10,7 +10,7 @@ use Rattle.std.proofs.lemmas.List.FromFn.{fill_by_all, length-map-range_with_len
 use Rattle.std.proofs.lemmas.Bool.{cases_lt, cases_eq}
 use Rattle.aes_block.specs.Aes.{encrypted}
 use Rattle.gcm.specs.Gcm.{counter_block, gctr_octet, gctr}
-use Rattle.gcm.specs.Counter.{XorsPad, IsEncipheredBelow, eight_counters}
+use Rattle.gcm.specs.Counter.{XorsPad, IsEncipheredBelow, four_counters}
 
 -- a list by its elements
 listed : (v : List ℕ) (n : ℕ) → length v ≡ n → v ≡ map (λ i. get_or v i 0) (range_with_len 0 n)
@@ -95,9 +95,9 @@ xors_block start pad old new long le is =
       above = λ k far. ap (λ (l : List ℕ). slice_index l k) is ∙ get_or-put_chunk_above start old sum k 0 (omega arith);
     }
 
--- the eight pads
-pub pad_at : (key iv : List ℕ) (first i : ℕ) → i < 8
-    → get_or (map (encrypted key) (eight_counters iv (first + 1))) i [] ≡ encrypted key (counter_block iv (first + i + 1))
+-- the four pads
+pub pad_at : (key iv : List ℕ) (first i : ℕ) → i < 4
+    → get_or (map (encrypted key) (four_counters iv (first + 1))) i [] ≡ encrypted key (counter_block iv (first + i + 1))
 pad_at key iv first zero lt =
     let e : first + 1 ≡ first + 0 + 1 = omega arith in ap (λ (n : ℕ). encrypted key (counter_block iv n)) e
 pad_at key iv first (suc zero) lt =
@@ -106,15 +106,7 @@ pad_at key iv first (suc (suc zero)) lt =
     let e : first + 1 + 2 ≡ first + 2 + 1 = omega arith in ap (λ (n : ℕ). encrypted key (counter_block iv n)) e
 pad_at key iv first (suc (suc (suc zero))) lt =
     let e : first + 1 + 3 ≡ first + 3 + 1 = omega arith in ap (λ (n : ℕ). encrypted key (counter_block iv n)) e
-pad_at key iv first (suc (suc (suc (suc zero)))) lt =
-    let e : first + 1 + 4 ≡ first + 4 + 1 = omega arith in ap (λ (n : ℕ). encrypted key (counter_block iv n)) e
-pad_at key iv first (suc (suc (suc (suc (suc zero))))) lt =
-    let e : first + 1 + 5 ≡ first + 5 + 1 = omega arith in ap (λ (n : ℕ). encrypted key (counter_block iv n)) e
-pad_at key iv first (suc (suc (suc (suc (suc (suc zero)))))) lt =
-    let e : first + 1 + 6 ≡ first + 6 + 1 = omega arith in ap (λ (n : ℕ). encrypted key (counter_block iv n)) e
-pad_at key iv first (suc (suc (suc (suc (suc (suc (suc zero))))))) lt =
-    let e : first + 1 + 7 ≡ first + 7 + 1 = omega arith in ap (λ (n : ℕ). encrypted key (counter_block iv n)) e
-pad_at key iv first (suc (suc (suc (suc (suc (suc (suc (suc k)))))))) lt = absurd (omega arith)
+pad_at key iv first (suc (suc (suc (suc k)))) lt = absurd (omega arith)
 
 -- ---- all pads
 

@@ -1,5 +1,6 @@
 -- A pad xored into a text, and a text that is enciphered as far as some octet.
 use Rattle.std.specs.Prelude.{◌≡◌, ℕ, ◌+◌, ◌-◌, ◌<◌, ◌≤◌, List, [], ◌∷◌, length, slice_index, bit_xor}
+use Rattle.aes_block.specs.Aes.{encrypted}
 use Rattle.gcm.specs.Gcm.{counter_block, gctr_octet}
 
 -- the octets from start up to stop are xored with the pad's, and the others stay
@@ -16,8 +17,12 @@ pub record IsEncipheredBelow (key iv old new : List ℕ) (stop : ℕ) : Type 0 w
   pub below : (k : ℕ) → k < stop → k < length old → slice_index new k ≡ gctr_octet key iv old k
   pub above : (k : ℕ) → stop ≤ k → slice_index new k ≡ slice_index old k
 
--- the counter blocks after i to i + 7 steps
-abbrev pub eight_counters : List ℕ → ℕ → List (List ℕ)
-eight_counters iv i =
-    counter_block iv i ∷ counter_block iv (i + 1) ∷ counter_block iv (i + 2) ∷ counter_block iv (i + 3)
-    ∷ counter_block iv (i + 4) ∷ counter_block iv (i + 5) ∷ counter_block iv (i + 6) ∷ counter_block iv (i + 7) ∷ []
+-- the counter blocks after i to i + 3 steps
+abbrev pub four_counters : List ℕ → ℕ → List (List ℕ)
+four_counters iv i =
+    counter_block iv i ∷ counter_block iv (i + 1) ∷ counter_block iv (i + 2) ∷ counter_block iv (i + 3) ∷ []
+
+-- J0 and the two counter blocks after it, enciphered
+abbrev pub first_pads : List ℕ → List ℕ → List (List ℕ)
+first_pads key iv =
+    encrypted key (counter_block iv 0) ∷ encrypted key (counter_block iv 1) ∷ encrypted key (counter_block iv 2) ∷ []

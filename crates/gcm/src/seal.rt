@@ -1,7 +1,8 @@
 ghost use Rattle.std.specs.Prelude.{◌≡◌, ℕ, ◌≤◌, ◌↔◌, List, length, Some, None, IsErr, OnOk, OnErr};
-ghost use Rattle.gcm.specs.Gcm.{gcm_open, gcm_seal, tag_of};
+ghost use Rattle.aes_block.specs.Aes.{encrypted};
+ghost use Rattle.gcm.specs.Gcm.{counter_block, gcm_open, gcm_seal, tag_of};
 
-use crate::counter::{count_over, counter_block};
+use crate::counter::{count_over, first_pads};
 use crate::hash::hash;
 use crate::table::Table;
 use aes_block::Schedule;
@@ -19,14 +20,15 @@ pub fn opens_what_was_sealed()
         → (gcm_open key iv aad text tag ≡ Some clear) ↔ (gcm_seal key iv aad clear ≡ (text, tag)) }
 {}
 
-fn tag_of(key: &Schedule, iv: &[u8; 12], aad: &[u8], text: &[u8]) -> [u8; 16]
+// The tag, whose mask is J0 enciphered.
+fn tag_of(key: &Schedule, mask: &[u8; 16], aad: &[u8], text: &[u8]) -> [u8; 16]
     requires aad { length aad.now ≤ 65536 }
     requires text { length text.now ≤ 65536 }
-    ensures { result ≡ tag_of key.now iv.now aad.now text.now }
+    ensures { (iv : List ℕ) → mask.now ≡ encrypted key.now (counter_block iv 0)
+        → result ≡ tag_of key.now iv aad.now text.now }
 {
     let table = Table::new(key.enciphered_zeros());
-    let mask = u128::from_be_bytes(key.encrypt(counter_block(iv, 0)));
-    (hash(&table, aad, text) ^ mask).to_be_bytes()
+    (hash(&table, aad, text) ^ u128::from_be_bytes(*mask)).to_be_bytes()
 }
 
 /// Enciphers the text where it lies, and gives the tag of the ciphertext and the additional data.
@@ -36,8 +38,9 @@ pub fn seal_in_place(key: &Schedule, iv: &[u8; 12], aad: &[u8], text: &mut [u8])
     requires text { length text.old ≤ 65536 }
     ensures { (text.new, result) ≡ gcm_seal key.now iv.now aad.now text.old }
 {
-    count_over(key, iv, text);
-    tag_of(key, iv, aad, text)
+    let first = first_pads(key, iv);
+    count_over(key, iv, &first, text);
+    tag_of(key, &first[0], aad, text)
 }
 
 /// Deciphers the text where it lies, if `tag` is the tag of the ciphertext and the additional
@@ -55,10 +58,11 @@ pub fn open_in_place(
     ensures refused { IsErr result ↔ (gcm_open key.now iv.now aad.now text.old tag.now ≡ None) }
     ensures unchanged { OnErr result (text.new ≡ text.old) }
 {
-    let right = tag_of(key, iv, aad, text);
+    let first = first_pads(key, iv);
+    let right = tag_of(key, &first[0], aad, text);
     if !same_octets(tag, &right) {
         return Err(BadTag);
     }
-    count_over(key, iv, text);
+    count_over(key, iv, &first, text);
     Ok(())
 }

@@ -1,6 +1,6 @@
 use Rattle.std.proofs.Common.{◌≡◌, ℕ, ◌+◌, ◌*◌, List, length}
 use Rattle.gcm.specs.Counter.{IsEncipheredBelow}
-use Rattle.gcm.proofs.counter.count_eight.Given as goal
+use Rattle.gcm.proofs.counter.count_four.Given as goal
 
 abbrev pub invariant-pads : goal.invariant-pads
 invariant-pads l = record {

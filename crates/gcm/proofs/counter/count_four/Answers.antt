@@ -1,7 +1,7 @@
 use Rattle.std.proofs.Common.{◌+◌, ◌*◌, ℕ, List, [], get_or, refl, ap, ◌∙◌, arith, map}
 use Rattle.aes_block.specs.Aes.{encrypted}
 use Rattle.gcm.proofs.CounterFacts.{counted_more, counted_to, pad_at}
-use Rattle.gcm.proofs.counter.count_eight.Goals as goal
+use Rattle.gcm.proofs.counter.count_four.Goals as goal
 
 pub pads-init : goal.pads-init
 pads-init c = record {
@@ -16,14 +16,14 @@ pads-preserved c =
     let iv : List ℕ = c.args.iv.now in
     let first : ℕ = c.args.first in
     record {
-      same_length = c.xor_block.ensures.same_length ∙ c.pads.invariant.same_length;
+      same_length = c.xor_pad.ensures.same_length ∙ c.pads.invariant.same_length;
       counted = λ clear counts.
-          counted_to key iv clear c.xor_block.new.text (16 * (first + i + 1)) _ (omega arith)
-          (counted_more key iv (get_or c.encrypt8-pads.result i []) clear c.pads.text c.xor_block.new.text (first + i)
+          counted_to key iv clear c.xor_pad.new.text (16 * (first + i + 1)) _ (omega arith)
+          (counted_more key iv (get_or c.encrypt4-pads.result i []) clear c.pads.text c.xor_pad.new.text (first + i)
           (ap (λ (l : List (List ℕ)). get_or l i [])
-          (c.encrypt8-pads.ensures ∙ ap (map (encrypted key)) c.eight_counters.ensures)
+          (c.encrypt4-pads.ensures ∙ ap (map (encrypted key)) c.four_counters.ensures)
           ∙ pad_at key iv first i (omega arith))
-          (c.pads.invariant.counted clear counts) c.xor_block.ensures);
+          (c.pads.invariant.counted clear counts) c.xor_pad.ensures);
     }
 
 pub returns : goal.returns
