@@ -26,7 +26,8 @@ map_octets f g same [] fits = refl
 map_octets f g same (x ∷ xs) fits =
     ap (λ y. y ∷ map f xs) (same x fits.0.fits) ∙ ap (λ l. g x ∷ l) (map_octets f g same xs fits.1)
 
-each_octet : (p : ℕ → Bool) (f : ℕ → ℕ) → ((x : ℕ) → x < 256 → T (p (f x))) → (v : List ℕ) → Each1 (Fits w8) v → Each1 (λ j. T (p j)) (map f v)
+each_octet : (p : ℕ → Bool) (f : ℕ → ℕ) → ((x : ℕ) → x < 256 → T (p (f x))) → (v : List ℕ) → Each1 (Fits w8) v
+    → Each1 (λ j. T (p j)) (map f v)
 each_octet p f holds [] fits = tt
 each_octet p f holds (x ∷ xs) fits = (holds x fits.0.fits, each_octet p f holds xs fits.1)
 
@@ -56,27 +57,32 @@ look_up_is table places long =
     get_or-map-in f (x ∷ xs) (suc i) lt = get_or-map-in f xs i (omega arith)
 
 -- a test that passes at all numbers below n, by computation
-true_at : (p : ℕ → Bool) (n x : ℕ) → map p (range_with_len 0 n) ≡ map (λ _. true) (range_with_len 0 n) → x < n → T (p x)
+pub true_at : (p : ℕ → Bool) (n x : ℕ) → map p (range_with_len 0 n) ≡ map (λ _. true) (range_with_len 0 n) → x < n
+    → T (p x)
 true_at p n x same lt =
     subst T
     (sym (get_or-map-range_with_len (λ _. true) 0 n x x false lt (omega arith))
     ∙ sym (ap (λ (v : List Bool). get_or v x false) same)
     ∙ get_or-map-range_with_len p 0 n x x false lt (omega arith)) tt
 
-module _ (f : ℕ → ℕ) (all : map (λ x. is_place (f x)) (range_with_len 0 256) ≡ map (λ _. true) (range_with_len 0 256)) where
+module _ (f : ℕ → ℕ) (all : map (λ x. is_place (f x)) (range_with_len 0 256)
+    ≡ map (λ _. true) (range_with_len 0 256)) where
   pub are_places : (v places : List ℕ) → Each1 (Fits w8) v → places ≡ map f v → Each1 (λ j. T (is_place j)) places
   are_places v places fits is =
-      subst (Each1 (λ j. T (is_place j))) (sym is) (each_octet is_place f (λ x lt. true_at (λ x. is_place (f x)) 256 x all lt) v fits)
+      subst (Each1 (λ j. T (is_place j))) (sym is) (each_octet is_place f (λ x lt. true_at (λ x. is_place
+      (f x)) 256 x all lt) v fits)
 
 -- ---- the tables
 
 -- the sum of what two tables give for y
 abbrev pub sum_at : List ℕ → List ℕ → ℕ → ℕ
-sum_at first second y = bit_xor (look first (first_place ONE_OVER A_OVER y)) (look second (second_place ONE_OVER A_OVER y))
+sum_at first second y = bit_xor (look first (first_place ONE_OVER A_OVER y)) (look second
+    (second_place ONE_OVER A_OVER y))
 
 pub on_basis_at : (x : ℕ) → x < 256 → element (bit_xor (look BY_LOWER (x % 16)) (look BY_UPPER (x / 16))) ≡ x
 unfolding sum_of
-on_basis_at x lt = same_at (λ x. element (bit_xor (look BY_LOWER (x % 16)) (look BY_UPPER (x / 16)))) (λ x. x) 256 x refl lt
+on_basis_at x lt = same_at (λ x. element (bit_xor (look BY_LOWER (x % 16)) (look BY_UPPER (x / 16))))
+    (λ x. x) 256 x refl lt
 
 pub octet_at : (y : ℕ) → y < 256 → sum_at OCTET_FIRST OCTET_SECOND y ≡ sub_linear (element y)
 unfolding sum_of times_low inverse from_bits sub_byte
@@ -88,7 +94,8 @@ once_at y lt = same_at (λ y. element (sum_at ONCE_FIRST ONCE_SECOND y)) (λ y. 
 
 pub twice_at : (y : ℕ) → y < 256 → element (sum_at TWICE_FIRST TWICE_SECOND y) ≡ sub_linear_doubled (element y)
 unfolding sum_of times_low inverse from_bits sub_byte
-twice_at y lt = same_at (λ y. element (sum_at TWICE_FIRST TWICE_SECOND y)) (λ y. sub_linear_doubled (element y)) 256 y refl lt
+twice_at y lt = same_at (λ y. element (sum_at TWICE_FIRST TWICE_SECOND y)) (λ y. sub_linear_doubled
+    (element y)) 256 y refl lt
 
 -- ---- the steps from the numbers of a vector to what the tables give
 
@@ -101,7 +108,8 @@ upper_of v = zip2 (λ a b. a / 2 ^ b) v (replicate 16 4)
 abbrev sum_of_both : List ℕ → List ℕ
 sum_of_both v = zip2 bit_xor (upper_of v) (lower_of v)
 
-looked_up : (table : List ℕ) (f : ℕ → ℕ) (v places result : List ℕ) → result ≡ map (look table) places → places ≡ map f v
+looked_up : (table : List ℕ) (f : ℕ → ℕ) (v places result : List ℕ) → result ≡ map (look table) places
+    → places ≡ map f v
     → result ≡ map (λ y. look table (f y)) v
 looked_up table f v places result is places_is = is ∙ ap (map (look table)) places_is ∙ map-map (look table) f v
 
@@ -115,11 +123,13 @@ module _ (v : List ℕ) (long : length v ≡ 16) where
   pub over_are : (table over : List ℕ) → over ≡ map (look table) (lower_of v) → over ≡ map (λ y. look table (y % 16)) v
   over_are table over is = looked_up table (λ y. y % 16) v (lower_of v) over is (lower_bits v long)
 
-  pub uppers_are : (table result : List ℕ) → result ≡ map (look table) (upper_of v) → result ≡ map (λ y. look table (y / 16)) v
+  pub uppers_are : (table result : List ℕ) → result ≡ map (look table) (upper_of v)
+      → result ≡ map (λ y. look table (y / 16)) v
   uppers_are table result is = looked_up table (λ y. y / 16) v (upper_of v) result is (upper_bits v long)
 
   module _ (over : List ℕ) (over_is : over ≡ map (look A_OVER) (lower_of v)) where
-    pub first_inner : (one : List ℕ) → one ≡ map (look ONE_OVER) (upper_of v) → zip2 bit_xor one over ≡ map (one_over_sum (λ y. y / 16)) v
+    pub first_inner : (one : List ℕ) → one ≡ map (look ONE_OVER) (upper_of v)
+        → zip2 bit_xor one over ≡ map (one_over_sum (λ y. y / 16)) v
     first_inner one one_is =
         zip2_of_maps bit_xor (λ y. look ONE_OVER (y / 16)) (λ y. look A_OVER (y % 16)) v
         (uppers_are ONE_OVER one one_is) (over_are A_OVER over over_is)
@@ -128,21 +138,24 @@ module _ (v : List ℕ) (long : length v ≡ 16) where
         → zip2 bit_xor one over ≡ map (one_over_sum (λ y. bit_xor (y / 16) (y % 16))) v
     second_inner one one_is =
         zip2_of_maps bit_xor (λ y. look ONE_OVER (bit_xor (y / 16) (y % 16))) (λ y. look A_OVER (y % 16)) v
-        (looked_up ONE_OVER (λ y. bit_xor (y / 16) (y % 16)) v (sum_of_both v) one one_is both_are) (over_are A_OVER over over_is)
+        (looked_up ONE_OVER (λ y. bit_xor (y / 16) (y % 16)) v (sum_of_both v) one one_is both_are)
+        (over_are A_OVER over over_is)
 
     pub first_places : (one outer : List ℕ) → one ≡ map (look ONE_OVER) (upper_of v)
         → outer ≡ map (look ONE_OVER) (zip2 bit_xor one over)
         → zip2 bit_xor outer (sum_of_both v) ≡ map (first_place ONE_OVER A_OVER) v
     first_places one outer one_is outer_is =
         zip2_of_maps bit_xor (λ y. look ONE_OVER (one_over_sum (λ y. y / 16) y)) (λ y. bit_xor (y / 16) (y % 16)) v
-        (looked_up ONE_OVER (one_over_sum (λ y. y / 16)) v (zip2 bit_xor one over) outer outer_is (first_inner one one_is)) both_are
+        (looked_up ONE_OVER (one_over_sum (λ y. y / 16)) v (zip2 bit_xor one over) outer outer_is
+        (first_inner one one_is)) both_are
 
     pub second_places : (one outer : List ℕ) → one ≡ map (look ONE_OVER) (sum_of_both v)
         → outer ≡ map (look ONE_OVER) (zip2 bit_xor one over)
         → zip2 bit_xor outer (upper_of v) ≡ map (second_place ONE_OVER A_OVER) v
     second_places one outer one_is outer_is =
         zip2_of_maps bit_xor (λ y. look ONE_OVER (one_over_sum (λ y. bit_xor (y / 16) (y % 16)) y)) (λ y. y / 16) v
-        (looked_up ONE_OVER (one_over_sum (λ y. bit_xor (y / 16) (y % 16))) v (zip2 bit_xor one over) outer outer_is (second_inner one one_is))
+        (looked_up ONE_OVER (one_over_sum (λ y. bit_xor (y / 16) (y % 16))) v (zip2 bit_xor one over) outer outer_is
+        (second_inner one one_is))
         (upper_bits v long)
 
 -- all of them are places in a table, or from 128 on
@@ -159,7 +172,8 @@ module _ (v : List ℕ) (fits : Each1 (Fits w8) v) (places : List ℕ) where
   pub first_inner_fits : places ≡ map (one_over_sum (λ y. y / 16)) v → Each1 (λ j. T (is_place j)) places
   first_inner_fits = are_places (one_over_sum (λ y. y / 16)) refl v places fits
 
-  pub second_inner_fits : places ≡ map (one_over_sum (λ y. bit_xor (y / 16) (y % 16))) v → Each1 (λ j. T (is_place j)) places
+  pub second_inner_fits : places ≡ map (one_over_sum (λ y. bit_xor (y / 16) (y % 16))) v
+      → Each1 (λ j. T (is_place j)) places
   second_inner_fits = are_places (one_over_sum (λ y. bit_xor (y / 16) (y % 16))) refl v places fits
 
   pub first_fits : places ≡ map (first_place ONE_OVER A_OVER) v → Each1 (λ j. T (is_place j)) places
@@ -185,7 +199,8 @@ on_basis_is v lower upper long fits lower_is upper_is =
     map_itself (x ∷ xs) = ap (λ l. x ∷ l) (map_itself xs)
 
 -- what two tables give, read on the basis
-pub summed_is : (first second : List ℕ) (g : ℕ → ℕ) → ((y : ℕ) → y < 256 → element (sum_at first second y) ≡ g (element y))
+pub summed_is : (first second : List ℕ) (g : ℕ → ℕ) → ((y : ℕ) → y < 256
+    → element (sum_at first second y) ≡ g (element y))
     → (v result : List ℕ) → Each1 (Fits w8) v → result ≡ map (sum_at first second) v
     → map element result ≡ map (λ y. g (element y)) v
 summed_is first second g at v result fits is =
@@ -200,7 +215,8 @@ sum_of_sum zero a b = refl
 sum_of_sum (suc n) a b =
     let v : ℕ = slice_index basis n in
     ap (λ (x : ℕ). bit_xor (x * v) (sum_of n (bit_xor a b))) (bit_at_xor a b n)
-    ∙ ap (λ (x : ℕ). bit_xor x (sum_of n (bit_xor a b))) (sum_scale (bit_at a n) (bit_at b n) v (bit_at-lt a n) (bit_at-lt b n))
+    ∙ ap (λ (x : ℕ). bit_xor x (sum_of n (bit_xor a b))) (sum_scale (bit_at a n) (bit_at b n) v (bit_at-lt a n)
+    (bit_at-lt b n))
     ∙ ap (bit_xor (bit_xor (bit_at a n * v) (bit_at b n * v))) (sum_of_sum n a b)
     ∙ xor_four (bit_at a n * v) (bit_at b n * v) (sum_of n a) (sum_of n b)
 

@@ -1,5 +1,5 @@
-mod OctetFacts
+pub mod OctetFacts
 pub mod XorFacts
-mod BasisFacts
-mod RoundFacts
+pub mod BasisFacts
+pub mod RoundFacts
 mod ScheduleFacts

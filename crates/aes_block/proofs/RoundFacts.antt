@@ -20,7 +20,8 @@ sub_whole x = xor_assoc (sub_byte x) 0x63 0x63 ∙ xor_zero_r (sub_byte x)
 pub sub_bytes_are : (octets numbers result : List ℕ) → length octets ≡ 16 → map element numbers ≡ octets
     → result ≡ map (λ y. sub_linear (element y)) numbers → zip2 bit_xor result (replicate 16 0x63) ≡ map sub_byte octets
 sub_bytes_are octets numbers result long is result_is =
-    let of_octets : result ≡ map sub_linear octets = result_is ∙ sym (map-map sub_linear element numbers) ∙ ap (map sub_linear) is in
+    let of_octets : result ≡ map sub_linear octets = result_is ∙ sym (map-map sub_linear element numbers)
+    ∙ ap (map sub_linear) is in
     zip2_splat bit_xor result 16 0x63 (ap length of_octets ∙ length-map octets sub_linear ∙ long)
     ∙ ap (map (λ x. bit_xor x 0x63)) of_octets ∙ map-map (λ x. bit_xor x 0x63) sub_linear octets
     ∙ map_same (λ x. bit_xor (sub_linear x) 0x63) sub_byte sub_whole octets
@@ -55,14 +56,15 @@ same_state f g r0 r1 r2 r3 =
 
 -- a round key is added octet by octet
 pub added : (s k : List ℕ) → length s ≡ 16 → length k ≡ 16 → zip2 bit_xor s k ≡ add_round_key s k
-added s k long_s long_k = ap (λ x. zip2 bit_xor x k) (is_state s long_s) ∙ ap (zip2 bit_xor (state (at s))) (is_state k long_k)
+added s k long_s long_k = ap (λ x. zip2 bit_xor x k) (is_state s long_s)
+    ∙ ap (zip2 bit_xor (state (at s))) (is_state k long_k)
 
 element_none : element 0 ≡ 0
 unfolding sum_of
 element_none = refl
 
 -- a place of a list that a function is mapped over
-at_mapped : (f : ℕ → ℕ) (v : List ℕ) (i : ℕ) → i < length v → get_or (map f v) i 0 ≡ f (get_or v i 0)
+pub at_mapped : (f : ℕ → ℕ) (v : List ℕ) (i : ℕ) → i < length v → get_or (map f v) i 0 ≡ f (get_or v i 0)
 at_mapped f [] i lt = absurd (omega arith)
 at_mapped f (x ∷ xs) zero lt = refl
 at_mapped f (x ∷ xs) (suc i) lt = at_mapped f xs i (omega arith)
@@ -83,15 +85,17 @@ times_3 a = simp (zero-mul, one-mul, xor_zero_l, xor_zero_r) refl
 
 -- the constants p of the doubled octet and q of the others are gone
 sum_of_row : (a2 b2 b c d k p q : ℕ)
-    → bit_xor (bit_xor (bit_xor b2 p) (bit_xor c q)) (bit_xor (bit_xor (bit_xor a2 p) (bit_xor b q)) (bit_xor (bit_xor d q) (bit_xor k q)))
+    → bit_xor (bit_xor (bit_xor b2 p) (bit_xor c q)) (bit_xor (bit_xor (bit_xor a2 p) (bit_xor b q)) (bit_xor
+    (bit_xor d q) (bit_xor k q)))
     ≡ bit_xor (bit_xor (bit_xor (bit_xor a2 (bit_xor b b2)) c) d) k
 sum_of_row a2 b2 b c d k p q = simp (xor_assoc, xor_left_comm, xor_comm, xor_self) refl
 
--- one octet of a round: t0 and t1 are the octets of a row and of the row below, doubled, and o1 to o3 those of the three
--- rows below
+-- one octet of a round: t0 and t1 are the octets of a row and of the row below, doubled, and o1 to o3 those of the
+-- three rows below
 row_is : (t0 t1 o1 o2 o3 key a b c d k : ℕ)
     → element t0 ≡ bit_xor (doubled a) (doubled 0x63) → element t1 ≡ bit_xor (doubled b) (doubled 0x63)
-    → element o1 ≡ bit_xor b 0x63 → element o2 ≡ bit_xor c 0x63 → element o3 ≡ bit_xor d 0x63 → element key ≡ bit_xor k 0x63
+    → element o1 ≡ bit_xor b 0x63 → element o2 ≡ bit_xor c 0x63 → element o3 ≡ bit_xor d 0x63
+    → element key ≡ bit_xor k 0x63
     → element (bit_xor (bit_xor t1 o2) (bit_xor (bit_xor t0 o1) (bit_xor o3 key)))
     ≡ bit_xor (bit_xor (bit_xor (bit_xor (doubled a) (bit_xor b (doubled b))) c) d) k
 row_is t0 t1 o1 o2 o3 key a b c d k i0 i1 j1 j2 j3 ik =
@@ -105,27 +109,34 @@ row_is t0 t1 o1 o2 o3 key a b c d k i0 i1 j1 j2 j3 ik =
     sum x y u v is_u is_v = element_sum x y ∙ ap (λ z. bit_xor z (element y)) is_u ∙ ap (bit_xor u) is_v
 
 -- the four rows of the matrix
-row_0 : (a b c d k : ℕ) → bit_xor (bit_xor (bit_xor (bit_xor (doubled a) (bit_xor b (doubled b))) c) d) k ≡ bit_xor (mixed 0 a b c d) k
+row_0 : (a b c d k : ℕ) → bit_xor (bit_xor (bit_xor (bit_xor (doubled a) (bit_xor b (doubled b))) c) d) k
+    ≡ bit_xor (mixed 0 a b c d) k
 row_0 a b c d k = sym (rw (times_2 a, times_3 b, times_1 c, times_1 d) refl)
 
-turned_1 : (a b2 c3 d k : ℕ) → bit_xor (bit_xor (bit_xor (bit_xor b2 c3) d) a) k ≡ bit_xor (bit_xor (bit_xor (bit_xor a b2) c3) d) k
+turned_1 : (a b2 c3 d k : ℕ) → bit_xor (bit_xor (bit_xor (bit_xor b2 c3) d) a) k
+    ≡ bit_xor (bit_xor (bit_xor (bit_xor a b2) c3) d) k
 turned_1 a b2 c3 d k = simp (xor_assoc, xor_left_comm, xor_comm) refl
 
-row_1 : (a b c d k : ℕ) → bit_xor (bit_xor (bit_xor (bit_xor (doubled b) (bit_xor c (doubled c))) d) a) k ≡ bit_xor (mixed 1 a b c d) k
+row_1 : (a b c d k : ℕ) → bit_xor (bit_xor (bit_xor (bit_xor (doubled b) (bit_xor c (doubled c))) d) a) k
+    ≡ bit_xor (mixed 1 a b c d) k
 row_1 a b c d k =
     turned_1 a (doubled b) (bit_xor c (doubled c)) d k ∙ sym (rw (times_1 a, times_2 b, times_3 c, times_1 d) refl)
 
-turned_2 : (a b c2 d3 k : ℕ) → bit_xor (bit_xor (bit_xor (bit_xor c2 d3) a) b) k ≡ bit_xor (bit_xor (bit_xor (bit_xor a b) c2) d3) k
+turned_2 : (a b c2 d3 k : ℕ) → bit_xor (bit_xor (bit_xor (bit_xor c2 d3) a) b) k
+    ≡ bit_xor (bit_xor (bit_xor (bit_xor a b) c2) d3) k
 turned_2 a b c2 d3 k = simp (xor_assoc, xor_left_comm, xor_comm) refl
 
-row_2 : (a b c d k : ℕ) → bit_xor (bit_xor (bit_xor (bit_xor (doubled c) (bit_xor d (doubled d))) a) b) k ≡ bit_xor (mixed 2 a b c d) k
+row_2 : (a b c d k : ℕ) → bit_xor (bit_xor (bit_xor (bit_xor (doubled c) (bit_xor d (doubled d))) a) b) k
+    ≡ bit_xor (mixed 2 a b c d) k
 row_2 a b c d k =
     turned_2 a b (doubled c) (bit_xor d (doubled d)) k ∙ sym (rw (times_1 a, times_1 b, times_2 c, times_3 d) refl)
 
-turned_3 : (a3 b c d2 k : ℕ) → bit_xor (bit_xor (bit_xor (bit_xor d2 a3) b) c) k ≡ bit_xor (bit_xor (bit_xor (bit_xor a3 b) c) d2) k
+turned_3 : (a3 b c d2 k : ℕ) → bit_xor (bit_xor (bit_xor (bit_xor d2 a3) b) c) k
+    ≡ bit_xor (bit_xor (bit_xor (bit_xor a3 b) c) d2) k
 turned_3 a3 b c d2 k = simp (xor_assoc, xor_comm) refl
 
-row_3 : (a b c d k : ℕ) → bit_xor (bit_xor (bit_xor (bit_xor (doubled d) (bit_xor a (doubled a))) b) c) k ≡ bit_xor (mixed 3 a b c d) k
+row_3 : (a b c d k : ℕ) → bit_xor (bit_xor (bit_xor (bit_xor (doubled d) (bit_xor a (doubled a))) b) c) k
+    ≡ bit_xor (mixed 3 a b c d) k
 row_3 a b c d k =
     turned_3 (bit_xor a (doubled a)) b c (doubled d) k ∙ sym (rw (times_3 a, times_1 b, times_1 c, times_2 d) refl)
 
@@ -169,7 +180,8 @@ module _
   where
     key_at : (r c : ℕ) → r < 4 → c < 4 → element (at key r c) ≡ bit_xor (at k r c) 0x63
     key_at r c lr lc =
-        let long : length k ≡ 16 = sym (length-map k (λ x. bit_xor x 0x63)) ∙ sym (ap length key_is) ∙ length-map key element ∙ long_key in
+        let long : length k ≡ 16 = sym (length-map k (λ x. bit_xor x 0x63)) ∙ sym (ap length key_is)
+        ∙ length-map key element ∙ long_key in
         sym (at_mapped element key (r + 4 * c) (omega arith)) ∙ ap (λ (l : List ℕ). get_or l (r + 4 * c) 0) key_is
         ∙ at_mapped (λ x. bit_xor x 0x63) k (r + 4 * c) (omega arith)
 
@@ -182,7 +194,8 @@ module _
     abbrev made : List ℕ → List ℕ → List ℕ
     made doubles keys =
         let with_below : List ℕ = zip2 bit_xor doubles (row_below 1 once) in
-        map element (zip2 bit_xor (row_below 1 with_below) (zip2 bit_xor with_below (zip2 bit_xor (row_below 3 once) keys)))
+        map element (zip2 bit_xor (row_below 1 with_below) (zip2 bit_xor with_below (zip2 bit_xor
+        (row_below 3 once) keys)))
 
     abbrev made_at : ℕ → ℕ → ℕ
     made_at r c =
@@ -223,14 +236,17 @@ module _
         ∙ sym (ap (λ l. add_round_key (mix_columns (shift_rows (sub_bytes (map element l)))) k) (is_state s long_s))
 
     -- the same from the vectors of the code
-    pub next_round_of : (below below_2 above : List ℕ) → below_2 ≡ row_below 1 (zip2 bit_xor twice below) → above ≡ row_below 3 once
+    pub next_round_of : (below below_2 above : List ℕ) → below_2 ≡ row_below 1 (zip2 bit_xor twice below)
+        → above ≡ row_below 3 once
         → below ≡ row_below 1 once
         → map element (zip2 bit_xor below_2 (zip2 bit_xor (zip2 bit_xor twice below) (zip2 bit_xor above key)))
         ≡ add_round_key (mix_columns (shift_rows (sub_bytes (map element s)))) k
     next_round_of below below_2 above is_2 is_above is =
         ap (λ b. map element (zip2 bit_xor b (zip2 bit_xor (zip2 bit_xor twice below) (zip2 bit_xor above key)))) is_2
-        ∙ ap (λ a. map element (zip2 bit_xor (row_below 1 (zip2 bit_xor twice below)) (zip2 bit_xor (zip2 bit_xor twice below) (zip2 bit_xor a key)))) is_above
-        ∙ ap (λ b. map element (zip2 bit_xor (row_below 1 (zip2 bit_xor twice b)) (zip2 bit_xor (zip2 bit_xor twice b) (zip2 bit_xor (row_below 3 once) key)))) is
+        ∙ ap (λ a. map element (zip2 bit_xor (row_below 1 (zip2 bit_xor twice below)) (zip2 bit_xor
+        (zip2 bit_xor twice below) (zip2 bit_xor a key)))) is_above
+        ∙ ap (λ b. map element (zip2 bit_xor (row_below 1 (zip2 bit_xor twice b)) (zip2 bit_xor
+        (zip2 bit_xor twice b) (zip2 bit_xor (row_below 3 once) key)))) is
         ∙ next_round_is
 
 -- ---- the last round
@@ -246,7 +262,8 @@ last_round_is s result key k long_s long_key result_is key_is =
     let sub : ℕ → ℕ → ℕ = λ r c. sub_byte (element (at s r ((c + r) % 4))) in
     ap (λ l. zip2 bit_xor l key) result_is
     ∙ ap (zip2 bit_xor (map (λ y. sub_linear (element y)) (shift_rows s))) (key_is ∙ ap with_constant (is_state k long))
-    ∙ same_state (λ r c. bit_xor (bit_xor (sub r c) 0x63) (bit_xor (at k r c) 0x63)) (λ r c. bit_xor (sub r c) (at k r c))
+    ∙ same_state (λ r c. bit_xor (bit_xor (sub r c) 0x63) (bit_xor (at k r c) 0x63)) (λ r c. bit_xor (sub r c)
+    (at k r c))
     (λ c lt. constant_gone (sub 0 c) (at k 0 c) 0x63) (λ c lt. constant_gone (sub 1 c) (at k 1 c) 0x63)
     (λ c lt. constant_gone (sub 2 c) (at k 2 c) 0x63) (λ c lt. constant_gone (sub 3 c) (at k 3 c) 0x63)
     ∙ sym (ap (λ l. add_round_key (shift_rows (sub_bytes (map element l))) k) (is_state s long_s))
@@ -263,7 +280,8 @@ round_more words block state next n some so_far is =
     let all : suc (n - 1) ≡ n + 1 - 1 = omega arith in
     is
     ∙ ap (λ (s : List ℕ). add_round_key (mix_columns (shift_rows (sub_bytes s))) (round_key words n)) so_far
-    ∙ ap (λ m. add_round_key (mix_columns (shift_rows (sub_bytes (after words block (n - 1))))) (round_key words m)) (sym count)
+    ∙ ap (λ m. add_round_key (mix_columns (shift_rows (sub_bytes (after words block (n - 1))))) (round_key words m))
+    (sym count)
     ∙ ap (after words block) all
 
 -- no whole round yet
@@ -272,7 +290,8 @@ pub round_none : (words block state : List ℕ) → map element state ≡ add_ro
 unfolding after
 round_none words block state is = is
 
-pub rounds_all : (words block state result : List ℕ) (n rounds : ℕ) → n ≡ rounds → map element state ≡ after words block (n - 1)
+pub rounds_all : (words block state result : List ℕ) (n rounds : ℕ) → n ≡ rounds
+    → map element state ≡ after words block (n - 1)
     → result ≡ add_round_key (shift_rows (sub_bytes (map element state))) (round_key words rounds)
     → result ≡ cipher words rounds block
 unfolding cipher

@@ -27,7 +27,8 @@ length-schedule nk key (suc n) =
     omega (arith, length_push (schedule nk key n) (next_word nk (schedule nk key n) (nk + n)), length-schedule nk key n)
 
 -- word i follows from the words below i
-next_word-take : (nk : ℕ) (words : List ℕ) (i : ℕ) → 0 < nk → nk ≤ i → next_word nk (take i words) i ≡ next_word nk words i
+next_word-take : (nk : ℕ) (words : List ℕ) (i : ℕ) → 0 < nk → nk ≤ i
+    → next_word nk (take i words) i ≡ next_word nk words i
 next_word-take nk words i some low =
     rw (get_or-take i words (i - nk) 0 (omega arith), get_or-take i words (i - 1) 0 (omega arith)) refl
 
@@ -54,7 +55,8 @@ others_none nk i words key all made =
 
 -- ---- the round keys of a schedule's words
 
-round_key-take : (m : ℕ) (words : List ℕ) (round : ℕ) → 4 * (round + 1) ≤ m → round_key (take m words) round ≡ round_key words round
+round_key-take : (m : ℕ) (words : List ℕ) (round : ℕ) → 4 * (round + 1) ≤ m
+    → round_key (take m words) round ≡ round_key words round
 round_key-take m words round le =
     rw (
       get_or-take m words (4 * round) 0 (omega arith),
@@ -85,7 +87,27 @@ words_in_vector a b c d la lb lc ld =
     let wb = low_word b n2 lb in
     let wc = low_word c n3 lc in
     let wd = low_word d 0 ld in
-    rw (wa.4, wb.4, wc.4, wa.0, wa.1, wa.2, wa.3, wb.0, wb.1, wb.2, wb.3, wc.0, wc.1, wc.2, wc.3, wd.0, wd.1, wd.2, wd.3) refl
+    rw (
+      wa.4,
+      wb.4,
+      wc.4,
+      wa.0,
+      wa.1,
+      wa.2,
+      wa.3,
+      wb.0,
+      wb.1,
+      wb.2,
+      wb.3,
+      wc.0,
+      wc.1,
+      wc.2,
+      wc.3,
+      wd.0,
+      wd.1,
+      wd.2,
+      wd.3,
+    ) refl
 
 -- round keys of words are those of any words that begin with the same rounds
 pub holds_keys-take : (m : ℕ) (words : List ℕ) (rounds : ℕ) (keys : List (List ℕ)) → 4 * (rounds + 1) ≤ m
@@ -147,7 +169,8 @@ pub is_expanded : (nk : ℕ) (words key zeros : List ℕ) (keys : List (List ℕ
     → IsExpanded key nk keys zeros
 is_expanded nk words key zeros keys right long made holds is =
     let own : HoldsKeys (schedule nk key (3 * nk + 28)) (nk + 6) keys =
-    subst (λ (l : List ℕ). HoldsKeys l (nk + 6) keys) made (holds_keys-take (4 * (nk + 7)) words (nk + 6) keys (omega arith) holds) in
+    subst (λ (l : List ℕ). HoldsKeys l (nk + 6) keys) made (holds_keys-take (4 * (nk + 7)) words (nk + 6) keys
+    (omega arith) holds) in
     record {
       key_words = right;
       whole = long;

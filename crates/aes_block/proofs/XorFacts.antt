@@ -11,7 +11,8 @@ pub xor_gone : (a b : ℕ) → bit_xor a (bit_xor a b) ≡ b
 xor_gone a b = sym (xor_assoc a a b) ∙ ap (λ (x : ℕ). bit_xor x b) (xor_self a) ∙ xor_zero_l b
 
 pub xor_four : (a b c d : ℕ) → bit_xor (bit_xor a b) (bit_xor c d) ≡ bit_xor (bit_xor a c) (bit_xor b d)
-xor_four a b c d = xor_assoc a b (bit_xor c d) ∙ ap (bit_xor a) (xor_left_comm b c d) ∙ sym (xor_assoc a c (bit_xor b d))
+xor_four a b c d = xor_assoc a b (bit_xor c d) ∙ ap (bit_xor a) (xor_left_comm b c d)
+    ∙ sym (xor_assoc a c (bit_xor b d))
 
 -- a sum of bits times a number
 pub sum_scale : (p q v : ℕ) → p < 2 → q < 2 → (p + q) % 2 * v ≡ bit_xor (p * v) (q * v)

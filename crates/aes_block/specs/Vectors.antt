@@ -14,8 +14,8 @@ columns words =
 abbrev pub row_below : ℕ → List ℕ → List ℕ
 row_below n s = state (λ r c. at s ((r + n) % 4) c)
 
--- the round keys of these words: the first as it is, those of the whole rounds on the basis and the last as octets, both
--- with the S-box's constant
+-- the round keys of these words: the first as it is, those of the whole rounds on the basis and the last as octets,
+-- both with the S-box's constant
 pub record HoldsKeys (words : List ℕ) (rounds : ℕ) (keys : List (List ℕ)) : Type 0 where
   pub first : slice_index_or keys 0 [] ≡ round_key words 0
   pub between : (n : ℕ) → 0 < n → n < rounds

@@ -1,4 +1,5 @@
-// Blocks enciphered by the round keys of a schedule (FIPS 197, 5.1). Several blocks at once do not wait for one another.
+// Blocks enciphered by the round keys of a schedule (FIPS 197, 5.1). Several blocks at once do not wait for one
+// another.
 
 ghost use Rattle.std.specs.Prelude.{◌≡◌, ℕ, ◌<◌, List, map};
 ghost use Rattle.aes_block.specs.Aes.{cipher};

@@ -4,7 +4,8 @@
 ghost use Rattle.std.specs.Prelude.{◌≡◌, ℕ, T, map, bit_xor};
 ghost use Rattle.std.specs.Simd.Lanes.{Each1};
 ghost use Rattle.aes_block.specs.Aes.{sub_byte};
-ghost use Rattle.aes_block.specs.Basis.{element, first_place, is_place, look, second_place, sub_linear, sub_linear_doubled};
+ghost use Rattle.aes_block.specs.Basis.{element, first_place, is_place, look, second_place, sub_linear};
+ghost use Rattle.aes_block.specs.Basis.{sub_linear_doubled};
 
 use std::simd::u8x16;
 

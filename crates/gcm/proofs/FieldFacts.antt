@@ -1,35 +1,20 @@
 -- The product in GF(2^128): linear on both sides, commutative, associative, with the unit `one`.
 use Rattle.std.proofs.Common.{◌≡◌, ℕ, zero, suc, ◌+◌, ◌*◌, ◌/◌, ◌%◌, ◌^◌, ◌<◌, bit_xor, refl, sym, ap, ◌∙◌, arith, lit<}
 use Rattle.std.specs.Int.{bit_at}
-use Rattle.std.specs.Int.Bits.{xor_zero_l, xor_zero_r, xor_assoc, xor_self, xor_comm, xor_lt, xor_shr, xor_shifted}
+use Rattle.std.specs.Int.Bits.{xor_zero_r, xor_lt, xor_shr, xor_shifted}
 use Rattle.std.proofs.Math.Nat.{zero-mul, one-mul, pow-suc, mod-eq_of_lt}
 use Rattle.std.proofs.lemmas.Nat.{mod-pow-add, mod_below, pow_pos}
 use Rattle.std.proofs.lemmas.Nat.Bits.{bit_at-lt, bit_at_lowest, bit_at-zero, bit_at_xor}
+use Rattle.aes_block.proofs.XorFacts.{xor_four, sum_scale}
 use Rattle.gcm.specs.Field.{reduced, by_x, times_low, times, one, power}
 
 -- ---- sums and bits
-
-pub xor_four : (a b c d : ℕ) → bit_xor (bit_xor a b) (bit_xor c d) ≡ bit_xor (bit_xor a c) (bit_xor b d)
-xor_four a b c d =
-    xor_assoc a b (bit_xor c d)
-    ∙ ap (bit_xor a) (sym (xor_assoc b c d) ∙ ap (λ (x : ℕ). bit_xor x d) (xor_comm b c) ∙ xor_assoc c b d)
-    ∙ sym (xor_assoc a c (bit_xor b d))
 
 -- a bit times a sum
 scale_sum : (p v w : ℕ) → p < 2 → p * bit_xor v w ≡ bit_xor (p * v) (p * w)
 scale_sum zero v w lt = simp zero-mul
 scale_sum (suc zero) v w lt = simp one-mul
 scale_sum (suc (suc p)) v w lt = absurd (omega arith)
-
--- a sum of bits times a number
-sum_scale : (p q v : ℕ) → p < 2 → q < 2 → (p + q) % 2 * v ≡ bit_xor (p * v) (q * v)
-sum_scale zero zero v lp lq = simp zero-mul
-sum_scale zero (suc zero) v lp lq = simp (zero-mul, one-mul, xor_zero_l)
-sum_scale (suc zero) zero v lp lq = simp (zero-mul, one-mul, xor_zero_r)
-sum_scale (suc zero) (suc zero) v lp lq = simp (zero-mul, one-mul, xor_self)
-sum_scale zero (suc (suc q)) v lp lq = absurd (omega arith)
-sum_scale (suc zero) (suc (suc q)) v lp lq = absurd (omega arith)
-sum_scale (suc (suc p)) q v lp lq = absurd (omega arith)
 
 -- ---- times x
 

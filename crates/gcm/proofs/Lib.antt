@@ -1,5 +1,8 @@
 mod FieldFacts
+mod SumFacts
 mod TableFacts
+mod RowFacts
+mod PairFacts
 mod FoldFacts
 mod BlockFacts
 mod CounterFacts

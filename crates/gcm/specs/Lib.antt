@@ -2,4 +2,4 @@ pub mod Counter
 pub mod Field
 pub mod Folded
 pub mod Gcm
-pub mod Multiples
+pub mod Rows

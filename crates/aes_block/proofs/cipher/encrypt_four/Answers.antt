@@ -52,19 +52,23 @@ rounds-preserved c = record {
 pub returns : goal.returns
 returns c = λ words holds.
     let a_is : c.last_round.result ≡ cipher words c.args.rounds (get_or c.args.blocks.now 0 []) =
-    rounds_all words (get_or c.args.blocks.now 0 []) c.rounds.a c.last_round.result c.rounds.round c.args.rounds (omega arith)
+    rounds_all words (get_or c.args.blocks.now 0 []) c.rounds.a c.last_round.result c.rounds.round c.args.rounds
+    (omega arith)
     (c.rounds.invariant.a words holds)
     (c.last_round.ensures (round_key words c.args.rounds) (c.vector-last.ensures ∙ holds.last)) in
     let b_is : c.last_round-2.result ≡ cipher words c.args.rounds (get_or c.args.blocks.now 1 []) =
-    rounds_all words (get_or c.args.blocks.now 1 []) c.rounds.b c.last_round-2.result c.rounds.round c.args.rounds (omega arith)
+    rounds_all words (get_or c.args.blocks.now 1 []) c.rounds.b c.last_round-2.result c.rounds.round c.args.rounds
+    (omega arith)
     (c.rounds.invariant.b words holds)
     (c.last_round-2.ensures (round_key words c.args.rounds) (c.vector-last.ensures ∙ holds.last)) in
     let c_is : c.last_round-3.result ≡ cipher words c.args.rounds (get_or c.args.blocks.now 2 []) =
-    rounds_all words (get_or c.args.blocks.now 2 []) c.rounds.c c.last_round-3.result c.rounds.round c.args.rounds (omega arith)
+    rounds_all words (get_or c.args.blocks.now 2 []) c.rounds.c c.last_round-3.result c.rounds.round c.args.rounds
+    (omega arith)
     (c.rounds.invariant.c words holds)
     (c.last_round-3.ensures (round_key words c.args.rounds) (c.vector-last.ensures ∙ holds.last)) in
     let d_is : c.last_round-4.result ≡ cipher words c.args.rounds (get_or c.args.blocks.now 3 []) =
-    rounds_all words (get_or c.args.blocks.now 3 []) c.rounds.d c.last_round-4.result c.rounds.round c.args.rounds (omega arith)
+    rounds_all words (get_or c.args.blocks.now 3 []) c.rounds.d c.last_round-4.result c.rounds.round c.args.rounds
+    (omega arith)
     (c.rounds.invariant.d words holds)
     (c.last_round-4.ensures (round_key words c.args.rounds) (c.vector-last.ensures ∙ holds.last)) in
     rw (a_is, b_is, c_is, d_is) (sym (ap (map (cipher words c.args.rounds)) (four [] c.args.blocks.now c.told-blocks)))

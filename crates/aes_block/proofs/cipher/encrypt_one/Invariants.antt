@@ -6,4 +6,5 @@ use Rattle.aes_block.proofs.cipher.encrypt_one.Given as goal
 
 -- the states after the rounds so far
 abbrev pub invariant-rounds : goal.invariant-rounds
-invariant-rounds l = (words : List ℕ) → HoldsKeys words l.rounds l.keys → map element l.state ≡ after words l.fn.block (l.round - 1)
+invariant-rounds l = (words : List ℕ) → HoldsKeys words l.rounds l.keys
+    → map element l.state ≡ after words l.fn.block (l.round - 1)

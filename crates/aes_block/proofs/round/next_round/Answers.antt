@@ -8,4 +8,5 @@ returns c = λ k key_is.
     next_round_of c.args.state c.sub_once-once.result c.sub_twice.result c.args.key k c.fits-state.0 c.fits-key.0
     (c.sub_once-once.ensures ∙ ap (map (λ y. sub_linear (element y))) c.shift_rows-shifted.ensures)
     (c.sub_twice.ensures ∙ ap (map (λ y. sub_linear_doubled (element y))) c.shift_rows-shifted.ensures) key_is
-    c.row_below.result c.row_below-2.result c.row_above.result c.row_below-2.ensures c.row_above.ensures c.row_below.ensures
+    c.row_below.result c.row_below-2.result c.row_above.result c.row_below-2.ensures c.row_above.ensures
+    c.row_below.ensures

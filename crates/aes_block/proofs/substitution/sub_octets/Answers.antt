@@ -7,4 +7,5 @@ use Rattle.aes_block.proofs.substitution.sub_octets.Goals as goal
 pub returns : goal.returns
 returns c =
     c.summed.ensures
-    ∙ map_octets (sum_at OCTET_FIRST OCTET_SECOND) (λ y. sub_linear (element y)) octet_at c.args.numbers c.fits-numbers.1
+    ∙ map_octets (sum_at OCTET_FIRST OCTET_SECOND) (λ y. sub_linear
+    (element y)) octet_at c.args.numbers c.fits-numbers.1

@@ -14,7 +14,8 @@ look_up-requires c = upper_fits c.args.numbers c.fits-numbers.1 _ (upper_bits c.
 pub look_up-requires-2 : goal.look_up-requires-2
 look_up-requires-2 c =
     first_inner_fits c.args.numbers c.fits-numbers.1 _
-    (first_inner c.args.numbers c.fits-numbers.0 c.look_up-over_k.result c.look_up-over_k.ensures c.look_up.result c.look_up.ensures)
+    (first_inner c.args.numbers c.fits-numbers.0 c.look_up-over_k.result c.look_up-over_k.ensures c.look_up.result
+    c.look_up.ensures)
 
 pub look_up-requires-3 : goal.look_up-requires-3
 look_up-requires-3 c = both_fit c.args.numbers c.fits-numbers.1 _ (both_are c.args.numbers c.fits-numbers.0)
@@ -22,7 +23,8 @@ look_up-requires-3 c = both_fit c.args.numbers c.fits-numbers.1 _ (both_are c.ar
 pub look_up-requires-4 : goal.look_up-requires-4
 look_up-requires-4 c =
     second_inner_fits c.args.numbers c.fits-numbers.1 _
-    (second_inner c.args.numbers c.fits-numbers.0 c.look_up-over_k.result c.look_up-over_k.ensures c.look_up-3.result c.look_up-3.ensures)
+    (second_inner c.args.numbers c.fits-numbers.0 c.look_up-over_k.result c.look_up-over_k.ensures c.look_up-3.result
+    c.look_up-3.ensures)
 
 pub look_up-requires-5 : goal.look_up-requires-5
 look_up-requires-5 c =
@@ -39,14 +41,17 @@ look_up-requires-6 c =
 pub returns : goal.returns
 returns c =
     let v = c.args.numbers in
-    zip2_of_maps bit_xor (λ y. look c.args.first (first_place ONE_OVER A_OVER y)) (λ y. look c.args.second (second_place ONE_OVER A_OVER y)) v
+    zip2_of_maps bit_xor (λ y. look c.args.first (first_place ONE_OVER A_OVER y)) (λ y. look c.args.second
+    (second_place ONE_OVER A_OVER y)) v
     (c.look_up-5.ensures
     ∙ ap (map (look c.args.first))
-    (first_places v c.fits-numbers.0 c.look_up-over_k.result c.look_up-over_k.ensures c.look_up.result c.look_up-2.result
+    (first_places v c.fits-numbers.0 c.look_up-over_k.result c.look_up-over_k.ensures c.look_up.result
+    c.look_up-2.result
     c.look_up.ensures c.look_up-2.ensures)
     ∙ map-map (look c.args.first) (first_place ONE_OVER A_OVER) v)
     (c.look_up-6.ensures
     ∙ ap (map (look c.args.second))
-    (second_places v c.fits-numbers.0 c.look_up-over_k.result c.look_up-over_k.ensures c.look_up-3.result c.look_up-4.result
+    (second_places v c.fits-numbers.0 c.look_up-over_k.result c.look_up-over_k.ensures c.look_up-3.result
+    c.look_up-4.result
     c.look_up-3.ensures c.look_up-4.ensures)
     ∙ map-map (look c.args.second) (second_place ONE_OVER A_OVER) v)

@@ -25,7 +25,8 @@ rest-init c =
 
 pub rest-preserved : goal.rest-preserved
 rest-preserved c =
-    counted_more c.args.key.now c.args.iv.now c.encrypt-pad.result c.args.text.now c.rest.text c.xor_pad-in-rest.new.text
+    counted_more c.args.key.now c.args.iv.now c.encrypt-pad.result c.args.text.now c.rest.text
+    c.xor_pad-in-rest.new.text
     c.rest.i (c.encrypt-pad.ensures ∙ ap (encrypted c.args.key.now) c.counter_block.ensures)
     c.rest.invariant c.xor_pad-in-rest.ensures
 

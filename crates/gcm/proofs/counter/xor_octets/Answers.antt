@@ -17,5 +17,6 @@ octets-preserved c = record {
 
 pub returns : goal.returns
 returns c =
-    xors_all c.args.start c.octets.k c.min-end.result c.args.pad.now c.args.text.now c.octets.text c.octets.invariant.xored
+    xors_all c.args.start c.octets.k c.min-end.result c.args.pad.now c.args.text.now c.octets.text
+    c.octets.invariant.xored
     c.min-end.ensures (omega arith) c.octets.invariant.within

@@ -8,4 +8,5 @@ returns c =
     let s = c.self.inside in
     let key = take (4 * s.key_words) s.key in
     c.encrypt_one.ensures (schedule s.key_words key (3 * s.key_words + 28)) c.self.invariant.round_keys
-    ∙ encrypted_by s.key_words key c.args.block c.self.invariant.whole ∙ ap (λ k. encrypted k c.args.block) c.self.view_is
+    ∙ encrypted_by s.key_words key c.args.block c.self.invariant.whole
+    ∙ ap (λ k. encrypted k c.args.block) c.self.view_is

@@ -1,6 +1,6 @@
 use Rattle.std.proofs.Common.{ℕ, ◌≡◌, subst, ap, ◌∙◌}
 use Rattle.gcm.specs.Field.{by_x}
-use Rattle.gcm.specs.Multiples.{IsMultiples, by_powers}
+use Rattle.gcm.specs.Rows.{AreRows, by_powers}
 use Rattle.gcm.proofs.table.Table.new.Goals as goal
 
 pub invariant_of-result : goal.invariant_of-result
@@ -11,6 +11,6 @@ invariant_of-result c =
     ∙ ap by_x (c.by_x-3.ensures ∙ ap by_x (c.by_x-2.ensures ∙ ap by_x c.by_x.ensures)) in
     record {
       fits = c.from_be_bytes-subkey.type_inv;
-      upper_multiples = c.multiples.ensures;
-      lower_multiples = subst (λ (v : ℕ). IsMultiples v c.multiples-2.result) fourth c.multiples-2.ensures;
+      upper_rows = c.rows_of.ensures;
+      lower_rows = subst (λ (v : ℕ). AreRows v c.rows_of-2.result) fourth c.rows_of-2.ensures;
     }

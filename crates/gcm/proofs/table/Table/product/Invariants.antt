@@ -1,7 +1,8 @@
-use Rattle.std.proofs.Common.{◌≡◌, ◌*◌}
-use Rattle.gcm.specs.Field.{times_low}
+use Rattle.std.proofs.Common.{◌≡◌}
+use Rattle.gcm.specs.Rows.{sum_of}
+use Rattle.gcm.proofs.PairFacts.{rows_down}
 use Rattle.gcm.proofs.table.Table.product.Given as goal
 
--- the product by the lowest octets so far
-abbrev pub invariant-octets : goal.invariant-octets
-invariant-octets l = l.sum ≡ times_low (8 * l.i) l.a l.self
+-- the rows so far
+abbrev pub invariant-rows : goal.invariant-rows
+invariant-rows l = sum_of l.high l.middle l.low ≡ rows_down l.a l.self l.i
