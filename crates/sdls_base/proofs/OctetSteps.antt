@@ -1,5 +1,5 @@
 -- An octet more in the register by one look-up, in the table of the 256 registers after an octet, from zeros; and
--- four octets more by four, in that and the tables of those after an octet and octets of zeros.
+-- four or eight octets more by as many, in that and the tables of those after an octet and octets of zeros.
 use Rattle.std.proofs.Common.{◌≡◌, ℕ, ◌+◌, ◌*◌, ◌/◌, ◌%◌, ◌^◌, ◌<◌, List, [], ◌∷◌, map, slice_index, sym, ◌∙◌, ap, subst, arith, add-zero, lit<}
 use Rattle.std.specs.Prelude.{bit_xor, fold}
 use Rattle.std.specs.List.{range_with_len}
@@ -145,3 +145,82 @@ by_four_look_ups r a b c d small sa sb sc sd =
     let whole : r / 256 * 2 ^ 8 + r % 256 ≡ r = omega arith in
     rw u (four_by_octets (r / 256) (r % 256) a b c d (omega arith) (omega arith) sa sb sc sd
     ∙ ap (λ n. fold after_octet n (a ∷ b ∷ c ∷ d ∷ [])) whole)
+
+-- registers add over four octets
+sum_of_four : (r s a a2 b b2 c c2 d d2 : ℕ) → r < 2 ^ 16 → s < 2 ^ 16 → a < 256 → a2 < 256 → b < 256 → b2 < 256
+    → c < 256 → c2 < 256 → d < 256 → d2 < 256
+    → fold after_octet (bit_xor r s) (bit_xor a a2 ∷ bit_xor b b2 ∷ bit_xor c c2 ∷ bit_xor d d2 ∷ [])
+    ≡ bit_xor (fold after_octet r (a ∷ b ∷ c ∷ d ∷ [])) (fold after_octet s (a2 ∷ b2 ∷ c2 ∷ d2 ∷ []))
+sum_of_four r s a a2 b b2 c c2 d d2 hr hs ha ha2 hb hb2 hc hc2 hd hd2 =
+    let r1 : ℕ = after_octet r a in
+    let s1 : ℕ = after_octet s a2 in
+    let r2 : ℕ = after_octet r1 b in
+    let s2 : ℕ = after_octet s1 b2 in
+    let r3 : ℕ = after_octet r2 c in
+    let s3 : ℕ = after_octet s2 c2 in
+    let hr1 : r1 < 2 ^ 16 = after_small r a hr ha in
+    let hs1 : s1 < 2 ^ 16 = after_small s a2 hs ha2 in
+    let hr2 : r2 < 2 ^ 16 = after_small r1 b hr1 hb in
+    let hs2 : s2 < 2 ^ 16 = after_small s1 b2 hs1 hb2 in
+    let hr3 : r3 < 2 ^ 16 = after_small r2 c hr2 hc in
+    let hs3 : s3 < 2 ^ 16 = after_small s2 c2 hs2 hc2 in
+    ap (λ n. fold after_octet n (bit_xor b b2 ∷ bit_xor c c2 ∷ bit_xor d d2 ∷ [])) (after_sum r s a a2 hr hs ha ha2)
+    ∙ ap (λ n. fold after_octet n (bit_xor c c2 ∷ bit_xor d d2 ∷ [])) (after_sum r1 s1 b b2 hr1 hs1 hb hb2)
+    ∙ ap (λ n. after_octet n (bit_xor d d2)) (after_sum r2 s2 c c2 hr2 hs2 hc hc2)
+    ∙ after_sum r3 s3 d d2 hr3 hs3 hd hd2
+
+-- four octets of zeros keep a sum of registers
+zeros_sum : (r s : ℕ) → r < 2 ^ 16 → s < 2 ^ 16
+    → fold after_octet (bit_xor r s) (0 ∷ 0 ∷ 0 ∷ 0 ∷ [])
+    ≡ bit_xor (fold after_octet r (0 ∷ 0 ∷ 0 ∷ 0 ∷ [])) (fold after_octet s (0 ∷ 0 ∷ 0 ∷ 0 ∷ []))
+zeros_sum r s hr hs = sum_of_four r s 0 0 0 0 0 0 0 0 hr hs (lit< tt) (lit< tt) (lit< tt) (lit< tt) (lit< tt) (lit< tt) (lit< tt) (lit< tt)
+
+-- what the register leaves after four octets, and what these leave
+four_apart : (r a b c d : ℕ) → r < 2 ^ 16 → a < 256 → b < 256 → c < 256 → d < 256
+    → fold after_octet r (a ∷ b ∷ c ∷ d ∷ [])
+    ≡ bit_xor (fold after_octet r (0 ∷ 0 ∷ 0 ∷ 0 ∷ [])) (fold after_octet 0 (a ∷ b ∷ c ∷ d ∷ []))
+four_apart r a b c d hr sa sb sc sd =
+    ap (λ n. fold after_octet n (a ∷ b ∷ c ∷ d ∷ [])) (sym (xor_zero_r r))
+    ∙ sum_of_four r 0 0 a 0 b 0 c 0 d hr (lit< tt) (lit< tt) sa (lit< tt) sb (lit< tt) sc (lit< tt) sd
+
+-- the step that the code makes over eight octets
+pub by_eight_look_ups : (r a b c d e f g h : ℕ) → r < 2 ^ 16 → a < 256 → b < 256 → c < 256 → d < 256 → e < 256 → f < 256
+    → g < 256 → h < 256
+    → bit_xor
+    (bit_xor (bit_xor (bit_xor (fold after_octet 0 (bit_xor (r / 256 % 256) a ∷ 0 ∷ 0 ∷ 0 ∷ 0 ∷ 0 ∷ 0 ∷ 0 ∷ []))
+    (fold after_octet 0 (bit_xor (r % 256) b ∷ 0 ∷ 0 ∷ 0 ∷ 0 ∷ 0 ∷ 0 ∷ []))) (fold after_octet 0 (c ∷ 0 ∷ 0 ∷ 0 ∷ 0 ∷ 0 ∷ [])))
+    (fold after_octet 0 (d ∷ 0 ∷ 0 ∷ 0 ∷ 0 ∷ [])))
+    (bit_xor (bit_xor (bit_xor (fold after_octet 0 (e ∷ 0 ∷ 0 ∷ 0 ∷ [])) (fold after_octet 0 (f ∷ 0 ∷ 0 ∷ [])))
+    (fold after_octet 0 (g ∷ 0 ∷ []))) (after_octet 0 h))
+    ≡ fold after_octet r (a ∷ b ∷ c ∷ d ∷ e ∷ f ∷ g ∷ h ∷ [])
+by_eight_look_ups r a b c d e f g h small sa sb sc sd se sf sg sh =
+    let none : 0 < 256 = lit< tt in
+    let x : ℕ = bit_xor (r / 256 % 256) a in
+    let y : ℕ = bit_xor (r % 256) b in
+    let sx : x < 256 = xor_lt 8 (r / 256 % 256) a (omega arith) sa in
+    let sy : y < 256 = xor_lt 8 (r % 256) b (omega arith) sb in
+    let p : ℕ = fold after_octet 0 (x ∷ 0 ∷ 0 ∷ 0 ∷ []) in
+    let q : ℕ = fold after_octet 0 (y ∷ 0 ∷ 0 ∷ []) in
+    let s : ℕ = fold after_octet 0 (c ∷ 0 ∷ []) in
+    let t : ℕ = after_octet 0 d in
+    let hp : p < 2 ^ 16 = after_small _ 0 (after_small _ 0 (after_small _ 0 (after_small 0 x (lit< tt) sx) none) none) none in
+    let hq : q < 2 ^ 16 = after_small _ 0 (after_small _ 0 (after_small 0 y (lit< tt) sy) none) none in
+    let hs : s < 2 ^ 16 = after_small _ 0 (after_small 0 c (lit< tt) sc) none in
+    let ht : t < 2 ^ 16 = after_small 0 d (lit< tt) sd in
+    let hpq : bit_xor p q < 2 ^ 16 = xor_lt 16 p q hp hq in
+    let hpqs : bit_xor (bit_xor p q) s < 2 ^ 16 = xor_lt 16 (bit_xor p q) s hpq hs in
+    let four : ℕ = bit_xor (bit_xor (bit_xor p q) s) t in
+    let first : four ≡ fold after_octet r (a ∷ b ∷ c ∷ d ∷ []) = by_four_look_ups r a b c d small sa sb sc sd in
+    let spread : fold after_octet four (0 ∷ 0 ∷ 0 ∷ 0 ∷ [])
+    ≡ bit_xor (bit_xor (bit_xor (fold after_octet p (0 ∷ 0 ∷ 0 ∷ 0 ∷ [])) (fold after_octet q (0 ∷ 0 ∷ 0 ∷ 0 ∷ [])))
+    (fold after_octet s (0 ∷ 0 ∷ 0 ∷ 0 ∷ []))) (fold after_octet t (0 ∷ 0 ∷ 0 ∷ 0 ∷ [])) =
+    zeros_sum (bit_xor (bit_xor p q) s) t hpqs ht
+    ∙ ap (λ n. bit_xor n (fold after_octet t (0 ∷ 0 ∷ 0 ∷ 0 ∷ []))) (zeros_sum (bit_xor p q) s hpq hs
+    ∙ ap (λ n. bit_xor n (fold after_octet s (0 ∷ 0 ∷ 0 ∷ 0 ∷ []))) (zeros_sum p q hp hq)) in
+    sym
+    (ap (λ n. fold after_octet n (e ∷ f ∷ g ∷ h ∷ [])) (sym first)
+    ∙ four_apart four e f g h (xor_lt 16 (bit_xor (bit_xor p q) s) t hpqs ht) se sf sg sh
+    ∙ ap (λ n. bit_xor n (fold after_octet 0 (e ∷ f ∷ g ∷ h ∷ []))) spread
+    ∙ ap (bit_xor (bit_xor (bit_xor (bit_xor (fold after_octet p (0 ∷ 0 ∷ 0 ∷ 0 ∷ [])) (fold after_octet q (0 ∷ 0 ∷ 0 ∷ 0 ∷ [])))
+    (fold after_octet s (0 ∷ 0 ∷ 0 ∷ 0 ∷ []))) (fold after_octet t (0 ∷ 0 ∷ 0 ∷ 0 ∷ []))))
+    (sym (by_four_look_ups 0 e f g h (lit< tt) se sf sg sh)))

@@ -3,9 +3,9 @@ use Rattle.sdls_base.specs.ErrorControl.{frame_error_control, dividend, IsRemain
 use Rattle.sdls_base.proofs.Remainders.{frame_error_control-remainder, one_remainder}
 use Rattle.sdls_base.proofs.error_control.fecf.Goals as goal
 
-pub fours-init : goal.fours-init
+pub eights-init : goal.eights-init
 unfolding frame_error_control
-fours-init c = refl
+eights-init c = refl
 
 pub returns-clause-register : goal.returns-clause-register
 unfolding frame_error_control
