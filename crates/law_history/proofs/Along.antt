@@ -19,9 +19,9 @@ use Rattle.record_io.specs.declared.records.Record.{Record}
 use Rattle.record_io.specs.Places.{Place, records_of}
 use Rattle.run_promise.specs.Numbers.{mark_of, floor_of, released_floor}
 use Rattle.run_promise.specs.Legal.{IsLegal, IsRelease, IsEntry}
-use Rattle.run_promise.specs.Run.{NearWord, TurnIn, LegalRun, IsLegalHistory}
+use Rattle.run_promise.specs.Run.{AcceptsAt, NearWord, TurnIn, LegalRun, IsLegalHistory}
 use Rattle.run_promise.specs.Taken.{kept_floor, IsTaken}
-use Rattle.law_history.specs.Laws.{AcceptsAt, IsBelowReleases, NumbersRise}
+use Rattle.law_history.specs.Laws.{IsBelowReleases, NumbersRise}
 use Rattle.law_history.proofs.Legal.{legal_allowed, release_is_allowed}
 use Rattle.law_history.proofs.Marks.{mark_from_one, numbers_up, legal_up, release_entry, release_marks}
 use Rattle.law_history.proofs.Accepting.{acceptance_takes, not_fresh, near_fresh, entry_takes, kept_up, taken_restarted}

@@ -20,8 +20,7 @@ use Rattle.run_promise.specs.Entries.{frame_entry, raised_floor}
 use Rattle.run_promise.specs.ProtectingFrames.{protect_reply}
 use Rattle.run_promise.specs.Answers.{Told, told_by, opened_told, replied_told, unbound_told, monitored_told, IsCodeOf, Accepts}
 use Rattle.run_promise.specs.Fits.{Course, state_in, state_before, IsOpenAnswer, FitsAny, FitsKind, Fits}
-use Rattle.run_promise.specs.Run.{TurnIn, IsLegalHistory}
-use Rattle.law_history.specs.Laws.{AcceptsAt}
+use Rattle.run_promise.specs.Run.{AcceptsAt, TurnIn, IsLegalHistory}
 use Rattle.law_history.proofs.Along.{of_places, accepted_twice}
 
 -- ---- codes

@@ -29,14 +29,6 @@ pub record NumbersRise (old new : State) (key : ℕ) : Type 0 where
   pub mark : mark_of old key ≤ mark_of new key
   pub floor : floor_of old key ≤ floor_of new key
 
--- the entry at this place accepts the number under the key
-pub record AcceptsAt (entries : List Entry) (place key number : ℕ) : Type 0 where
-  pub entry : Entry
-  pub there : slice_get entries place ≡ Some entry
-  pub spi : ℕ
-  pub floor : ℕ
-  pub change_is : entry.change ≡ Accepted spi key number floor
-
 -- the reply accepts a number above the floor of its key
 pub record RaisesFloor (state : State) (reply : OpenReply) : Type 0 where
   pub spi : ℕ

@@ -7,10 +7,9 @@ ghost use Rattle.record_io.specs.declared.records.Record.{Record};
 ghost use Rattle.record_io.specs.Places.{Place};
 ghost use Rattle.run_promise.specs.Numbers.{mark_of};
 ghost use Rattle.run_promise.specs.Legal.{anywhere};
-ghost use Rattle.run_promise.specs.Run.{IsLegalHistory, IsOneOf};
+ghost use Rattle.run_promise.specs.Run.{AcceptsAt, IsLegalHistory, IsOneOf};
 ghost use Rattle.run_promise.specs.Answers.{Accepts, IsCodeOf, Uses};
 ghost use Rattle.run_promise.specs.Fits.{Course, Fits, IsOpenAnswer, state_before};
-ghost use Rattle.law_history.specs.Laws.{AcceptsAt};
 
 /// Law: an answer that fits has one of the codes of its record's kind.
 pub fn fits_has_a_code()

@@ -10,9 +10,9 @@ ghost use Rattle.unit_state.specs.History.{after_first, epoch_after};
 ghost use Rattle.unit_state.specs.Restart.{restarted};
 ghost use Rattle.record_io.specs.Places.{Place};
 ghost use Rattle.run_promise.specs.Numbers.{mark_of, floor_of};
-ghost use Rattle.run_promise.specs.Run.{IsLegalHistory};
+ghost use Rattle.run_promise.specs.Run.{AcceptsAt, IsLegalHistory};
 ghost use Rattle.run_promise.specs.Taken.{kept_floor};
-ghost use Rattle.law_history.specs.Laws.{AcceptsAt, BeginsAt, IsBelowReleases};
+ghost use Rattle.law_history.specs.Laws.{BeginsAt, IsBelowReleases};
 
 /// Law: each state of a legal history keeps the rules.
 pub fn rules_stay_along()

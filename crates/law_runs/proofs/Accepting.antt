@@ -1,5 +1,5 @@
 -- No two answers of a run accept one number under one key, none accepts a number up to the floor at the start, and one
--- below a number that was accepted before is less than 64 below.
+-- below a number that an entry before accepted is less than 64 below.
 use Rattle.std.proofs.Common.{◌≡◌, ℕ, ◌<◌, ◌≤◌, List, ◌-◌, arith}
 use Rattle.std.specs.List.{All, AllPairs, slice_index_or}
 use Rattle.record_io.specs.Places.{Place, records_of}
@@ -21,16 +21,13 @@ module _ (near : ℕ → ℕ → Type 0) (course : Course) (places : List Place)
       (slice_index_or deeds i x).answer (slice_index_or deeds j x).answer key number history
       (λ same. let l = up i j x lt within in omega arith) (fit i x (omega arith)) (fit j x within) one other
 
-  pub accepts_near : (deeds : List Deed) → All (λ (d : Deed). Fits near course d.task d.answer) deeds → All (λ one. All (IsNearBehind one) deeds) deeds
-  accepts_near deeds fit = λ i x low j y within key high number one other before.
+  pub accepts_near : (deeds : List Deed) → All (λ (d : Deed). Fits near course d.task d.answer) deeds → All (IsNearBehind course.entries) deeds
+  accepts_near deeds fit = λ i x low place key high number accepts before higher.
       let a : Deed = slice_index_or deeds i x in
-      let b : Deed = slice_index_or deeds j y in
-      let opening_a = accepting_opening near course a.task a.answer key high (fit i x low) one in
-      let opening_b = accepting_opening near course b.task b.answer key number (fit j y within) other in
-      let least : 1 ≤ a.answer.position = opening_a.stands.least in
+      let opening = accepting_opening near course a.task a.answer key number (fit i x low) accepts in
       accepted_late course.begin.plan course.begin.start (records_of places) (TurnIn places) course.entries
-      (of_places course.begin.plan course.begin.start places course.entries history) (a.answer.position - 1) (b.answer.position - 1) key high number (omega arith)
-      (accepts_at course a.task a.answer key high opening_a one) (accepts_at course b.task b.answer key number opening_b other)
+      (of_places course.begin.plan course.begin.start places course.entries history) place (a.answer.position - 1) key high number before
+      higher (accepts_at course a.task a.answer key number opening accepts)
 
   pub accepts_above : restarted course.begin.start ≡ course.begin.start → (d : Deed) → Fits near course d.task d.answer → (key number : ℕ)
       → Accepts d.answer key number → floor_of course.begin.start key < number

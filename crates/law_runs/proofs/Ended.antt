@@ -41,7 +41,7 @@ use Rattle.law_runs.specs.AtEnd.{EndsRun, course_at_end, StaysCovered}
 use Rattle.law_runs.specs.Release.{AreReleases}
 use Rattle.law_runs.specs.Settled.{AreSettled}
 use Rattle.run_promise.specs.Answers.{IsUnmade}
-use Rattle.run_promise.specs.Sound.{IsSound, deeds_octets}
+use Rattle.run_promise.specs.Sound.{IsNearBehind, IsSound, deeds_octets}
 use Rattle.law_runs.proofs.Stepping.{octets_of}
 use Rattle.run_promise.specs.Alone.{OneLane, IsExact}
 use Rattle.law_runs.proofs.Exacting.{exact_call}
@@ -540,7 +540,7 @@ module _ (told : Bool) (site after : SiteSeen) (source source_after : SourceSeen
       pairs_above = sound_so.pairs_above;
       accepted = sound_so.accepted;
       accepted_above = sound_so.accepted_above;
-      accepted_near = sound_so.accepted_near;
+      accepted_near = subst (λ (c : Course). All (IsNearBehind c.entries) (deeds_from (places_of ran.come.of) ran.come.answers)) course_is sound_so.accepted_near;
       one_fault = sound_so.one_fault;
       order = subst (λ (c : Course). AllPairs (λ one other. InTurn one other → StandsBehind c.begin c.entries one other)
           (deeds_from (places_of ran.come.of) ran.come.answers)) course_is sound_so.order;

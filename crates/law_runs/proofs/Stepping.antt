@@ -21,9 +21,8 @@ use Rattle.record_io.specs.declared.code.TheConstants.{ACCEPTED, NUMBER}
 use Rattle.unit_state.specs.History.{after_first}
 use Rattle.run_promise.specs.Answers.{Accepts, IsCodeOf}
 use Rattle.run_promise.specs.Counts.{count_at, drawers, is_index, is_of_record}
-use Rattle.law_history.specs.Laws.{AcceptsAt}
 use Rattle.run_promise.specs.Log.{entries_of}
-use Rattle.run_promise.specs.Run.{HasNoEntry, IsLegalHistory, TurnIn}
+use Rattle.run_promise.specs.Run.{AcceptsAt, HasNoEntry, IsLegalHistory, TurnIn}
 use Rattle.run_promise.specs.Taken.{kept_floor}
 use Rattle.law_history.proofs.Accepting.{taken_kept}
 use Rattle.law_history.proofs.Along.{of_places, accepted_taken}

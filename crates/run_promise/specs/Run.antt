@@ -1,5 +1,6 @@
 -- The legal history of a run (profile).
 use Rattle.std.specs.Prelude.{◌≡◌, ◌≢◌, ℕ, ◌+◌, ◌<◌, ◌≤◌, ◌⊎◌, List, length, take, slice_get, Contains, Some}
+use Rattle.sdls_base.specs.declared.change.Change.TheVariants.{Accepted}
 use Rattle.sdls_base.specs.declared.entry.Entry.{Entry}
 use Rattle.unit_plan.specs.PlanLines.{PlanLines}
 use Rattle.unit_plan.specs.PlanRules.{IsPlan}
@@ -67,6 +68,14 @@ pub record IsLegalHistory (plan : PlanLines) (start : State) (places : List Plac
 -- no entry is of the record with this number
 abbrev pub HasNoEntry : List Entry → ℕ → Type 0
 HasNoEntry entries index = (p : ℕ) (entry : Entry) → slice_get entries p ≡ Some entry → entry.index ≢ Some index
+
+-- the entry at this place accepts the number under the key
+pub record AcceptsAt (entries : List Entry) (place key number : ℕ) : Type 0 where
+  pub entry : Entry
+  pub there : slice_get entries place ≡ Some entry
+  pub spi : ℕ
+  pub floor : ℕ
+  pub change_is : entry.change ≡ Accepted spi key number floor
 
 -- the record is one of those of these places, and the only one with its number
 pub record IsOneOf (places : List Place) (task : Record) : Type 0 where

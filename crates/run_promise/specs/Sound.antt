@@ -1,6 +1,7 @@
 -- When a run is sound, and what a crash at one of its moments leaves (profile).
 use Rattle.std.specs.Prelude.{◌≡◌, ◌≢◌, ◌⊎◌, ⊤, ℕ, ◌-◌, ◌<◌, ◌≤◌, IsTrue, List, [], ◌∷◌, ◌++◌, length, map, take}
 use Rattle.std.specs.List.{All, AllPairs}
+use Rattle.sdls_base.specs.declared.entry.Entry.{Entry}
 use Rattle.replay_window.specs.declared.TheConstants.{MOST_BACK}
 use Rattle.unit_image.specs.OpeningImage.{LeftByOpening}
 use Rattle.record_io.specs.Places.{Place, records_of}
@@ -8,7 +9,7 @@ use Rattle.record_io.specs.declared.code.TheConstants.{SITE_FAULT}
 use Rattle.record_io.specs.Answers.{answer_octets, answers_octets}
 use Rattle.unit_state.specs.History.{after_first, epoch_after}
 use Rattle.run_promise.specs.Numbers.{mark_of, floor_of}
-use Rattle.run_promise.specs.Run.{NearWord, IsLegalHistory, HasNoEntry}
+use Rattle.run_promise.specs.Run.{NearWord, IsLegalHistory, HasNoEntry, AcceptsAt}
 use Rattle.run_promise.specs.Answers.{Uses, Accepts, IsUnmade}
 use Rattle.run_promise.specs.Fits.{Course, Fits}
 use Rattle.run_promise.specs.Taken.{kept_floor}
@@ -20,13 +21,13 @@ use Rattle.run_promise.specs.Deed.{Deed, Differ, InTurn, StandsBehind, tells_ent
 abbrev pub deeds_octets : List Deed → List ℕ
 deeds_octets deeds = answers_octets (map (λ deed. deed.answer) deeds)
 
--- Of two numbers accepted under a key the one of the later entry is less than 64 below the other.
-abbrev pub IsNearBehind : Deed → Deed → Type 0
-IsNearBehind one other = (key high number : ℕ) → Accepts one.answer key high → Accepts other.answer key number
-    → one.answer.position < other.answer.position → high - number < MOST_BACK
+-- A number that the answer accepts is less than 64 below each that an entry before its own accepted under its key.
+abbrev pub IsNearBehind : List Entry → Deed → Type 0
+IsNearBehind entries deed = (place key high number : ℕ) → Accepts deed.answer key number
+    → place < deed.answer.position - 1 → AcceptsAt entries place key high → high - number < MOST_BACK
 
 -- The run is sound: its history is legal, each answer fits its record, no number is used or accepted twice under a key,
--- a number accepted below one that was accepted before it under its key is less than 64 below, at most one answer says
+-- one accepted below what an entry before its own accepted under its key is less than 64 below, at most one answer says
 -- that the site failed while an entry was stored, the answers stand in order, no entry is of a record whose answer says
 -- that it made none, and each monitoring message has the answer of the log.
 pub record IsSound (course : Course) (places : List Place) (deeds : List Deed) : Type 0 where
@@ -39,7 +40,7 @@ pub record IsSound (course : Course) (places : List Place) (deeds : List Deed) :
   pub accepted : AllPairs (Differ Accepts) deeds
   pub accepted_above : All (λ deed. (key number : ℕ) → Accepts deed.answer key number
       → floor_of course.begin.start key < number) deeds
-  pub accepted_near : All (λ one. All (IsNearBehind one) deeds) deeds
+  pub accepted_near : All (IsNearBehind course.entries) deeds
   pub one_fault : AllPairs (λ one other. one.answer.code ≡ SITE_FAULT → other.answer.code ≢ SITE_FAULT) deeds
   pub order : AllPairs (λ one other. InTurn one other → StandsBehind course.begin course.entries one other) deeds
   pub none_made : All (λ deed. IsUnmade deed.answer.code → HasNoEntry course.entries deed.task.index) deeds
