@@ -26,7 +26,7 @@ use Rattle.run_promise.specs.declared.end.RunEnd.TheVariants as ends
 use Rattle.run_promise.specs.Call.{CallSeen, ShowsAtEntry, sunk_since}
 use Rattle.run_promise.specs.Site.{SiteSeen}
 use Rattle.run_promise.specs.Account.{Account, SaysSiteFailed, answers_of_first, course_of, deeds_from, due_octets, end_answer, end_octets, end_status}
-use Rattle.run_promise.specs.Causes.{CameBy, PutsDue, PutsFront, TellsEnd}
+use Rattle.run_promise.specs.Causes.{CameBy, EndsWithRelease, IsToldFirst, PutsDue, PutsFront, StoodUntilRelease, TellsEnd}
 use Rattle.law_runs.specs.Doing.{IsFounded, octets_put}
 use Rattle.law_runs.specs.Coming.{HasBroken, HasPut, StopsAtFullHistory, PutsBy, EndsReading}
 use Rattle.law_runs.specs.Ending.{Finishes, IsEndPut}
@@ -35,7 +35,7 @@ use Rattle.law_runs.proofs.Faults.{told_rose}
 use Rattle.law_runs.proofs.Doing.{ends_run}
 use Rattle.law_runs.proofs.Moved.{moved_run, settled_more}
 use Rattle.law_runs.proofs.Moments.{all_moments}
-use Rattle.law_runs.proofs.Releases.{AreAdded, AreWords, IsRefusedRelease, are_added, are_releases, released_full, released_pieces, released_quietly}
+use Rattle.law_runs.proofs.Releases.{AreAdded, AreWords, IsRefusedRelease, are_added, are_releases, ends_released, released_full, released_pieces, released_quietly}
 use Rattle.law_runs.proofs.Placed.{IsBefore, places_ascend}
 use Rattle.law_runs.specs.AtEnd.{EndsRun, course_at_end, StaysCovered}
 use Rattle.law_runs.specs.Release.{AreReleases}
@@ -386,14 +386,41 @@ module _ (told : Bool) (site after : SiteSeen) (source source_after : SourceSeen
       let b = ran.kept.later in let c = ran.same_faults in
       same_count site.faults book.site.faults (omega arith) (calm other).0
 
-  -- behind an input that ended it stood to the end
-  quiet : status ≢ SITE_FAULT → (after.faults ≡ site.faults) ⊎ (came ≢ ends.Ended)
+  -- the count stood to the end; else a release met the fault, and is the last entry
+  stood_or_released : status ≢ SITE_FAULT
+      → (after.faults ≡ site.faults) ⊎ ((length (entries_in now) < length entries) × EndsWithRelease entries)
+  stood_or_released other = elim (released_quietly words book end.released end.answer end.releases) [
+    | inl same ↦ inl ((calm other).1 ∙ same ∙ stood_before other)
+    | inr more ↦
+        let a = ap length entries_known in
+        let b = ap (λ (l : List Logged). length (entries_of l)) ran.log in
+        let c = ap length entries_split in
+        let d = length-append (entries_in now) (take entries_added.count (releases book.state 0 words)) in
+        inr (omega arith, subst EndsWithRelease (sym entries_split) (ends_released (entries_in now) entries_added.count book.state words (omega arith)))
+  ]
+
+  -- behind these ends alone a release meets a fault that the status does not tell
+  told_first : status ≢ SITE_FAULT → length (entries_in now) < length entries → (c : RunEnd) → came ≡ c → came ≢ ends.Ended → end.end ≡ came
+      → EndsReading source source_after ran.come.items ran.come.read ran.come.part c → IsToldFirst c
+  told_first other more ends.Ended is off same reads = absurd (off is)
+  told_first other more (ends.Malformed offset) is off same reads = tt
+  told_first other more (ends.SourceFault count) is off same reads = tt
+  told_first other more (ends.SiteFault count) is off same reads = absurd reads
+  told_first other more ends.NoMemory is off same reads = tt
+  told_first other more (ends.NoState offset) is off same reads = absurd reads
+  told_first other more ends.SessionFull is off same reads = absurd (let a = (ran.come.full is).full in let b = entries_most in omega arith)
+  told_first other more ends.PutFailed is off same reads = absurd (other ((calm other).2 ∙ ap end_status (same ∙ is)))
+
+  quiet : status ≢ SITE_FAULT → StoodUntilRelease call account
   quiet other =
       let c = calm other in
       elim end.end_is [
         | inl failed ↦ absurd (c.0 failed.0)
         | inr well ↦ elim well.1 [
-          | inl off ↦ inr off.0
+          | inl off ↦ elim (stood_or_released other) [
+            | inl same ↦ inl same
+            | inr more ↦ inr (told_first other more.0 came refl off.0 off.1 ran.come.reads, more.1)
+          ]
           | inr ended ↦ elim ended.1 [
             | inl rose ↦ absurd (other (c.2 ∙ ap end_status rose.1))
             | inr stood ↦ inl (c.1 ∙ same_count book.site.faults end.released.site.faults end.goes_on.later stood.0 ∙ stood_before other)
@@ -401,12 +428,11 @@ module _ (told : Bool) (site after : SiteSeen) (source source_after : SourceSeen
         ]
       ]
 
-  -- where it did not stand, a release was entered
-  heard : status ≢ SITE_FAULT → after.faults ≢ site.faults → length (entries_in now) < length entries
-  heard other moved = elim (released_quietly words book end.released end.answer end.releases) [
-    | inl same ↦ absurd (moved ((calm other).1 ∙ same ∙ stood_before other))
-    | inr more ↦ let a = ap length entries_known in let b = ap (λ (l : List Logged). length (entries_of l)) ran.log in omega arith
-  ]
+  -- nothing is released if a record found the history full
+  filled : came ≡ ends.SessionFull → length entries ≡ length (entries_in now)
+  filled is =
+      let a = (ran.come.full is).full in let b = entries_most in let c = ap length entries_split in
+      let d = length-append (entries_in now) (take entries_added.count (releases book.state 0 words)) in omega arith
 
   faults_told : All (λ (answer : Answer). SaysSiteFailed answer → Rose site.faults book.site.faults) ran.come.answers
   faults_told k d low fault =
@@ -689,7 +715,7 @@ module _ (told : Bool) (site after : SiteSeen) (source source_after : SourceSeen
         stopped = λ r. ap length entries_split ∙ ap (λ (l : List Entry). length (entries_in now ++ l)) (none_released rose) ∙ ap length (append-nil (entries_in now));
         refused = λ few. inl (rose_to_end rose);
         full = λ is_ended full. absurd ((full_answer is_ended full).1 (let a = ran.same_faults in let r = rose in omega arith));
-        heard = heard;
+        filled = filled;
         moved = moved_so is_told;
         near = near_so is_told;
         above = above_so is_told;
@@ -713,7 +739,7 @@ module _ (told : Bool) (site after : SiteSeen) (source source_after : SourceSeen
                 let c = length-append (entries_of book.log) (take entries_added.count (releases book.state 0 words)) in
                 let d = length-take entries_added.count (releases book.state 0 words) in
                 omega arith;
-            heard = heard;
+            filled = filled;
             moved = moved_so is_told;
             near = near_so is_told;
             above = above_so is_told;
@@ -757,6 +783,7 @@ module _ (told : Bool) (site after : SiteSeen) (source source_after : SourceSeen
               (subst (λ (n : ℕ). Rose call.site.faults n) (sym ran.known) rose));
           place = f.place;
           first = f.first_without;
+          last_segment = f.last_segment;
           due = λ is_told plan state shows. due_at f same is_told plan state shows f.due;
           unmade = subst (λ (es : List Entry). HasNoEntry es f.place.task.index) (sym same) f.unmade;
         }
@@ -792,7 +819,10 @@ module _ (told : Bool) (site after : SiteSeen) (source source_after : SourceSeen
           | inl broken ↦ ap (λ (b : BookView). b.site.put_faults) broken.1
           | inr put ↦ absurd (put.0 is)
         ] in
-        let d = end.same_puts in omega arith
+        let d = end.same_puts in (
+          omega arith,
+          (let r = h.rose in let e = ran.known in let f = ran.known_first in let g = ran.same_faults in omega arith),
+        )
 
     -- ---- all together
 

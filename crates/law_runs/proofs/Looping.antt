@@ -488,6 +488,9 @@ module _ (start now : SourceSeen) (begin : Begin) (first v : View) (failed_befor
           first_without = ap (slice_get (places_of (items ++ r.more))) size
               ∙ ap (λ (ps : List Place). slice_get ps (length (places_of items) + length next)) all_places
               ∙ get_behind (places_of items) (places_from (counted first_count items) r.more) (length next) ∙ there;
+          last_segment = λ k d low.
+              let a = low_segments k d low in
+              let b = all_at (λ (p : Place). p.segment ≡ r.number) (places_from (counted first_count items) r.more) (length next) place there r.of in omega arith;
           full = (let a = f.full in let b = ap length h.puts.entries in omega arith);
           not_failed = λ low. f.not_failed (let b = ap length h.puts.entries in omega arith);
           due = subst (λ (t : Record). IsTrue (is_entered t.kind) ⊎ MayAppend (IsBetween begin first w) (course_in begin w) MOST_ENTRIES t) (sym same) (due f.due);

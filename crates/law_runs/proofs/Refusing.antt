@@ -318,9 +318,9 @@ module _ (told : Bool) (site back after : SiteSeen) (source : SourceSeen) (fault
             count = 0;
             are_due = refl;
             stopped = λ rose. refl;
+            filled = λ is. refl;
             refused = λ few. let due = ap length (none_due state rules left 0 MOST_KEYS) in absurd (omega arith);
             full = λ is_ended full. absurd (not_ended fault is_ended);
-            heard = λ other moved. absurd (moved (quiet other));
             moved = record {
               move_of = λ index. Kept;
               told = λ k d low. absurd (omega arith);

@@ -1,10 +1,13 @@
 -- The releases that a book made at the end of a run, as entries behind those of the lanes.
-use Rattle.std.proofs.Common.{◌≡◌, ◌⊎◌, ℕ, suc, ◌+◌, ◌-◌, ◌<◌, ◌≤◌, List, [], ◌∷◌, ◌++◌, length, take, Some, Result, Ok, Err, refl, sym, ◌∙◌, ap, subst, inl, inr, arith, append-nil, append_assoc, length-append, get_or, drop}
-use Rattle.std.specs.List.{slice_get}
+use Rattle.std.proofs.Common.{◌≡◌, ◌⊎◌, ℕ, suc, ◌+◌, ◌-◌, ◌<◌, ◌≤◌, List, [], ◌∷◌, ◌++◌, length, take, Option, Some, None, Result, Ok, Err, refl, sym, ◌∙◌, ap, subst, inl, inr, arith, append-nil, append_assoc, length-append, get_or, drop}
+use Rattle.std.specs.List.{All, slice_get}
+use Rattle.std.specs.Option.{option_map_or, option_and_then}
 use Rattle.std.proofs.Math.Seq.{take-append-add}
 use Rattle.std.proofs.lemmas.List.{take_at, take-append-drop}
 use Rattle.std.proofs.lemmas.Option.{slice_get_within, get_or_from_slice_get}
+use Rattle.std.proofs.lemmas.List.Elements.{All-cons, All-nil, All-take}
 use Rattle.sdls_base.specs.declared.entry.Entry.{Entry}
+use Rattle.sdls_base.specs.declared.entry.Seen.TheVariants.{Word}
 use Rattle.sdls_base.specs.declared.entry.Logged.{Logged}
 use Rattle.sdls_base.specs.declared.entry.Logged.TheVariants as lines
 use Rattle.sdls_outside.specs.Faults.{Rose}
@@ -13,10 +16,13 @@ use Rattle.key_book.specs.KeyBook.{place_of}
 use Rattle.unit_state.specs.declared.state.State.{State}
 use Rattle.unit_state.specs.State.{KeepsRules, key_row}
 use Rattle.unit_state.proofs.Histories.{after_more}
+use Rattle.unit_state.specs.Applied.{applied}
 use Rattle.unit_state.specs.History.{after, after_first}
 use Rattle.run_promise.specs.Legal.{AreNear}
 use Rattle.run_promise.specs.Log.{entries_of, pieces_of}
 use Rattle.run_promise.specs.Numbers.{release_of, releases}
+use Rattle.run_promise.specs.Causes.{EndsWithRelease}
+use Rattle.law_history.proofs.Marks.{release_entry}
 use Rattle.law_history.proofs.Releasing.{made_release}
 use Rattle.law_workers.proofs.Histories.{entries_both}
 use Rattle.law_runs.specs.Release.{AreReleases}
@@ -231,6 +237,52 @@ released_quietly words old new result r = go r.made r.are_made (ends_quietly r.r
         let a = ap length (made_all (entry ∷ made) old r.mid is).0 in
         let b = length-append (entries_of old.log) (entry ∷ made) in omega arith
         )
+
+-- ---- the last entry
+
+-- of no record, with the word of a key that was seen
+abbrev IsOfRelease : Entry → Type 0
+IsOfRelease entry = (entry.index ≡ None) × ((word : ℕ) × (entry.seen ≡ Word word))
+
+releases_seen : (state : State) (place : ℕ) (words : List ℕ) → All IsOfRelease (releases state place words)
+releases_seen state place [] = All-nil IsOfRelease
+releases_seen state place (word ∷ words) = go (slice_get state.keys place) (λ later next. releases_seen later next words)
+  where
+    made : (held : KeyRow) (o : Option Entry) → ((entry : Entry) → o ≡ Some entry → release_of state word held ≡ Some entry)
+        → ((later : State) (next : ℕ) → All IsOfRelease (releases later next words))
+        → All IsOfRelease (option_map_or (λ (entry : Entry). entry ∷ releases (applied state entry.change) (place + 1) words) o (releases state (place + 1) words))
+    made held None is rest = rest state (place + 1)
+    made held (Some entry) is rest =
+        let r = release_entry state word held entry (is entry refl) in
+        All-cons IsOfRelease entry (releases (applied state entry.change) (place + 1) words) (r.index_is, (word, r.seen_is))
+        (rest (applied state entry.change) (place + 1))
+
+    go : (o : Option KeyRow) → ((later : State) (next : ℕ) → All IsOfRelease (releases later next words))
+        → All IsOfRelease (option_map_or (λ (entry : Entry). entry ∷ releases (applied state entry.change) (place + 1) words)
+        (option_and_then (release_of state word) o) (releases state (place + 1) words))
+    go None rest = rest state (place + 1)
+    go (Some held) rest = made held (release_of state word held) (λ entry is. is) rest
+
+ends_with : (front es : List Entry) → 0 < length es → All IsOfRelease es → EndsWithRelease (front ++ es)
+ends_with front [] some all = absurd (omega arith)
+ends_with front (entry ∷ []) some all =
+    let of = all 0 entry (omega arith) in record {
+      before = front;
+      last = entry;
+      entries_are = refl;
+      no_record = of.0;
+      word = of.1.0;
+      saw = of.1.1;
+    }
+ends_with front (entry ∷ next ∷ es) some all =
+    subst EndsWithRelease (append_assoc front (entry ∷ []) (next ∷ es))
+    (ends_with (front ++ entry ∷ []) (next ∷ es) (omega arith) (λ k d low. all (suc k) d (omega arith)))
+
+-- where some of the releases were made, the last entry is one
+pub ends_released : (front : List Entry) (count : ℕ) (state : State) (words : List ℕ) → 0 < length (take count (releases state 0 words))
+    → EndsWithRelease (front ++ take count (releases state 0 words))
+ends_released front count state words some =
+    ends_with front (take count (releases state 0 words)) some (All-take IsOfRelease count (releases state 0 words) (releases_seen state 0 words))
 
 -- where the history was found full, a release was due and not made
 full_ends : (words : List ℕ) (old new : BookView) (made rest : List Entry) (mid : BookView) (result : Result (Unit {0}) BookFault)

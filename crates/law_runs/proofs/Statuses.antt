@@ -23,7 +23,7 @@ use Rattle.run_promise.specs.declared.end.RunEnd.{RunEnd}
 use Rattle.run_promise.specs.declared.end.RunEnd.TheVariants.{Ended, Malformed, SourceFault, SiteFault, NoMemory, NoState, SessionFull, PutFailed}
 use Rattle.run_promise.specs.Call.{CallSeen, ShowsAtEntry, image_at_entry}
 use Rattle.run_promise.specs.Account.{Account, end_status, AreAnswered, HandledRead, SaysSiteFailed, due_octets, of_first}
-use Rattle.run_promise.specs.Causes.{CameBy, TellsEnd}
+use Rattle.run_promise.specs.Causes.{CameBy, TellsEnd, IsToldFirst}
 use Rattle.run_promise.specs.Ends.{RunEnds, IsRefused, due_releases}
 use Rattle.law_runs.specs.Says.{DidAll, GoesToItsEnd, EndsWithFullHistory, IsLeftRefused, IsUnhindered}
 
@@ -106,7 +106,7 @@ module _ (call : CallSeen) (run : RunEnds call) where
           whole = (cause_of Ended ended).1;
           handled = (answered_of Ended ended).0;
           answered = (answered_of Ended ended).1;
-          no_fault = elim (run.quiet (λ five. absurd (omega arith))) [ inl same ↦ same | inr off ↦ absurd (off ended) ];
+          no_fault = elim (run.quiet (λ five. absurd (omega arith))) [ inl same ↦ same | inr off ↦ absurd (subst IsToldFirst ended off.0) ];
           none_failed = put.none_failed;
           sunk = put.sunk;
         }
@@ -145,7 +145,7 @@ module _ (call : CallSeen) (run : RunEnds call) where
       go SessionFull is cause (inl failed) = absurd (cause.not_failed failed.0)
       go SessionFull is cause (inr (well, inl told_same)) = absurd (let s = status_is SessionFull (told_same ∙ is) in omega arith)
       go SessionFull is cause (inr (well, inr (ended, which))) = absurd (let s : end_status SessionFull ≡ end_status Ended = ap end_status (sym is ∙ ended) in omega arith)
-      go PutFailed is cause tells = absurd (omega (arith, cause, same))
+      go PutFailed is cause tells = absurd (let lt = cause.0 in omega arith)
 
   pub refused_left : IsTrue call.told → (offset : ℕ) → ShowsNone (image_at_entry call) offset → IsLeftRefused call
   refused_left told offset none = record { status_is = which; image_is = left }
@@ -248,7 +248,7 @@ module _ (call : CallSeen) (run : RunEnds call) where
       go : call.site_after.put_faults ≡ call.site.put_faults → ((count : ℕ) × (run.account.came ≡ SiteFault count)) ⊎ (run.account.came ≡ PutFailed)
           → Rose call.site.faults call.site_after.faults
       go same (inl (count, is)) = let rose = (cause_of (SiteFault count) is).0 in let w = run.after_later in omega arith
-      go same (inr is) = absurd (let lt = cause_of PutFailed is in omega arith)
+      go same (inr is) = absurd (let lt = (cause_of PutFailed is).0 in omega arith)
 
 -- ---- completeness
 

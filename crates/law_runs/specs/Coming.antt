@@ -1,6 +1,7 @@
 -- How the reading and the serving of a run came to an end (profile).
 use Rattle.std.specs.Prelude.{◌≡◌, ◌⊎◌, ⊤, ℕ, ◌+◌, ◌≤◌, IsTrue, List, [], length, map, slice_get, Some}
 use Rattle.std.specs.Prelude.{Contains}
+use Rattle.std.specs.List.{All}
 use Rattle.sdls_outside.specs.Faults.{Rose}
 use Rattle.sdls_outside.specs.Moments.{Between}
 use Rattle.counter_table.specs.declared.view.View.{View}
@@ -88,11 +89,12 @@ PutsBy begin now failed_before failed answers ends.SessionFull = HasPut begin no
 PutsBy begin now failed_before failed answers ends.PutFailed = HasBroken begin now failed_before failed answers
 
 -- The history is full, and the first record without an answer, of which no entry was made, needs one, or may need one;
--- the site had not failed.
+-- it is of the last segment, and the site had not failed.
 pub record StopsAtFullHistory (begin : Begin) (first now : View) (places : List Place)
     (answers : List Answer) : Type 0 where
   pub place : Place
   pub first_without : slice_get places (length answers) ≡ Some place
+  pub last_segment : All (λ other. other.segment ≤ place.segment) places
   pub full : MOST_ENTRIES ≤ length (entries_in now)
   pub not_failed : length (entries_in now) ≤ MOST_ENTRIES
       → ¬ Rose now.turn.known.opening.faults now.turn.known.faults

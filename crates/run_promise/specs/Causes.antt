@@ -1,6 +1,9 @@
 -- Why a run ends, and the end that it tells (profile).
-use Rattle.std.specs.Prelude.{◌≡◌, ◌⊎◌, ⊤, ℕ, ◌<◌, ◌≤◌, IsTrue, [], ◌++◌, length, slice_get, Some}
+use Rattle.std.specs.Prelude.{◌≡◌, ◌⊎◌, ⊤, ℕ, ◌<◌, ◌≤◌, IsTrue, List, [], ◌∷◌, ◌++◌, length, slice_get, Some, None}
 use Rattle.std.specs.Prelude.{Contains}
+use Rattle.std.specs.List.{All}
+use Rattle.sdls_base.specs.declared.entry.Entry.{Entry}
+use Rattle.sdls_base.specs.declared.entry.Seen.TheVariants.{Word}
 use Rattle.sdls_outside.specs.Faults.{Rose}
 use Rattle.sdls_outside.specs.Moments.{Between}
 use Rattle.record_io.specs.declared.status.TheConstants as status
@@ -20,13 +23,14 @@ use Rattle.run_promise.specs.declared.end.RunEnd.TheVariants.{NoState, SessionFu
 use Rattle.run_promise.specs.Call.{CallSeen, ShowsAtEntry, image_at_entry, sunk_since}
 use Rattle.run_promise.specs.Account.{Account, answers_of_first, end_status, due_octets, course_of}
 
--- The history is full, and the first record without an answer needs an entry, or may need one. None was made of it, and
--- the site had not failed.
+-- The history is full, and the first record without an answer needs an entry, or may need one. None was made of it, it
+-- is of the last segment, and the site had not failed.
 pub record IsFullAt (call : CallSeen) (account : Account) : Type 0 where
   pub full : length call.entries ≡ MOST_ENTRIES
   pub not_failed : ¬ Rose call.site.faults account.last
   pub place : Place
   pub first : slice_get account.handled (length account.answers) ≡ Some place
+  pub last_segment : All (λ other. other.segment ≤ place.segment) account.handled
   pub due : IsTrue call.told → (plan : PlanLines) (state : State) → ShowsAtEntry call plan state
       → IsTrue (is_entered place.task.kind)
       ⊎ MayAppend (NearWord state call.entries (records_of account.handled)) (course_of call account plan state)
@@ -34,7 +38,8 @@ pub record IsFullAt (call : CallSeen) (account : Account) : Type 0 where
   pub unmade : HasNoEntry call.entries place.task.index
 
 -- Why the reading ended. At the end of the input, or of its well-formed part, the source's count of faults stands where
--- it was. If the unit was not opened, nothing was entered, and nothing was taken of the source.
+-- it was. If the unit was not opened, nothing was entered, and nothing was taken of the source. A put that failed is a
+-- fault of the site, counted before the keys are released.
 abbrev pub CameBy : CallSeen → Account → RunEnd → Type 0
 CameBy call account Ended = (account.part ≡ []) ×
     (IsTrue call.source.told → IsInput call.source.left account.items Whole)
@@ -51,7 +56,8 @@ CameBy call account NoMemory = ⊤
 CameBy call account (NoState offset) = (IsTrue call.told → ShowsNone (image_at_entry call) offset)
     × (call.entries ≡ []) × (call.source_after ≡ call.source)
 CameBy call account SessionFull = IsFullAt call account
-CameBy call account PutFailed = call.site.put_faults < call.site_after.put_faults
+CameBy call account PutFailed = (call.site.put_faults < call.site_after.put_faults)
+    × Rose call.site.faults account.last
 
 -- behind an input that ended the release met a fault of the site, or found the history full
 abbrev pub EndsByRelease : CallSeen → Account → Type 0
@@ -65,6 +71,35 @@ abbrev pub TellsEnd : CallSeen → Account → Type 0
 TellsEnd call account = (Rose call.site.faults account.last × (account.told ≡ SiteFault account.last))
     ⊎ ((¬ Rose call.site.faults account.last) × ((account.told ≡ account.came)
     ⊎ ((account.came ≡ Ended) × EndsByRelease call account)))
+
+-- ---- faults that the status does not tell
+
+-- the last entry is a release: it is of no record, and the word of a key was seen
+pub record EndsWithRelease (entries : List Entry) : Type 0 where
+  pub before : List Entry
+  pub last : Entry
+  pub entries_are : entries ≡ before ++ last ∷ []
+  pub no_record : last.index ≡ None
+  pub word : ℕ
+  pub saw : last.seen ≡ Word word
+
+-- this end is told, also where a release behind it meets a fault of the site
+abbrev pub IsToldFirst : RunEnd → Type 0
+IsToldFirst Ended = ⊥
+IsToldFirst (Malformed offset) = ⊤
+IsToldFirst (SourceFault count) = ⊤
+IsToldFirst (SiteFault count) = ⊥
+IsToldFirst NoMemory = ⊤
+IsToldFirst (NoState offset) = ⊥
+IsToldFirst SessionFull = ⊥
+IsToldFirst PutFailed = ⊥
+
+-- The site's count of faults stood; or behind the end that is told a release met a fault, and is the last entry.
+abbrev pub StoodUntilRelease : CallSeen → Account → Type 0
+StoodUntilRelease call account = (call.site_after.faults ≡ call.site.faults)
+    ⊎ (IsToldFirst account.came × EndsWithRelease call.entries)
+
+-- ---- puts
 
 -- no put failed: all that is due was put, and the status is that of the end
 pub record PutsDue (call : CallSeen) (account : Account) : Type 0 where

@@ -27,7 +27,7 @@ use Rattle.run_promise.specs.declared.end.RunEnd.{RunEnd}
 use Rattle.run_promise.specs.declared.end.RunEnd.TheVariants.{Ended, SiteFault, NoMemory, NoState, SessionFull}
 use Rattle.run_promise.specs.Call.{CallSeen, ShowsAtEntry, image_at_entry, sunk_since}
 use Rattle.run_promise.specs.Account.{Account, AreAnswered, SaysSiteFailed, course_of, deeds_in, end_octets}
-use Rattle.run_promise.specs.Causes.{CameBy, TellsEnd, PutsDue, PutsFront}
+use Rattle.run_promise.specs.Causes.{CameBy, TellsEnd, StoodUntilRelease, PutsDue, PutsFront}
 use Rattle.run_promise.specs.Words.{MovedWords}
 
 -- An early moment: what a crash then leaves of the image, one at the entry may leave too, and nothing but End was sunk.
@@ -50,20 +50,19 @@ pub record IsSoundCall (call : CallSeen) (account : Account) (plan : PlanLines) 
 abbrev pub due_releases : CallSeen → State → ℕ → List ℕ → List Entry
 due_releases call state ends words = releases (after_first state call.entries ends) 0 words
 
--- The releases behind the entries of the lanes: those that are due, up to the first that was refused; none where the
--- site had failed before. One is refused only if the site fails or the history is full.
+-- The releases behind the entries of the lanes: those that are due, up to the first that was refused; none if the site
+-- had failed before, or a record found the history full. One is refused only if the site fails or the history is full.
 pub record IsReleased (call : CallSeen) (account : Account) (state : State) (ends : ℕ) : Type 0 where
   pub words : List ℕ
   pub rows : length words ≡ MOST_KEYS
   pub count : ℕ
   pub are_due : drop ends call.entries ≡ take count (due_releases call state ends words)
   pub stopped : Rose call.site.faults account.last → length call.entries ≡ ends
+  pub filled : account.came ≡ SessionFull → length call.entries ≡ ends
   pub refused : count < length (due_releases call state ends words)
       → Rose call.site.faults call.site_after.faults ⊎ (length call.entries ≡ MOST_ENTRIES)
   -- where all records were answered, a full history is told of a release that is due
   pub full : account.came ≡ Ended → account.told ≡ SessionFull → count < length (due_releases call state ends words)
-  -- a fault of the site that the status does not tell is one of a release, which was entered
-  pub heard : call.status ≢ status.SITE_FAULT → call.site_after.faults ≢ call.site.faults → ends < length call.entries
   -- the words are the marks at the start and what the records' moves added
   pub moved : MovedWords call account state words
   -- Each word can have stood in its row: it is no lower than the key's mark at the start, and above it, or above a
@@ -113,12 +112,11 @@ pub record RunEnds (call : CallSeen) : Type 0 where
   pub tells : TellsEnd call account
   pub put : PutsDue call account ⊎ PutsFront call account
   pub faults_told : All (λ answer. SaysSiteFailed answer → Rose call.site.faults account.last) account.answers
-  -- The counts of faults in their order. With another status than that of a fault of the site its count stood, unless
-  -- the reading ended otherwise than with the whole input: then a release may have met a fault (`heard` says so of it).
+  -- the counts of faults in their order; with another status than that of a fault of the site its count stood, but for
+  -- a fault that a release met
   pub last_later : call.site.faults ≤ account.last
   pub after_later : account.last ≤ call.site_after.faults
-  pub quiet : call.status ≢ status.SITE_FAULT
-      → (call.site_after.faults ≡ call.site.faults) ⊎ (account.came ≢ Ended)
+  pub quiet : call.status ≢ status.SITE_FAULT → StoodUntilRelease call account
   pub bounded : length call.entries ≤ MOST_ENTRIES
   -- each monitoring message has the answer of the log of the answers before it, whatever the site tells
   pub reports : AreReported [] (deeds_in account)
