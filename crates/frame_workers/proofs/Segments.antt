@@ -38,6 +38,7 @@ use Rattle.frame_workers.proofs.Steps.{lane_next, lane_whole, none_of_it}
 use Rattle.frame_workers.proofs.Fulls.{full_stays, looked_back}
 use Rattle.frame_workers.proofs.Exactly.{looked, none_exactly, joined_exactly}
 use Rattle.frame_workers.proofs.Joins.{parts_all, parts_apart, parts_counted, part_among, answers_found}
+use Rattle.counter_table.specs.Turn.{stands}
 
 -- one worker took in those of lanes that have a share each
 pub shares_met : (now : View) (parts : List Part) → All (λ (p : Part). p.knows.numbers.shares ≡ 1) parts
@@ -219,8 +220,13 @@ module _ {B : Type 0} (ready : Worker B → Type 0) (told : Bool) (rs : List Rec
   moved begin s b = parts_all (λ (p : Part). MovesWords begin (starting base) p.knows (of_lane p.number rs) (deeds_of s (of_lane p.number rs) p.answers)) new
       (λ k d low.
       let run = ran k d (omega arith) in
+      let exact = (run.exactly begin s (began begin b k d (omega arith))).moved in
+      let did = (run.handled begin (record { lane_of = λ i. 0; segment_of = λ i. 0 }) s (began begin b k d (omega arith))).does in
+      let made : exact.made ≡ did.gains.made = same_behind (view (slice_index_or old k d).worker).turn.made exact.made did.gains.made
+      (sym exact.made_is ∙ did.gained.made) in
       let h = words_exactly begin (view (slice_index_or old k d).worker) (view (slice_index_or new k d).worker) s (of_lane (slice_index_or old k d).number rs)
-      (slice_index_or new k d).answers.items (run.exactly begin s (began begin b k d (omega arith))).moved in
+      (slice_index_or new k d).answers.items exact
+      (λ place in'. (did.works.made place (subst (λ (l : List ℕ). 0 < stands place l) made in')).1) in
       let from = (split k d (omega arith)).from in
       let g = subst (λ (v : View). MovesWords begin v (view (slice_index_or new k d).worker) (of_lane (slice_index_or old k d).number rs)
       (deeds_of s (of_lane (slice_index_or old k d).number rs) (slice_index_or new k d).answers.items)) from h in
@@ -288,7 +294,8 @@ module _ {B : Type 0} (ready : Worker B → Type 0) (told : Bool) (rs : List Rec
           lanes_words begin base last s rs now (parts_of new) (deeds_of s rs answers) (parts_apart new new_apart) (moved begin s b)
           (λ k d low. grows_further (slice_index_or (parts_of new) k d).knows joined last (joined_grows k d low) last_grows)
           (λ row. ap (λ (v : View). amount row v.numbers.added) given)
-          (λ row. let a = amount-append row joined.numbers.added [] in omega arith) among
+          (λ row. let a = amount-append row joined.numbers.added [] in omega arith)
+          (ap (λ (v : View). v.turn.made) given) (append-nil joined.turn.made) among
 
       -- Where all records are of one lane, there is one worker at most beside the one that it was split from.
       at_most_one : (os : List (Lane B)) → All (IsSplit ready rs base) os → AllPairs HaveOwnNumbers os → (lane : ℕ) → All (λ (t : Record). t.lane ≡ lane) rs → length os ≤ 1

@@ -16,7 +16,7 @@ use Rattle.ep_core.specs.declared.need.Need.TheVariants as needs
 use Rattle.ep_core.specs.declared.reply.Reply.{Reply}
 use Rattle.record_io.specs.declared.answers.Answer.{Answer}
 use Rattle.record_io.specs.declared.kinds.RecordKind.{RecordKind}
-use Rattle.record_io.specs.declared.kinds.RecordKind.TheVariants.{Command}
+use Rattle.record_io.specs.declared.kinds.RecordKind.TheVariants.{Command, Protect}
 use Rattle.record_io.specs.declared.records.Record.{Record}
 use Rattle.unit_plan.specs.PlanLines.{PlanLines}
 use Rattle.unit_state.specs.declared.state.State.{State}
@@ -230,6 +230,9 @@ module _ (told : Bool) (c : Call told) (commands : c.task.kind ≡ Command)
   not_kept : (move : Move) → draws c.task.kind ≡ false → move ≡ Kept
   not_kept move is = absurd (let both : true ≡ false = ap draws (sym commands) ∙ is in let b = both in cc)
 
+  not_protect : c.task.kind ≡ Protect → ⊥
+  not_protect is = let both : Command ≡ Protect = sym commands ∙ is in cc
+
   by_lines : (es : List Entry) → c.given.log ≡ c.found.log ++ lines_of es → Turned c.found.log es c.old_view.turn c.new_view.turn
   by_lines es is = c.pass c.found.log es (turned told c.begin c.found c.given c.taken c.new_view.turn c.began c.free c.visits es is)
 
@@ -362,6 +365,7 @@ module _ (told : Bool) (c : Call told) (commands : c.task.kind ≡ Command)
     refused es is are fault position few =
         refused_exactly c.begin c.segment c.task c.old_view c.new_view m.move m.moves c.found.log es (by_lines es is) are
         s.numbers.spent (passes es is s.numbers.spent s.numbers.counted.spent_is) (not_kept m.move) fault position few
+        (λ protects. absurd (not_protect protects))
 
     unstored : (change : Change) (fault : BookFault) (position : ℕ) → IsUnstored (record_entry c.task.index seen change) middle c.given fault
         → AnsweredExactly c.begin c.segment c.old_view c.new_view c.task (fault_answer fault position)
@@ -399,6 +403,7 @@ module _ (told : Bool) (c : Call told) (commands : c.task.kind ≡ Command)
     ends es is are other few =
         refused_exactly c.begin c.segment c.task c.old_view c.new_view (Drew f.row f.n) moves c.found.log es (by_lines es is) are
         [] (passes es is [] shows.counted.spent_is) (not_kept (Drew f.row f.n)) other position few
+        (λ protects. absurd (not_protect protects))
 
     none_left : c.given ≡ c.found → c.given.log ≡ c.found.log ++ lines_of []
     none_left same = ap (λ (b : BookView). b.log) same ∙ sym (append-nil c.found.log)
@@ -426,6 +431,7 @@ module _ (told : Bool) (c : Call told) (commands : c.task.kind ≡ Command)
       (by_lines [] (ap (λ (b : BookView). b.log) same ∙ sym (append-nil c.found.log))) tt []
       (passes [] (ap (λ (b : BookView). b.log) same ∙ sym (append-nil c.found.log)) []
       (ap (λ (k : Numbers). k.spent) numbers ∙ sym (append-nil c.old_view.numbers.spent))) (λ _. refl) fault position (λ full. absurd (let no = sym none ∙ full in cc))
+      (λ _ _. refl)
   commands_exactly (Err (fault, position)) (inr (need, needed, inl f), at) = fails need fault position f
   commands_exactly (Err (fault, position)) (inr (need, needed, inr (seen, middle, shows, r)), at) = refuses need seen middle needed shows fault position r
 

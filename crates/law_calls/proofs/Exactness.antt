@@ -113,39 +113,47 @@ module _ (begin : Begin) (segment : ℕ) (task : Record) (v w : View) (move : Mo
     in_turn = unserved_turn begin v w log es turned segment task move spent passes few clean now;
   }
 
-  -- codes from 31 on tell nothing of the move, but that a frame that is opened makes none
+  -- codes from 31 on tell nothing of the move, but that a frame that is opened makes none, nor one that is to be protected
+  -- if memory ran out for it
   late_tells : (kind : RecordKind) → (draws kind ≡ false → move ≡ Kept) → (code n position : ℕ) → SITE_FAULT ≤ code
+      → (kind ≡ Protect → code ≡ NO_MEMORY → move ≡ Kept)
       → TellsKind begin.start (entries_in w) kind (deed_of segment task (answer_of (counting code 0 n) position)) move
-  late_tells Protect kept code n position late = record {
+  late_tells Protect kept code n position late wants = record {
     protected = λ is. absurd (omega arith);
     exhausted = λ is. absurd (omega arith);
     unbound = λ is. absurd (by_code is);
+    wanting = wants refl;
   } where
     by_code : (code ≡ CLEAR) ⊎ ((LAYOUT ≤ code) × (code ≤ STATE)) → ⊥
     by_code (inl is) = omega arith
     by_code (inr is) = omega arith
-  late_tells Open kept code n position late = kept refl
-  late_tells Command kept code n position late = record { entry = λ is. absurd (by_code is) } where
+  late_tells Open kept code n position late wants = kept refl
+  late_tells Command kept code n position late wants = record { entry = λ is. absurd (by_code is) } where
     by_code : (code ≡ DONE) ⊎ (code ≡ REFUSED) → ⊥
     by_code (inl is) = omega arith
     by_code (inr is) = omega arith
-  late_tells Monitor kept code n position late = kept refl
+  late_tells Monitor kept code n position late wants = kept refl
 
   late : (code n position : ℕ) → SITE_FAULT ≤ code → IsServed (answer_of (counting code 0 n) position)
   late code n position low same level backed =
       served_late begin v w log es turned segment task move spent passes (answer_of (counting code 0 n) position) same low
 
-  pub wanting_exactly : (draws task.kind ≡ false → move ≡ Kept) → AnsweredExactly begin segment v w task (Some unserved_answer)
-  wanting_exactly kept = told_exactly unserved_answer (late_tells task.kind kept NO_MEMORY 0 0 (omega arith)) (late NO_MEMORY 0 0 (omega arith))
+  pub wanting_exactly : (draws task.kind ≡ false → move ≡ Kept) → (task.kind ≡ Protect → move ≡ Kept)
+      → AnsweredExactly begin segment v w task (Some unserved_answer)
+  wanting_exactly kept wants =
+      told_exactly unserved_answer (late_tells task.kind kept NO_MEMORY 0 0 (omega arith) (λ is _. wants is)) (late NO_MEMORY 0 0 (omega arith))
 
   pub refused_exactly : (draws task.kind ≡ false → move ≡ Kept) → (fault : BookFault) (position : ℕ)
       → (fault ≡ refusals.SessionFull → (length es ≤ 1) × IsClean v × AllStand w)
+      → (task.kind ≡ Protect → fault ≡ refusals.NoMemory → move ≡ Kept)
       → AnsweredExactly begin segment v w task (fault_answer fault position)
-  refused_exactly kept (refusals.SiteFault count) position few =
-      told_exactly (answer_of (counting SITE_FAULT 0 count) position) (late_tells task.kind kept SITE_FAULT count position (omega arith))
+  refused_exactly kept (refusals.SiteFault count) position few wants =
+      told_exactly (answer_of (counting SITE_FAULT 0 count) position)
+      (late_tells task.kind kept SITE_FAULT count position (omega arith) (λ _ is. absurd (omega arith)))
       (late SITE_FAULT count position (omega arith))
-  refused_exactly kept (refusals.Stopped count) position few =
-      told_exactly (answer_of (counting STOPPED 0 count) position) (late_tells task.kind kept STOPPED count position (omega arith))
+  refused_exactly kept (refusals.Stopped count) position few wants =
+      told_exactly (answer_of (counting STOPPED 0 count) position)
+      (late_tells task.kind kept STOPPED count position (omega arith) (λ _ is. absurd (omega arith)))
       (late STOPPED count position (omega arith))
-  refused_exactly kept refusals.SessionFull position few = untold_exactly (few refl).0 (few refl).1 (few refl).2
-  refused_exactly kept refusals.NoMemory position few = wanting_exactly kept
+  refused_exactly kept refusals.SessionFull position few wants = untold_exactly (few refl).0 (few refl).1 (few refl).2
+  refused_exactly kept refusals.NoMemory position few wants = wanting_exactly kept (λ is. wants is refl)

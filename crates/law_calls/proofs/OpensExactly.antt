@@ -99,7 +99,7 @@ module _ (told : Bool) (begin : Begin) (segment : ℕ) (task : Record)
       → (fault ≡ refusals.SessionFull → (length es ≤ 1) × IsClean v × AllStand w)
       → AnsweredExactly begin segment v w task (fault_answer fault position)
   refused es is drawn fault position few =
-      refused_exactly begin segment task v w Kept (moves_none begin v w numbers) found.log es (by_lines es is) drawn [] (passes es is) (λ _. refl) fault position few
+      refused_exactly begin segment task v w Kept (moves_none begin v w numbers) found.log es (by_lines es is) drawn [] (passes es is) (λ _. refl) fault position few (λ _ _. refl)
 
   unstored : (reply : OpenReply) (fault : BookFault) (position : ℕ) → IsUnstored (frame_entry found.plan found.state task.index reply) found given fault
       → AnsweredExactly begin segment v w task (fault_answer fault position)

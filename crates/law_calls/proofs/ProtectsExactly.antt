@@ -1,5 +1,5 @@
 -- A frame that is protected draws the number that its answer tells.
-use Rattle.std.proofs.Common.{◌≡◌, ◌⊎◌, ℕ, ◌<◌, ◌≤◌, Bool, false, List, [], ◌∷◌, ◌++◌, take, drop, append_assoc, Option, Some, Err, refl, sym, ◌∙◌, ap, subst, arith, inl, inr, append-nil, length, Ok, Result, true, eqb, eq-eqb, ◌+◌, None}
+use Rattle.std.proofs.Common.{◌≡◌, ◌⊎◌, ℕ, ◌<◌, ◌≤◌, Bool, false, List, [], ◌∷◌, ◌++◌, take, drop, append_assoc, Option, Some, Err, refl, sym, ◌∙◌, ap, subst, arith, inl, inr, append-nil, length, Ok, Result, true, eqb, eq-eqb, ◌+◌, None, ◌≢◌}
 use Rattle.std.proofs.lemmas.List.{take-append-drop}
 use Rattle.sdls_base.specs.Numbers.{times}
 use Rattle.sdls_base.specs.KeyId.{end_of}
@@ -160,6 +160,7 @@ module _ (told : Bool) (begin : Begin) (layout : Layout) (segment : ℕ) (task :
     protected = λ is. absurd (apart which PROTECTED is (inl refl));
     exhausted = λ is. absurd (apart which EXHAUSTED is (inr (omega arith)));
     unbound = λ _. refl;
+    wanting = λ _. refl;
   }) where
     apart : (fields.code ≡ CLEAR) ⊎ ((LAYOUT ≤ fields.code) × (fields.code ≤ STATE)) → (code : ℕ) → fields.code ≡ code → (code ≡ 0) ⊎ (EXHAUSTED ≤ code) → ⊥
     apart (inl a) code is (inl z) = omega arith
@@ -234,6 +235,7 @@ module _ (told : Bool) (begin : Begin) (layout : Layout) (segment : ℕ) (task :
           );
           exhausted = λ code. absurd (omega arith);
           unbound = λ code. absurd (not_kept code);
+          wanting = λ code. absurd (omega arith);
         })) where
           not_kept : (PROTECTED ≡ CLEAR) ⊎ ((LAYOUT ≤ PROTECTED) × (PROTECTED ≤ STATE)) → ⊥
           not_kept (inl a) = omega arith
@@ -324,6 +326,7 @@ module _ (told : Bool) (begin : Begin) (layout : Layout) (segment : ℕ) (task :
         protected = λ code. absurd (omega arith);
         exhausted = λ _. (p.row, has_row, which);
         unbound = λ code. absurd (not_kept code);
+        wanting = λ code. absurd (omega arith);
       }) where
         not_kept : (EXHAUSTED ≡ CLEAR) ⊎ ((LAYOUT ≤ EXHAUSTED) × (EXHAUSTED ≤ STATE)) → ⊥
         not_kept (inl a) = omega arith
@@ -366,13 +369,13 @@ module _ (told : Bool) (begin : Begin) (layout : Layout) (segment : ℕ) (task :
       opening = opening_taken told begin layout segment task v w began free protects (Reserves p.binding.key n (Err other)) k
 
       ends : (es : List Entry) → k.given.log ≡ k.found.log ++ lines_of es → AreDrawn (Drew p.row n ∷ []) es
-          → (other ≡ refusals.SessionFull → (length es ≤ 1) × IsClean v × AllStand w)
+          → (other ≡ refusals.SessionFull → (length es ≤ 1) × IsClean v × AllStand w) → other ≢ refusals.NoMemory
           → AnsweredExactly begin segment v w task (fault_answer other position)
-      ends es is are few = refused_exactly begin segment task v w (Drew p.row n)
+      ends es is are few remembers = refused_exactly begin segment task v w (Drew p.row n)
           (moves_drew begin v w task p.row (row_below told begin layout segment task v w began free protects p used opening) n [] (shows n drawn))
           k.found.log es (by_lines (Reserves p.binding.key n (Err other)) k es is) are
           [] (passes (Reserves p.binding.key n (Err other)) k es is [] (shows n drawn).counted.spent_is)
-          (not_kept (Drew p.row n)) other position few
+          (not_kept (Drew p.row n)) other position few (λ _ is. absurd (remembers is))
 
       by_case : Reserves p.binding.key n (Err other) k.found k.given → AnsweredExactly begin segment v w task (fault_answer other position)
       by_case (unmarked, inl (is_barred, same)) =
@@ -382,13 +385,14 @@ module _ (told : Bool) (begin : Begin) (layout : Layout) (segment : ℕ) (task :
             omega arith,
             was_clean (Reserves p.binding.key n (Err other)) k full.0,
             given_as told begin k.found k.given (seeing k.epoch v.turn) v w began free k.visits k.found same (k.visits.found_kept.whole full.0),
-          ))
+          )) (λ is. subst (IsBarred k.found) is is_barred)
       by_case (unmarked, inr (can, h)) = by_fault other refl h where
         by_fault : (f : BookFault) → other ≡ f → IsUnstored (reserve_of k.found.plan k.found.state p.binding.key n) k.found k.given f
             → AnsweredExactly begin segment v w task (fault_answer other position)
         by_fault (refusals.SiteFault count) is u =
             ends (reserve_of k.found.plan k.found.state p.binding.key n ∷ []) (ap (λ (b : BookView). b.log) u.3)
             (reserve_drawn p.row n (reserve_of k.found.plan k.found.state p.binding.key n) refl, tt) (λ same. absurd (let no = sym is ∙ same in cc))
+            (λ same. let no = sym is ∙ same in cc)
         by_fault (refusals.Stopped count) is u = absurd u
         by_fault refusals.SessionFull is u = absurd u
         by_fault refusals.NoMemory is u = absurd u

@@ -699,10 +699,10 @@ module _ (told : Bool) (site after : SiteSeen) (source source_after : SourceSeen
       (λ row. slice_index words row) e.words_are (take entries_added.count (releases book.state 0 words)) e.releases_are k x low key number row uses
       (ap (λ (st : State). place_of st.keys key) (sym at_close) ∙ is)
 
-  moved_so : IsTrue told → MovedWords call account book.start words
+  moved_so : IsTrue told → MovedWords call account book.start (length (entries_in now)) words
   moved_so is_told =
       moved_call call account (begin_by told book.plan book.start) first now words
-      (take entries_added.count (releases book.state 0 words)) refl (ran.founded is_told).opened ran.stand (known_end is_told).once ran.come.moved entries_split
+      (take entries_added.count (releases book.state 0 words)) refl ran.come.done.none_made ran.whole (ran.founded is_told).opened ran.stand (known_end is_told).once ran.come.moved entries_split
 
   released_so : IsTrue told → (r : IsReleased call account book.start (length (entries_in now))) × (r.words ≡ words)
   released_so is_told = elim rose_or [

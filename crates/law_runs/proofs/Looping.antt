@@ -421,7 +421,7 @@ module _ (start now : SourceSeen) (begin : Begin) (first v : View) (failed_befor
         r.number records r.records_are r.of way.each way.done.does.grows way.moved
         (grows_further v mid w (own_does begin first v mid w (places_of items) (places_from (counted first_count items) r.more) answers next
         r.number way.done way.each whole_v segment handled h.puts).grows h.puts.does.grows)
-        (h.moved r.number) h.puts.does.grows h.same_numbers)
+        (h.moved r.number) h.puts.does h.same_numbers)
 
     reported_on : AreReported [] (deeds_from (places_of (items ++ r.more)) (answers ++ next))
     reported_on =

@@ -325,6 +325,7 @@ module _ (told : Bool) (site back after : SiteSeen) (source : SourceSeen) (fault
               move_of = λ index. Kept;
               told = λ k d low. absurd (omega arith);
               between = λ index. tt;
+              reserves = λ p entry few there none. absurd (omega arith);
               word = λ row low.
                   let a : slice_index (marks_from state 0 MOST_KEYS) row ≡ mark_at state (0 + row) = marks_found state 0 MOST_KEYS row low in
                   let same : 0 + row ≡ row = omega arith in

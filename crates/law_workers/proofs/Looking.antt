@@ -220,4 +220,8 @@ module _ (begin : Begin) (old new : View) (segment : ℕ) (task : Record) (answe
     told = one_only (TellsOne begin.start (entries_in new) ((task.index, Kept) ∷ [])) deed (Kept, (zero, omega arith, refl), told);
     between = one_only (λ (own : ℕ × Move). LiesBetween begin.rows (words_in old) (words_in new) own.1) (task.index, Kept) tt;
     added = λ row. added row;
+    made = [];
+    made_is = looked.made ∙ sym (append-nil old.turn.made);
+    within = λ place h. absurd (omega arith);
+    reserves = λ place h. absurd (omega arith);
   }

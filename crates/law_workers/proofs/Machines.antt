@@ -98,6 +98,7 @@ module _ (start : State) (es rest : List Entry) where
     protected = λ c. let (row, is, same) = h.protected c in (row, row_on _ row is, same);
     exhausted = λ c. let (row, is, same) = h.exhausted c in (row, row_on _ row is, same);
     unbound = h.unbound;
+    wanting = h.wanting;
   }
 
   command_on : (d : Deed) (m : Move) → TellsCommand start es d m → TellsCommand start (es ++ rest) d m

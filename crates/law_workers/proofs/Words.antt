@@ -1,28 +1,33 @@
 -- Records of any number of lanes moved the words as their answers tell, and by no more.
-use Rattle.std.proofs.Common.{◌≡◌, ◌≢◌, ℕ, zero, suc, ◌+◌, ◌≤◌, eqb, Bool, true, false, cond, List, [], ◌∷◌, ◌++◌, length, refl, sym, ◌∙◌, ap, subst, inl, inr, arith, length-append}
-use Rattle.std.specs.List.{All, AllPairs, Contains, slice_index_or}
+use Rattle.std.proofs.Common.{◌≡◌, ◌≢◌, ◌⊎◌, ℕ, zero, suc, ◌+◌, ◌<◌, ◌≤◌, eqb, Bool, true, false, cond, List, [], ◌∷◌, ◌++◌, length, Option, Some, None, refl, sym, ◌∙◌, ap, subst, inl, inr, arith, length-append, append-nil, append_assoc}
+use Rattle.std.specs.List.{All, AllPairs, Contains, slice_get, slice_index_or}
 use Rattle.std.proofs.lemmas.Bool.{cases_eq, cases_lt}
 use Rattle.std.proofs.lemmas.Bool.Decides.{nat_tests}
 use Rattle.std.proofs.lemmas.List.Elements.{All-cons, All-append, All-contains, Contains-append_left, Contains-append_right}
 use Rattle.sdls_base.specs.declared.entry.Entry.{Entry}
+use Rattle.sdls_base.specs.declared.entry.Logged.{Logged}
+use Rattle.sdls_base.specs.declared.entry.Logged.TheVariants as lines
 use Rattle.record_io.specs.declared.records.Record.{Record}
 use Rattle.record_io.specs.declared.answers.Answer.{Answer}
 use Rattle.unit_state.specs.declared.state.State.{State}
 use Rattle.counter_table.specs.declared.view.View.{View}
 use Rattle.counter_table.specs.Numbers.{amount}
+use Rattle.counter_table.specs.Turn.{stands}
 use Rattle.run_promise.specs.Begin.{Begin}
 use Rattle.run_promise.specs.Deed.{Deed, deed_of}
-use Rattle.run_promise.specs.Machine.{Move, Kept, LiesBetween, adds, adds_all}
+use Rattle.run_promise.specs.Counts.{is_none_index, is_of_none}
+use Rattle.run_promise.specs.Machine.{Move, Kept, Drew, LiesBetween, adds, adds_all}
 use Rattle.run_promise.specs.Moves.{TellAll}
 use Rattle.run_promise.specs.Words.{adds_each}
-use Rattle.law_workers.specs.Views.{KnowsMore, entries_in, meeting, starting}
+use Rattle.law_workers.specs.Views.{KnowsMore, entries_in, log_of, meeting, starting}
 use Rattle.law_workers.specs.Work.{indexed}
-use Rattle.law_workers.specs.Deeds.{deeds_of}
+use Rattle.law_workers.specs.Deeds.{Does, deeds_of}
 use Rattle.law_workers.specs.Lanes.{Part, meeting_all, of_lane, parts_deeds, parts_tasks}
 use Rattle.law_workers.specs.Alone.{MovedExactly}
-use Rattle.law_workers.specs.Exact.{words_in}
-use Rattle.law_workers.specs.Words.{MovesWords, TellsOne, moves_add, moves_of}
-use Rattle.law_workers.proofs.Logs.{indexed_both}
+use Rattle.law_workers.specs.Exact.{IsOfMoves, words_in}
+use Rattle.law_workers.specs.Words.{IsDrawnBy, MovesWords, TellsOne, moves_add, moves_of}
+use Rattle.law_workers.proofs.Histories.{get_front}
+use Rattle.law_workers.proofs.Logs.{count_one, indexed_both, stands_both}
 use Rattle.law_workers.proofs.Lanes.{indexed_lanes}
 use Rattle.law_workers.proofs.Machines.{amount-append, lies_wider, tell_on}
 
@@ -45,6 +50,30 @@ told_on : (begin : Begin) (v w : View) → KnowsMore v w → (moves : List (ℕ 
     → TellsOne begin.start (entries_in w) moves d
 told_on begin v w grows moves d (move, there, tells) = (move, there, (tell_on begin v w grows (d ∷ []) (move ∷ []) (tells, tt)).0)
 
+-- a reserve of a number that one of some moves drew is of one that one of more drew, and stays in a longer log
+drawn_left : (a b : List (ℕ × Move)) (line : Option Logged) → IsDrawnBy a line → IsDrawnBy (a ++ b) line
+drawn_left a b line drawn entry is none =
+    let (index, row, number, seen, there) = drawn entry is none in (index, row, number, seen, Contains-append_left a b (index, Drew row number) there)
+
+drawn_right : (a b : List (ℕ × Move)) (line : Option Logged) → IsDrawnBy b line → IsDrawnBy (a ++ b) line
+drawn_right a b line drawn entry is none =
+    let (index, row, number, seen, there) = drawn entry is none in (index, row, number, seen, Contains-append_right a b (index, Drew row number) there)
+
+line_stays : (v w : View) → KnowsMore v w → (place : ℕ) → place < length (log_of v) → slice_get (log_of w) place ≡ slice_get (log_of v) place
+line_stays v w grows place low = ap (λ (l : List Logged). slice_get l place) grows.earlier.log.1 ∙ get_front (log_of v) grows.earlier.log.0 place low
+
+drawn_on : (v w : View) → KnowsMore v w → (moves : List (ℕ × Move)) (place : ℕ) → place < length (log_of v)
+    → IsDrawnBy moves (slice_get (log_of v) place) → IsDrawnBy moves (slice_get (log_of w) place)
+drawn_on v w grows moves place low drawn = subst (IsDrawnBy moves) (sym (line_stays v w grows place low)) drawn
+
+log_grows : (v w : View) → KnowsMore v w → length (log_of v) ≤ length (log_of w)
+log_grows v w grows =
+    let a = ap length grows.earlier.log.1 in let b = length-append (log_of v) grows.earlier.log.0 in omega arith
+
+either : (a b : ℕ) → 0 < a + b → (0 < a) ⊎ (0 < b)
+either zero b h = inr (omega arith)
+either (suc a) b h = inl (omega arith)
+
 -- the moves lie between the words of an earlier view and of a later one
 lie_on : (begin : Begin) (u v w z : View) → ((row : ℕ) → words_in u row ≤ words_in v row) → ((row : ℕ) → words_in w row ≤ words_in z row)
     → (moves : List (ℕ × Move)) → All (λ (own : ℕ × Move). LiesBetween begin.rows (words_in v) (words_in w) own.1) moves
@@ -62,6 +91,10 @@ words_nothing begin v tasks = record {
   told = λ k d low. absurd (omega arith);
   between = λ k d low. absurd (omega arith);
   added = λ row. omega arith;
+  made = [];
+  made_is = sym (append-nil v.turn.made);
+  within = λ place h. absurd (omega arith);
+  reserves = λ place h. absurd (omega arith);
 }
 
 -- one part after the other
@@ -80,17 +113,52 @@ words_then begin u v w ts us ds es low_grows a grows b = record {
       (lie_on begin u u v w (λ row. omega arith) grows.nexts a.moves a.between)
       (lie_on begin u v w w low_grows.nexts (λ row. omega arith) b.moves b.between);
   added = λ row. let p = a.added row in let q = b.added row in let c = adds_both row a.moves b.moves in omega arith;
+  made = a.made ++ b.made;
+  made_is = b.made_is ∙ ap (λ (l : List ℕ). l ++ b.made) a.made_is ∙ append_assoc u.turn.made a.made b.made;
+  within = λ place h.
+      let both = stands_both place a.made b.made in
+      elim (either (stands place a.made) (stands place b.made) (omega arith)) [
+        | inl own ↦ let low = a.within place own in let more = log_grows v w grows in omega arith
+        | inr own ↦ b.within place own
+      ];
+  reserves = λ place h.
+      let both = stands_both place a.made b.made in
+      elim (either (stands place a.made) (stands place b.made) (omega arith)) [
+        | inl own ↦ drawn_left a.moves b.moves (slice_get (log_of w) place) (drawn_on v w grows a.moves place (a.within place own) (a.reserves place own))
+        | inr own ↦ drawn_right a.moves b.moves (slice_get (log_of w) place) (b.reserves place own)
+      ];
 }
 
--- to a view that knows more, to whose words nothing was added
-pub words_on : (begin : Begin) (u v w : View) (ts : List Record) (ds : List Deed) → MovesWords begin u v ts ds → KnowsMore v w
+-- who did something without records made no reserve
+no_reserve : (begin : Begin) (v w : View) (does : Does begin v w [] []) (place : ℕ) (entry : Entry) → 0 < stands place does.gains.made
+    → slice_get (log_of w) place ≡ Some (lines.Entry entry) → entry.index ≡ None → ⊥
+no_reserve begin v w does place entry in' is none =
+    let one = count_one is_of_none (log_of w) place does.gains.made in' (ap is_of_none is ∙ ap is_none_index none) in
+    let few = does.works.reserves in omega arith
+
+-- to a view that knows more, to whose words nothing was added, and who had no records since
+pub words_on : (begin : Begin) (u v w : View) (ts : List Record) (ds : List Deed) → MovesWords begin u v ts ds → Does begin v w [] []
     → ((row : ℕ) → amount row w.numbers.added ≡ amount row v.numbers.added) → MovesWords begin u w ts ds
-words_on begin u v w ts ds a grows same = record {
+words_on begin u v w ts ds a does same = record {
   moves = a.moves;
   few = a.few;
-  told = λ k d low. told_on begin v w grows a.moves (slice_index_or ds k d) (a.told k d low);
-  between = lie_on begin u u v w (λ row. omega arith) grows.nexts a.moves a.between;
+  told = λ k d low. told_on begin v w does.grows a.moves (slice_index_or ds k d) (a.told k d low);
+  between = lie_on begin u u v w (λ row. omega arith) does.grows.nexts a.moves a.between;
   added = λ row. let p = a.added row in let q = same row in omega arith;
+  made = a.made ++ does.gains.made;
+  made_is = does.gained.made ∙ ap (λ (l : List ℕ). l ++ does.gains.made) a.made_is ∙ append_assoc u.turn.made a.made does.gains.made;
+  within = λ place h.
+      let both = stands_both place a.made does.gains.made in
+      elim (either (stands place a.made) (stands place does.gains.made) (omega arith)) [
+        | inl own ↦ let low = a.within place own in let more = log_grows v w does.grows in omega arith
+        | inr own ↦ (does.works.made place own).1
+      ];
+  reserves = λ place h.
+      let both = stands_both place a.made does.gains.made in
+      elim (either (stands place a.made) (stands place does.gains.made) (omega arith)) [
+        | inl own ↦ drawn_on v w does.grows a.moves place (a.within place own) (a.reserves place own)
+        | inr own ↦ λ entry is none. absurd (no_reserve begin v w does place entry own is none)
+      ];
 }
 
 -- ---- the records of one lane, one after the other
@@ -130,6 +198,20 @@ all_numbered P (t ∷ ts) [] h = λ k d low. absurd (omega arith)
 all_numbered P (t ∷ ts) (m ∷ ms) h = All-cons (λ (own : ℕ × Move). P own.1) (t.index, m) (numbered ts ms) (h zero m (omega arith))
     (all_numbered P ts ms (λ k d low. h (suc k) d (omega arith)))
 
+contains_numbered : (ts : List Record) (ms : List Move) (m : Move) → length ms ≤ length ts → Contains ms m
+    → (index : ℕ) × Contains (numbered ts ms) (index, m)
+contains_numbered [] [] m h (k, low, is) = absurd (omega arith)
+contains_numbered [] (x ∷ ms) m h there = absurd (omega arith)
+contains_numbered (t ∷ ts) [] m h (k, low, is) = absurd (omega arith)
+contains_numbered (t ∷ ts) (x ∷ ms) m h (zero, low, is) = (t.index, (zero, omega arith, ap (λ (y : Move). (t.index, y)) is))
+contains_numbered (t ∷ ts) (x ∷ ms) m h (suc k, low, is) =
+    let (index, (j, below, same)) = contains_numbered ts ms m (omega arith) (k, omega arith, is) in (index, (suc j, omega arith, same))
+
+drawn_numbered : (ts : List Record) (ms : List Move) (line : Option Logged) → length ms ≤ length ts → IsOfMoves ms line → IsDrawnBy (numbered ts ms) line
+drawn_numbered ts ms line h of entry is none =
+    let (row, number, seen, there) = of entry is none in
+    let (index, among) = contains_numbered ts ms (Drew row number) h there in (index, row, number, seen, among)
+
 told_counted : (start : State) (es : List Entry) (ds : List Deed) (ms : List Move) → TellAll start es ds ms → length ms ≡ length ds
 told_counted start es [] [] h = refl
 told_counted start es [] (m ∷ ms) h = absurd h
@@ -142,9 +224,9 @@ deeds_few s (t ∷ ts) [] = omega arith
 deeds_few s (t ∷ ts) (x ∷ xs) = let h = deeds_few s ts xs in omega arith
 
 -- what a worker did exactly, whatever others did
-pub words_exactly : (begin : Begin) (u v : View) (s : ℕ) (ts : List Record) (xs : List Answer) → MovedExactly begin u v (length ts) (deeds_of s ts xs)
-    → MovesWords begin u v ts (deeds_of s ts xs)
-words_exactly begin u v s ts xs a =
+pub words_exactly : (begin : Begin) (u v : View) (s : ℕ) (ts : List Record) (xs : List Answer) (a : MovedExactly begin u v (length ts) (deeds_of s ts xs))
+    → ((place : ℕ) → 0 < stands place a.made → place < length (log_of v)) → MovesWords begin u v ts (deeds_of s ts xs)
+words_exactly begin u v s ts xs a within =
     let size = told_counted begin.start (entries_in v) (deeds_of s ts xs) a.exact.moves a.exact.told in
     let most = deeds_few s ts xs in
     let both = length-append a.exact.moves a.last in
@@ -160,6 +242,10 @@ words_exactly begin u v s ts xs a =
       between = all_numbered (LiesBetween begin.rows (words_in u) (words_in v)) ts (a.exact.moves ++ a.last) a.exact.between;
       added = λ row.
           let h = a.exact.added row in let g = adds_numbered row ts (a.exact.moves ++ a.last) low in omega arith;
+      made = a.made;
+      made_is = a.made_is;
+      within = within;
+      reserves = λ place in'. drawn_numbered ts (a.exact.moves ++ a.last) (slice_get (log_of v) place) low (a.exact.reserves place in');
     }
 
 -- ---- the lanes of a segment, at once
@@ -171,6 +257,10 @@ record LanesMoved (begin : Begin) (base now last : View) (s : ℕ) (tasks : List
   pub told : All (TellsOne begin.start (entries_in last) moves) (parts_deeds s tasks parts)
   pub between : All (λ (own : ℕ × Move). LiesBetween begin.rows (words_in base) (words_in last) own.1) moves
   pub added : (row : ℕ) → amount row (meeting_all now parts).numbers.added ≡ amount row now.numbers.added + moves_add row moves
+  pub made : List ℕ
+  pub made_is : (meeting_all now parts).turn.made ≡ now.turn.made ++ made
+  pub within : (place : ℕ) → 0 < stands place made → place < length (log_of last)
+  pub reserves : (place : ℕ) → 0 < stands place made → IsDrawnBy moves (slice_get (log_of last) place)
 
 module _ (begin : Begin) (base last : View) (s : ℕ) (tasks : List Record) where
   -- a worker that was split from the base handled the lane's records
@@ -185,6 +275,10 @@ module _ (begin : Begin) (base last : View) (s : ℕ) (tasks : List Record) wher
     told = λ k d low. absurd (omega arith);
     between = λ k d low. absurd (omega arith);
     added = λ row. omega arith;
+    made = [];
+    made_is = sym (append-nil now.turn.made);
+    within = λ place h. absurd (omega arith);
+    reserves = λ place h. absurd (omega arith);
   }
   lanes_moved (part ∷ parts) now did grows =
       let own : LaneMoved part = did 0 part (omega arith) in
@@ -209,6 +303,23 @@ module _ (begin : Begin) (base last : View) (s : ℕ) (tasks : List Record) wher
             let q = rest.added row in
             let c = adds_both row own.moves rest.moves in
             let d = amount-append row now.numbers.added part.knows.numbers.added in omega arith;
+        made = own.made ++ rest.made;
+        made_is =
+            let first : part.knows.turn.made ≡ own.made = own.made_is in
+            rest.made_is ∙ append_assoc now.turn.made part.knows.turn.made rest.made ∙ ap (λ (l : List ℕ). now.turn.made ++ (l ++ rest.made)) first;
+        within = λ place h.
+            let both = stands_both place own.made rest.made in
+            elim (either (stands place own.made) (stands place rest.made) (omega arith)) [
+              | inl here ↦ let low = own.within place here in let longer = log_grows part.knows last more in omega arith
+              | inr here ↦ rest.within place here
+            ];
+        reserves = λ place h.
+            let both = stands_both place own.made rest.made in
+            elim (either (stands place own.made) (stands place rest.made) (omega arith)) [
+              | inl here ↦ drawn_left own.moves rest.moves (slice_get (log_of last) place)
+                  (drawn_on part.knows last more own.moves place (own.within place here) (own.reserves place here))
+              | inr here ↦ drawn_right own.moves rest.moves (slice_get (log_of last) place) (rest.reserves place here)
+            ];
       }
 
   -- joined to the worker that they were split from; the answers may stand in any order, and some may be left out
@@ -216,8 +327,9 @@ module _ (begin : Begin) (base last : View) (s : ℕ) (tasks : List Record) wher
       → All LaneMoved parts → All (λ (part : Part). KnowsMore part.knows last) parts
       → ((row : ℕ) → amount row now.numbers.added ≡ amount row base.numbers.added)
       → ((row : ℕ) → amount row last.numbers.added ≡ amount row (meeting_all now parts).numbers.added)
+      → now.turn.made ≡ base.turn.made → last.turn.made ≡ (meeting_all now parts).turn.made
       → All (Contains (parts_deeds s tasks parts)) deeds → MovesWords begin base last tasks deeds
-  lanes_words now parts deeds apart did grows from to among =
+  lanes_words now parts deeds apart did grows from to made_from made_to among =
       let all = lanes_moved parts now did grows in
       record {
         moves = all.moves;
@@ -225,6 +337,10 @@ module _ (begin : Begin) (base last : View) (s : ℕ) (tasks : List Record) wher
         told = λ k d low. All-contains (TellsOne begin.start (entries_in last) all.moves) (parts_deeds s tasks parts) (slice_index_or deeds k d) all.told (among k d low);
         between = all.between;
         added = λ row. let a = all.added row in let f = from row in let t = to row in omega arith;
+        made = all.made;
+        made_is = made_to ∙ all.made_is ∙ ap (λ (l : List ℕ). l ++ all.made) made_from;
+        within = all.within;
+        reserves = all.reserves;
       }
 
 -- ---- the move of each record

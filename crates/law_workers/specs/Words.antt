@@ -1,16 +1,21 @@
 -- What records moved the words `next` by, on however many lanes (profile).
-use Rattle.std.specs.Prelude.{◌≡◌, ℕ, ◌+◌, ◌≤◌, ◌==◌, if◌then◌else◌, List, [], ◌∷◌}
+use Rattle.std.specs.Prelude.{◌≡◌, ℕ, ◌+◌, ◌<◌, ◌≤◌, ◌==◌, if◌then◌else◌, List, [], ◌∷◌, ◌++◌, length, slice_get}
+use Rattle.std.specs.Prelude.{Option, Some, None}
 use Rattle.std.specs.List.{All, Contains}
 use Rattle.sdls_base.specs.declared.entry.Entry.{Entry}
+use Rattle.sdls_base.specs.declared.entry.Logged.{Logged}
+use Rattle.sdls_base.specs.declared.entry.Logged.TheVariants as lines
+use Rattle.sdls_base.specs.declared.entry.Seen.TheVariants.{Number}
 use Rattle.record_io.specs.declared.records.Record.{Record}
 use Rattle.unit_state.specs.declared.state.State.{State}
 use Rattle.counter_table.specs.declared.view.View.{View}
 use Rattle.counter_table.specs.Numbers.{amount}
+use Rattle.counter_table.specs.Turn.{stands}
 use Rattle.run_promise.specs.Begin.{Begin}
 use Rattle.run_promise.specs.Deed.{Deed}
-use Rattle.run_promise.specs.Machine.{Move, adds, LiesBetween}
+use Rattle.run_promise.specs.Machine.{Move, Drew, adds, LiesBetween}
 use Rattle.run_promise.specs.Moves.{Tells}
-use Rattle.law_workers.specs.Views.{entries_in}
+use Rattle.law_workers.specs.Views.{entries_in, log_of}
 use Rattle.law_workers.specs.Work.{indexed}
 use Rattle.law_workers.specs.Exact.{words_in}
 
@@ -29,12 +34,22 @@ abbrev pub TellsOne : State → List Entry → List (ℕ × Move) → Deed → T
 TellsOne start entries moves deed =
     (move : Move) × Contains moves (deed.task.index, move) × Tells start entries deed move
 
+-- the line, if it is a reserve, is of a number that one of the moves drew
+abbrev pub IsDrawnBy : List (ℕ × Move) → Option Logged → Type 0
+IsDrawnBy moves line = (entry : Entry) → line ≡ Some (lines.Entry entry) → entry.index ≡ None
+    → (index : ℕ) × (row : ℕ) × (number : ℕ) × (entry.seen ≡ Number number) × Contains moves (index, Drew row number)
+
 -- From the old view to the new one a worker moved the words so, with these records, whatever others moved meanwhile: by
--- no more moves than there are records with the number, an answered one by a move that its answer tells. Each fact stays
--- true while the views grow apart, and none looks at the order of the records.
+-- no more moves than there are records with the number, an answered one by a move that its answer tells. Each reserve
+-- that it made is of a number that it drew. Each fact stays true while the views grow apart, and none looks at the order
+-- of the records.
 pub record MovesWords (begin : Begin) (old new : View) (tasks : List Record) (deeds : List Deed) : Type 0 where
   pub moves : List (ℕ × Move)
   pub few : (index : ℕ) → moves_of index moves ≤ indexed index tasks
   pub told : All (TellsOne begin.start (entries_in new) moves) deeds
   pub between : All (λ own. LiesBetween begin.rows (words_in old) (words_in new) own.1) moves
   pub added : (row : ℕ) → amount row new.numbers.added ≡ amount row old.numbers.added + moves_add row moves
+  pub made : List ℕ
+  pub made_is : new.turn.made ≡ old.turn.made ++ made
+  pub within : (place : ℕ) → 0 < stands place made → place < length (log_of new)
+  pub reserves : (place : ℕ) → 0 < stands place made → IsDrawnBy moves (slice_get (log_of new) place)

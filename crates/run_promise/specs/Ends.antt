@@ -63,8 +63,8 @@ pub record IsReleased (call : CallSeen) (account : Account) (state : State) (end
       → Rose call.site.faults call.site_after.faults ⊎ (length call.entries ≡ MOST_ENTRIES)
   -- where all records were answered, a full history is told of a release that is due
   pub full : account.came ≡ Ended → account.told ≡ SessionFull → count < length (due_releases call state ends words)
-  -- the words are the marks at the start and what the records' moves added
-  pub moved : MovedWords call account state words
+  -- the words are the marks at the start and what the records' moves added, and each reserve is of a number drawn so
+  pub moved : MovedWords call account state ends words
   -- Each word can have stood in its row: it is no lower than the key's mark at the start, and above it, or above a
   -- number that was asked for, by no more than one a record that can draw. It is above each number that an answer used.
   pub near : (key row : ℕ) → place_of (after_first state call.entries ends).keys key ≡ Some row

@@ -7,6 +7,7 @@ use Rattle.key_book.specs.KeyBook.{place_of}
 use Rattle.ep_core.specs.declared.need.Need.{Need}
 use Rattle.ep_core.specs.declared.need.Need.TheVariants as needs
 use Rattle.record_io.specs.declared.code.TheConstants.{PROTECTED, CLEAR, DONE, REFUSED, LAYOUT, STATE, EXHAUSTED}
+use Rattle.record_io.specs.declared.code.TheConstants.{NO_MEMORY}
 use Rattle.record_io.specs.declared.kinds.RecordKind.{RecordKind}
 use Rattle.record_io.specs.declared.kinds.RecordKind.TheVariants.{Protect, Open, Command, Monitor}
 use Rattle.record_io.specs.declared.records.Record.{Record}
@@ -47,13 +48,14 @@ module _ (start : State) (entries : List Entry) where
       ⊎ Shown state task (λ key. needs.Number key) (λ row. Overdrew row number) move
 
   -- the answer to a frame that is protected tells its move: the number used, the word or number at the end, or none if
-  -- it is not bound
+  -- it is not bound, or memory ran out for it
   pub record TellsProtect (deed : Deed) (move : Move) : Type 0 where
     pub protected : deed.answer.code ≡ PROTECTED → (row : ℕ) × HasRow deed.answer.key row
         × (move ≡ Drew row deed.answer.number)
     pub exhausted : deed.answer.code ≡ EXHAUSTED → (row : ℕ) × HasRow deed.answer.key row
         × ((move ≡ Found row deed.answer.number) ⊎ (move ≡ Overdrew row deed.answer.number))
     pub unbound : (deed.answer.code ≡ CLEAR) ⊎ ((LAYOUT ≤ deed.answer.code) × (deed.answer.code ≤ STATE)) → move ≡ Kept
+    pub wanting : deed.answer.code ≡ NO_MEMORY → move ≡ Kept
 
   -- a command's answer tells it by its entry
   pub record TellsCommand (deed : Deed) (move : Move) : Type 0 where
@@ -61,7 +63,7 @@ module _ (start : State) (entries : List Entry) where
         × (slice_get entries (deed.answer.position - 1) ≡ Some e)
         × TellsSeen (before (deed.answer.position - 1)) deed.task e.seen move
 
-  -- codes 31, 32 and 33 tell nothing of the move
+  -- codes 31 and 32 tell nothing of the move, nor does 33 of a command
   abbrev pub TellsKind : RecordKind → Deed → Move → Type 0
   TellsKind Protect deed move = TellsProtect deed move
   TellsKind Open deed move = move ≡ Kept
