@@ -268,6 +268,7 @@ module _ (told : Bool) (begin : Begin) (layout : Layout) (segment : ℕ) (task :
       record {
         entry = λ t. absurd (protected_only task.kind (nat_le ACCEPTED fields.code) (nat_le fields.code NUMBER) protects t);
         stored = λ t. absurd (protected_only task.kind (nat_le ACCEPTED fields.code) (nat_le fields.code NUMBER) protects t);
+        behind = λ t. absurd (protected_only task.kind (nat_le ACCEPTED fields.code) (nat_le fields.code NUMBER) protects t);
         counted = λ t. absurd (uncounted task.kind fields.code recorded t);
         epoch = λ _. (omega arith, omega arith);
         number = λ is _. number is;
@@ -279,6 +280,7 @@ module _ (told : Bool) (begin : Begin) (layout : Layout) (segment : ℕ) (task :
   plain_stands fields some none = record {
     entry = λ t. absurd (protected_only task.kind (nat_le ACCEPTED fields.code) (nat_le fields.code NUMBER) protects t);
     stored = λ t. absurd (protected_only task.kind (nat_le ACCEPTED fields.code) (nat_le fields.code NUMBER) protects t);
+    behind = λ t. absurd (protected_only task.kind (nat_le ACCEPTED fields.code) (nat_le fields.code NUMBER) protects t);
     counted = λ t. absurd (uncounted task.kind fields.code recorded t);
     epoch = λ o.
         let there = channel_passed begin.plan task.link task.octets (ordered_channel task.kind (nat_le ACCEPTED fields.code) (nat_le fields.code NUMBER)

@@ -2,7 +2,7 @@
 use Rattle.std.proofs.Common.{◌≡◌, ◌≢◌, ◌⊎◌, ℕ, ◌+◌, ◌-◌, ◌<◌, ◌≤◌, min, ◌&&◌, ◌||◌, not, Bool, IsTrue, true, false, List, [], ◌∷◌, ◌++◌, length, take, Some, None, Option, refl, sym, ◌∙◌, ap, subst, arith, inl, inr, ⊎_elim, nat_le, ◌^◌, append-nil, length-append, if◌then◌else◌, eqb, eq-eqb}
 use Rattle.std.proofs.lemmas.Bool.Decides.{nat_tests}
 use Rattle.std.proofs.lemmas.Bool.{cases_lt}
-use Rattle.std.proofs.lemmas.List.{take_all}
+use Rattle.std.proofs.lemmas.List.{take_all, take_at}
 use Rattle.sdls_base.specs.Numbers.{times}
 use Rattle.sdls_base.specs.declared.entry.Entry.{Entry}
 use Rattle.sdls_base.specs.declared.entry.Logged.{Logged}
@@ -15,6 +15,7 @@ use Rattle.record_io.specs.declared.kinds.RecordKind.TheVariants.{Protect, Open,
 use Rattle.record_io.specs.declared.records.Record.{Record}
 use Rattle.unit_state.specs.declared.state.State.{State}
 use Rattle.unit_state.specs.History.{after, after_first, epoch_after}
+use Rattle.unit_state.proofs.Histories.{epochs_more}
 use Rattle.counter_table.specs.declared.view.Known.{Known}
 use Rattle.counter_table.specs.declared.view.Opening.{Opening}
 use Rattle.counter_table.specs.declared.view.Turn.{Turn}
@@ -92,6 +93,8 @@ late_stands begin segment task v w code n position p q some =
       entry = λ t. absurd (late_entry task.kind (nat_le ACCEPTED code)
           (subst (λ (b : Bool). IsTrue (is_entered task.kind && (nat_le ACCEPTED code && b))) p t));
       stored = λ t. absurd (late_entry task.kind (nat_le ACCEPTED code)
+          (subst (λ (b : Bool). IsTrue (is_entered task.kind && (nat_le ACCEPTED code && b))) p t));
+      behind = λ t. absurd (late_entry task.kind (nat_le ACCEPTED code)
           (subst (λ (b : Bool). IsTrue (is_entered task.kind && (nat_le ACCEPTED code && b))) p t));
       counted = λ t. absurd (late_count task.kind code p t);
       epoch = λ t. absurd (late task.kind channel (nat_le ACCEPTED code)
@@ -443,6 +446,15 @@ module _ (told : Bool) (c : Call told) where
               let stand : given.standing ≡ old.standing + 1 = ap (λ (b : BookView). b.standing) enters.is in
               let known_standing : w.turn.known.standing ≡ given.standing = ap (λ (t : Turn). t.known.standing) c.visits.takes.turn in
               let all = stage.all_stand can.0 in omega arith;
+          -- the book that was found had counted each epoch that was seen before
+          behind = λ _.
+              let seen = c.seen in
+              let low = epoch_low told begin found given u w.turn c.began c.free c.visits in
+              let counted = (whole told begin found given u w.turn c.began c.free c.visits (stage.clean can.0)).1 in
+              let more = epochs_more (entries_of found.log) es in
+              let front = ap epoch_after (ap (take (position - 1)) entries_known
+              ∙ take_at (entries_of old.log) (entry ∷ []) (position - 1) (omega arith) ∙ entries_old) in
+              omega arith;
           counted = λ t. absurd (uncounted task.kind fields.code recorded t);
           epoch = λ _.
               let told_is : epoch_told (entries_in w) (deed_of segment task (answer_of fields position)) ≡ epoch_after (entries_in w) =

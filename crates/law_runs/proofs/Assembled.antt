@@ -1,5 +1,5 @@
 -- The run is sound: what its worker did, with the releases behind it.
-use Rattle.std.proofs.Common.{◌≡◌, ℕ, ◌+◌, ◌<◌, ◌≤◌, List, [], ◌++◌, length, refl, ap, arith}
+use Rattle.std.proofs.Common.{◌≡◌, ℕ, ◌+◌, ◌<◌, ◌≤◌, List, [], ◌++◌, length, refl, ap, arith, take, ◌-◌}
 use Rattle.std.specs.List.{All, AllPairs, slice_index_or}
 use Rattle.sdls_base.specs.declared.TheConstants.{MOST_KEYS}
 use Rattle.sdls_base.specs.declared.entry.Entry.{Entry}
@@ -10,7 +10,7 @@ use Rattle.record_io.specs.Places.{Place, records_of}
 use Rattle.unit_plan.specs.PlanRules.{IsPlan}
 use Rattle.unit_state.specs.State.{KeepsRules}
 use Rattle.unit_state.specs.Restart.{restarted}
-use Rattle.unit_state.specs.History.{after}
+use Rattle.unit_state.specs.History.{after, epoch_after}
 use Rattle.run_promise.specs.Counts.{drawers}
 use Rattle.run_promise.specs.Run.{NearWord, IsLegalHistory, TurnIn}
 use Rattle.run_promise.specs.Fits.{Course, Fits}
@@ -31,6 +31,7 @@ use Rattle.law_workers.proofs.WholeRun.{rules_at_end, pairs, pairs_above, one_fa
 use Rattle.law_runs.proofs.Released.{legal_run, none_of_lanes, below_releases, fits_ended}
 use Rattle.law_runs.proofs.Accepting.{accepts_differ, accepts_near, accepts_above}
 use Rattle.law_runs.proofs.Covering.{stays_covered}
+use Rattle.std.proofs.lemmas.List.{take-append-le}
 
 behind_ended : (begin : Begin) (old new : View) (es rest : List Entry) (a b : Deed) → entries_in new ≡ es → StandsWithin begin old new a → StandsWithin begin old new b
     → StandsBehind begin es a b → StandsBehind begin (es ++ rest) a b
@@ -44,6 +45,9 @@ behind_ended begin old new es rest a b is s t h = record {
       let l = told_kept a.task.kind _ _ a.answer.position es rest (λ e. let w = (s.entry e).1 in let n : length (entries_in new) ≡ length es = ap length is in omega arith) x in
       let m = told_kept b.task.kind _ _ b.answer.position es rest (λ e. let w = (t.entry e).1 in let n : length (entries_in new) ≡ length es = ap length is in omega arith) y in
       omega arith;
+  epochs_before = λ x y.
+      let k = h.epochs_before x y in let within = (t.entry y).1 in let n : length (entries_in new) ≡ length es = ap length is in
+      let same = ap epoch_after (take-append-le (b.answer.position - 1) es rest (omega arith)) in omega arith;
   numbers = h.numbers;
 }
 

@@ -1,5 +1,5 @@
 -- What one worker did after another, and what two workers did at once.
-use Rattle.std.proofs.Common.{◌≡◌, ◌⊎◌, ℕ, ◌+◌, ◌<◌, ◌≤◌, List, [], ◌∷◌, ◌++◌, length, take, Some, Bool, false, true, refl, sym, ◌∙◌, ap, subst, inl, inr, arith, le_trans, append_assoc, append-nil, if◌then◌else◌, ◌||◌, max}
+use Rattle.std.proofs.Common.{◌≡◌, ◌⊎◌, ℕ, ◌+◌, ◌<◌, ◌≤◌, List, [], ◌∷◌, ◌++◌, length, take, Some, Bool, false, true, refl, sym, ◌∙◌, ap, subst, inl, inr, arith, le_trans, append_assoc, append-nil, if◌then◌else◌, ◌||◌, max, IsTrue, ◌&&◌, nat_le, ◌-◌}
 use Rattle.std.specs.List.{slice_index_or}
 use Rattle.std.proofs.lemmas.Bool.{cases_lt}
 use Rattle.std.proofs.lemmas.List.{take-append-le}
@@ -11,17 +11,22 @@ use Rattle.counter_table.specs.declared.view.View.{View}
 use Rattle.counter_table.specs.Known.{Earlier, entries, IsSparing, pieces, later}
 use Rattle.sdls_outside.specs.Faults.{Rose}
 use Rattle.counter_table.specs.Numbers.{top}
-use Rattle.counter_table.specs.Turn.{stands}
+use Rattle.counter_table.specs.Turn.{stands, epoch_seen}
 use Rattle.record_io.specs.declared.records.Record.{Record}
 use Rattle.run_promise.specs.Log.{entries_of}
 use Rattle.run_promise.specs.Answers.{Uses}
 use Rattle.run_promise.specs.Begin.{Begin}
 use Rattle.law_workers.specs.Views.{Gains, no_gains, both_gains, log_of, entries_in, IsRow, KnowsMore, Gained, keeping, starting, meeting, Meets}
 use Rattle.law_workers.specs.Work.{Works, Worked}
-use Rattle.run_promise.specs.Deed.{Deed, StandsBehind, InTurn}
+use Rattle.run_promise.specs.Deed.{Deed, StandsBehind, InTurn, is_protected, tells_entry, tells_epoch}
 use Rattle.law_workers.specs.Deeds.{StandsWithin, Agree, MadeLast, IsSpent, Answers, Does, AtOnce, AllBoth}
 use Rattle.law_workers.proofs.Logs.{stands_both, times_both, piece_count_both, last_once, entries_low}
 use Rattle.law_workers.proofs.Working.{widen_works, widen_answers, merge_works, merge_answers, merge_unmade, widen_unmade, row_later, told_later, closed}
+use Rattle.record_io.specs.declared.kinds.RecordKind.{RecordKind}
+use Rattle.record_io.specs.declared.kinds.RecordKind.TheVariants.{Protect, Open, Command, Monitor}
+use Rattle.record_io.specs.declared.code.TheConstants.{EXHAUSTED}
+use Rattle.frame_checks.specs.ProtectingFrames.{has_channel}
+use Rattle.unit_state.specs.History.{epoch_after}
 
 pub top_both : (row : ℕ) (a b : List (ℕ × ℕ)) → top row (a ++ b) ≡ max (top row a) (top row b)
 top_both row [] b = omega arith
@@ -165,6 +170,15 @@ gained_then u v w g h a b = record {
 same_row : (begin : Begin) (z : View) (key a b : ℕ) → IsRow begin z key a → IsRow begin z key b → a ≡ b
 same_row begin z key a b p q = let e : Some a ≡ Some b = sym p ∙ q in cc
 
+-- the epoch that a frame's answer tells is its position, and orders it
+epoch_tells : (kind : RecordKind) (entered rest : Bool) (position epoch : ℕ) → IsTrue (is_protected kind && rest)
+    → IsTrue (entered || (is_protected kind && rest)) × ((if is_protected kind then position else epoch) ≡ position)
+epoch_tells Protect true rest position epoch told = (refl, refl)
+epoch_tells Protect false rest position epoch told = (told, refl)
+epoch_tells Open entered rest position epoch told = absurd (let t : false ≡ true = told in cc)
+epoch_tells Command entered rest position epoch told = absurd (let t : false ≡ true = told in cc)
+epoch_tells Monitor entered rest position epoch told = absurd (let t : false ≡ true = told in cc)
+
 -- of the later record's answer to the earlier's
 agree_back : (begin : Begin) (z : View) (d e : Deed) → d.task.index < e.task.index → Agree begin (entries_in z) d e → Agree begin (entries_in z) e d
 agree_back begin z d e lt h = record {
@@ -175,6 +189,13 @@ agree_back begin z d e lt h = record {
 
 module _ (begin : Begin) (u v w : View) (ts us : List Record) (ds es : List Deed) (a : Does begin u v ts ds) (b : Does begin v w us es)
     (turns : AllBoth (λ (d e : Deed). d.task.index < e.task.index) ds es) where
+  -- the epoch that a frame's answer tells was seen when it was handled
+  seen_before : (d : Deed) → StandsWithin begin u v d → IsTrue (tells_epoch begin d) → d.answer.position ≤ epoch_seen v.turn
+  seen_before d s told =
+      let (ordered, same) = epoch_tells d.task.kind (tells_entry d) (has_channel begin.plan d.task.link d.task.octets && nat_le d.answer.code EXHAUSTED)
+      d.answer.position (epoch_after (take d.answer.position (entries_in v))) told in
+      let high = (s.epoch ordered).1 in omega arith
+
   behind : (d e : Deed) → StandsWithin begin u v d → StandsWithin begin v w e → StandsBehind begin (entries_in w) d e
   behind d e s t = record {
     entries = λ p q. let x = s.entry p in let y = t.entry q in omega arith;
@@ -182,6 +203,7 @@ module _ (begin : Begin) (u v w : View) (ts us : List Record) (ds es : List Deed
     counted_before = λ p q. let x = s.counted p in let y = t.entry q in omega arith;
     counts = λ p q. let x = s.counted p in let y = t.counted q in omega arith;
     epochs = λ p q. let x = s.epoch p in let y = t.epoch q in let same = told_later begin u u v w (grows_itself u) b.grows d s p in omega arith;
+    epochs_before = λ p q. let low = seen_before d s p in let high = t.behind q in omega arith;
     numbers = λ lane c c' k k' keys.
         let (r, is, lo, hi) = s.number c k in let (r', is', lo', hi') = t.number c' k' in
         let same : r ≡ r' = same_row begin w e.answer.key r r'

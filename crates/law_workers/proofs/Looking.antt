@@ -114,6 +114,7 @@ module _ (begin : Begin) (old new : View) (segment : ℕ) (task : Record) (answe
   stands_within = record {
     entry = λ e. absurd (no_entry e);
     stored = λ e. absurd (no_entry e);
+    behind = λ e. absurd (no_entry e);
     counted = counted;
     epoch = λ o. absurd (no_order o);
     number = λ c k. absurd (let s = is_code.some in omega arith);

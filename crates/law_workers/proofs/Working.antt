@@ -1,5 +1,5 @@
 -- What was done stays done while the views grow apart, and what two did between the same views is one.
-use Rattle.std.proofs.Common.{◌≡◌, ◌⊎◌, ℕ, zero, suc, ◌+◌, ◌<◌, ◌≤◌, List, ◌++◌, length, IsTrue, sym, ◌∙◌, ap, subst, inl, inr, ⊎_elim, arith, le_trans, length-append}
+use Rattle.std.proofs.Common.{◌≡◌, ◌⊎◌, ℕ, zero, suc, ◌+◌, ◌<◌, ◌≤◌, List, ◌++◌, length, IsTrue, sym, ◌∙◌, ap, subst, inl, inr, ⊎_elim, arith, le_trans, length-append, take, ◌-◌}
 use Rattle.std.specs.List.{Contains, All, slice_index_or}
 use Rattle.std.proofs.lemmas.List.{take-append-le}
 use Rattle.std.proofs.lemmas.List.Elements.{All-append, All-contains, Contains-append_left, Contains-append_right}
@@ -13,7 +13,7 @@ use Rattle.counter_table.specs.Turn.{stands}
 use Rattle.record_io.specs.declared.records.Record.{Record}
 use Rattle.record_io.specs.declared.answers.Answer.{Answer}
 use Rattle.record_io.specs.declared.code.TheConstants.{SITE_FAULT}
-use Rattle.unit_state.specs.History.{after, after_first}
+use Rattle.unit_state.specs.History.{after, after_first, epoch_after}
 use Rattle.unit_state.proofs.Histories.{after_more}
 use Rattle.run_promise.specs.Log.{entries_of}
 use Rattle.run_promise.specs.Legal.{IsLegalAt}
@@ -23,7 +23,7 @@ use Rattle.run_promise.specs.Fits.{Course, Fits, MayAppend}
 use Rattle.run_promise.specs.Begin.{Begin}
 use Rattle.law_workers.specs.Views.{Gains, both_gains, log_of, entries_in, IsRow, IsBetween, KnowsMore}
 use Rattle.law_workers.specs.Work.{IsAsked, Works, indexed}
-use Rattle.run_promise.specs.Deed.{Deed, is_ordered, epoch_told, StandsBehind}
+use Rattle.run_promise.specs.Deed.{Deed, is_ordered, epoch_told, StandsBehind, tells_entry}
 use Rattle.law_workers.specs.Deeds.{course_in, StandsWithin, IsLastAt, Agree, EachTwo, AllBoth, MadeLast, IsSpent, Answers, IsWithoutEntry, AreUnmade}
 use Rattle.law_workers.proofs.Histories.{entries_both, entries_counted, row_kept}
 use Rattle.law_workers.proofs.Fitting.{can_append, fits_more}
@@ -95,6 +95,13 @@ module _ (begin : Begin) (u v w z : View) (low : KnowsMore u v) (high : KnowsMor
   told_later d s ordered = rw grown
       (told_kept d.task.kind _ _ d.answer.position (entries_in w) (grown_entries w z high).0 (λ e. (s.entry e).1) ordered)
 
+  -- the entries before the one that an answer tells stay
+  front_later : (d : Deed) → StandsWithin begin v w d → IsTrue (tells_entry d)
+      → take (d.answer.position - 1) (entries_in z) ≡ take (d.answer.position - 1) (entries_in w)
+  front_later d s e =
+      let within = (s.entry e).1 in
+      ap (take (d.answer.position - 1)) grown ∙ take-append-le (d.answer.position - 1) (entries_in w) (grown_entries w z high).0 (omega arith)
+
   stands_later : (d : Deed) → StandsWithin begin v w d → StandsWithin begin u z d
   stands_later d s = record {
     entry = λ e. let a = s.entry e in
@@ -103,6 +110,8 @@ module _ (begin : Begin) (u v w z : View) (low : KnowsMore u v) (high : KnowsMor
         let n : length (entries_in z) ≡ length (entries_in w) + length (grown_entries w z high).0 = ap length grown ∙ length-append (entries_in w) (grown_entries w z high).0 in
         (omega arith, omega arith);
     stored = λ e. let a = s.stored e in let h = high.earlier.standing in omega arith;
+    behind = λ e. let a = s.behind e in let l = low.epochs in
+        let same = front_later d s e in let epoch = ap epoch_after same in omega arith;
     counted = λ e. let a = s.counted e in let l = low.earlier.standing in let h = high.earlier.standing in
         let n : length (entries_in z) ≡ length (entries_in w) + length (grown_entries w z high).0 = ap length grown ∙ length-append (entries_in w) (grown_entries w z high).0 in
         (omega arith, omega arith, omega arith);
@@ -117,6 +126,7 @@ module _ (begin : Begin) (u v w z : View) (low : KnowsMore u v) (high : KnowsMor
     counted_before = h.counted_before;
     counts = h.counts;
     epochs = λ a b. let k = h.epochs a b in let l = told_later d s a in let m = told_later e t b in omega arith;
+    epochs_before = λ a b. let k = h.epochs_before a b in let same = ap epoch_after (front_later e t b) in omega arith;
     numbers = h.numbers;
   }
 

@@ -1,5 +1,5 @@
 -- What a worker did, with the answers that it gave (profile).
-use Rattle.std.specs.Prelude.{◌≡◌, ◌≢◌, ℕ, ◌+◌, ◌<◌, ◌≤◌, IsTrue, List, [], ◌∷◌, length, take}
+use Rattle.std.specs.Prelude.{◌≡◌, ◌≢◌, ℕ, ◌+◌, ◌-◌, ◌<◌, ◌≤◌, IsTrue, List, [], ◌∷◌, length, take}
 use Rattle.std.specs.List.{All, AllPairs}
 use Rattle.sdls_base.specs.Numbers.{times}
 use Rattle.sdls_base.specs.declared.entry.Entry.{Entry}
@@ -12,6 +12,7 @@ use Rattle.counter_table.specs.Known.{IsSparing}
 use Rattle.sdls_outside.specs.Faults.{Rose}
 use Rattle.counter_table.specs.Numbers.{top}
 use Rattle.counter_table.specs.Turn.{stands, epoch_seen}
+use Rattle.unit_state.specs.History.{epoch_after}
 use Rattle.run_promise.specs.Log.{entries_of}
 use Rattle.run_promise.specs.Answers.{Uses, IsUnmade}
 use Rattle.run_promise.specs.Counts.{is_of_record, count_at}
@@ -31,12 +32,14 @@ course_in begin view = record {
   entries = entries_in view;
 }
 
--- where the answer stands, between what was seen before and after; an entry that it tells stands in the book, and a
--- count that it tells is one of entries that stand
+-- where the answer stands, between what was seen before and after; an entry that it tells stands in the book, behind the
+-- epoch that was seen before, and a count that it tells is one of entries that stand
 pub record StandsWithin (begin : Begin) (old new : View) (deed : Deed) : Type 0 where
   pub entry : IsTrue (tells_entry deed) → (length (entries_in old) < deed.answer.position)
       × (deed.answer.position ≤ length (entries_in new))
   pub stored : IsTrue (tells_entry deed) → deed.answer.position ≤ new.turn.known.standing
+  pub behind : IsTrue (tells_entry deed)
+      → epoch_seen old.turn ≤ epoch_after (take (deed.answer.position - 1) (entries_in new))
   pub counted : IsTrue (tells_count deed) → (old.turn.known.standing ≤ deed.answer.position)
       × (deed.answer.position ≤ new.turn.known.standing) × (deed.answer.position ≤ length (entries_in new))
   pub epoch : IsTrue (is_ordered begin deed) → (epoch_seen old.turn ≤ epoch_told (entries_in new) deed)

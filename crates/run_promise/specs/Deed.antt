@@ -1,5 +1,5 @@
 -- A record with its answer, and the order in which the answers of a run stand (profile).
-use Rattle.std.specs.Prelude.{◌≡◌, ◌≢◌, ◌⊎◌, ℕ, ◌<◌, ◌≤◌, ◌&&◌, ◌||◌, nat_le, Bool, IsTrue, true, false}
+use Rattle.std.specs.Prelude.{◌≡◌, ◌≢◌, ◌⊎◌, ℕ, ◌-◌, ◌<◌, ◌≤◌, ◌&&◌, ◌||◌, nat_le, Bool, IsTrue, true, false}
 use Rattle.std.specs.Prelude.{if◌then◌else◌, List, take}
 use Rattle.sdls_base.specs.declared.entry.Entry.{Entry}
 use Rattle.record_io.specs.declared.records.Record.{Record}
@@ -63,7 +63,8 @@ epoch_told history deed = if is_protected deed.task.kind then deed.answer.positi
 abbrev pub is_ordered : Begin → Deed → Bool
 is_ordered begin deed = tells_entry deed || tells_epoch begin deed
 
--- The later answer stands behind the earlier one: its entry, or the entries that it counts, its epoch, its number.
+-- The later answer stands behind the earlier one: its entry, or the entries that it counts, its epoch, its number. A
+-- frame that is protected first is answered by a state from before the entry of the later one.
 pub record StandsBehind (begin : Begin) (history : List Entry) (one other : Deed) : Type 0 where
   pub entries : IsTrue (tells_entry one) → IsTrue (tells_entry other) → one.answer.position < other.answer.position
   pub counted : IsTrue (tells_entry one) → IsTrue (tells_count other) → one.answer.position ≤ other.answer.position
@@ -72,6 +73,8 @@ pub record StandsBehind (begin : Begin) (history : List Entry) (one other : Deed
   pub counts : IsTrue (tells_count one) → IsTrue (tells_count other) → one.answer.position ≤ other.answer.position
   pub epochs : IsTrue (is_ordered begin one) → IsTrue (is_ordered begin other)
       → epoch_told history one ≤ epoch_told history other
+  pub epochs_before : IsTrue (tells_epoch begin one) → IsTrue (tells_entry other)
+      → one.answer.position ≤ epoch_after (take (other.answer.position - 1) history)
   pub numbers : (one.task.lane ≡ other.task.lane) → one.answer.code ≡ PROTECTED → other.answer.code ≡ PROTECTED
       → IsTrue (is_protected one.task.kind)
       → IsTrue (is_protected other.task.kind) → one.answer.key ≡ other.answer.key
