@@ -6,4 +6,4 @@ pub mod Restarted
 pub mod ContentAfter
 pub mod Stored
 pub mod Bringing
-mod OpenFaults
+pub mod OpenFaults

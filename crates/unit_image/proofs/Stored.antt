@@ -1,6 +1,8 @@
 -- What the store of a change does to the image: for `store_storable`, `store_change` and `store`.
-use Rattle.std.proofs.Common.{◌≡◌, ℕ, List, None, Some, refl, sym, ◌∙◌, ap, subst, inl, Result, Ok, Err, OnOk}
+use Rattle.std.proofs.Common.{◌≡◌, ℕ, Bool, IsTrue, List, None, Some, refl, sym, ◌∙◌, ap, subst, inl, Result, Ok, Err, OnOk}
+use Rattle.std.specs.Prelude.{OnErr}
 use Rattle.sdls_base.specs.declared.change.Change.{Change}
+use Rattle.sdls_base.specs.declared.change.Change.TheVariants.{Marks, Load, KeyStates, Create, Rekey, SaTo, SetNumber, SetWindow, Accepted, Nothing}
 use Rattle.sdls_base.specs.declared.version.Version.{Version}
 use Rattle.sdls_base.specs.declared.version.Version.TheVariants.{Two}
 use Rattle.sdls_outside.specs.Disk.{Leaves}
@@ -26,7 +28,7 @@ use Rattle.disk_journal.specs.Rest.{IsRest}
 use Rattle.disk_journal.proofs.Turns.{rest_becomes}
 use Rattle.unit_image.specs.Image.{IsOfTwo}
 use Rattle.unit_image.specs.Shows.{Says}
-use Rattle.unit_image.specs.Storing.{Stores, LeavesRest}
+use Rattle.unit_image.specs.Storing.{Destroys, KeepsPlaces, LeavesRest, Stores, StoresChange}
 use Rattle.unit_image.proofs.Turned.{says_grown, says_turned}
 
 -- nothing was written: an image at rest stays so
@@ -124,3 +126,52 @@ pub turned_rest : {T E : Type 0} (Destroyed : Type 0) (state : State) (content :
     → OnOk result (Destroyed → LeavesRest new journal state)
 turned_rest Destroyed state content (Ok value) journal new is rest = λ _ image leaves. subst (IsRest image journal.bank journal.generation) is (rest image leaves)
 turned_rest Destroyed state content (Err error) journal new is rest = tt
+
+-- the journal after Ok has its places where it had them, and after an Err it is as it was
+pub places_kept : {T E : Type 0} (result : Result T E) (before next after : JournalView) → next.plan_length ≡ before.plan_length
+    → next.layout ≡ before.layout → OnOk result (after ≡ next) → OnErr result (after ≡ before) → KeepsPlaces before after
+places_kept (Ok value) before next after length layout counted not_counted = record {
+  plan_length = ap (λ (it : JournalView). it.plan_length) counted ∙ length;
+  layout = ap (λ (it : JournalView). it.layout) counted ∙ layout;
+}
+places_kept (Err error) before next after length layout counted not_counted = record {
+  plan_length = ap (λ (it : JournalView). it.plan_length) not_counted;
+  layout = ap (λ (it : JournalView). it.layout) not_counted;
+}
+
+-- something is stored for a change that takes away the octets of keys
+destroying_is_stored : (state : State) (change : Change) → Destroys change → stored_as state change ≡ None → ⊥
+destroying_is_stored state (KeyStates ids to) destroys is = cc
+destroying_is_stored state (Marks key mark floor) destroys is = destroys
+destroying_is_stored state (Load items) destroys is = destroys
+destroying_is_stored state (Create new) destroys is = destroys
+destroying_is_stored state (Rekey spi key number) destroys is = destroys
+destroying_is_stored state (SaTo spi to) destroys is = destroys
+destroying_is_stored state (SetNumber spi number) destroys is = destroys
+destroying_is_stored state (SetWindow spi window) destroys is = destroys
+destroying_is_stored state (Accepted spi key number floor) destroys is = destroys
+destroying_is_stored state Nothing destroys is = destroys
+
+-- nothing is stored for the change, and nothing was done
+pub none_stored : {T E : Type 0} (told : Bool) (state : State) (change : Change) (value : T) (journal : JournalView) (now : Trace)
+    → KeepsRules state → Allows state change → stored_as state change ≡ None → (IsTrue told → IsSettled now journal)
+    → (let stored : Result T E = Ok value in StoresChange told state change stored journal journal now now)
+none_stored told state change value journal now rules allowed none settled = record {
+  stores = λ is_told. stores_none state change (Ok value) journal now rules allowed none (settled is_told);
+  gone = λ is_told destroys. absurd (destroying_is_stored state change destroys none);
+  beside = λ is_told. record { same_length = refl; outside = λ i off. refl };
+  places = record { plan_length = refl; layout = refl };
+  not_counted = tt;
+}
+
+-- another change was stored for one that takes away no octets of keys
+pub stored_for : {T E : Type 0} (told : Bool) (state : State) (change stored : Change) (result : Result T E) (before after : JournalView) (old new : Trace)
+    → KeepsRules state → Allows state change → stored_as state change ≡ Some stored → (Destroys change → ⊥)
+    → StoresChange told state stored result before after old new → StoresChange told state change result before after old new
+stored_for told state change stored result before after old new rules allowed is keeps does = record {
+  stores = λ is_told. stores_as state change stored result after old new rules allowed is (does.stores is_told);
+  gone = λ is_told. on_ok result (λ destroys. absurd (keeps destroys));
+  beside = does.beside;
+  places = does.places;
+  not_counted = does.not_counted;
+}

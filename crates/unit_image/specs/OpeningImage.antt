@@ -19,11 +19,11 @@ use Rattle.disk_journal.specs.declared.fault.JournalFault.TheVariants as journal
 use Rattle.disk_journal.specs.declared.layout.TheConstants.{CONTENT_AT}
 use Rattle.image_content.specs.Content.{content_of}
 use Rattle.image_content.specs.Reading.{IsContent}
-use Rattle.image_parts.specs.Changes.{EachImage}
+use Rattle.image_parts.specs.Changes.{EachImage, OnlySyncs}
 use Rattle.disk_journal.specs.Journal.{IsSettled, JournalView}
 use Rattle.disk_journal.specs.Forms.{Becomes, Settles}
 use Rattle.disk_journal.specs.Image.{Held, held, content, current_at, migrated, version_in}
-use Rattle.unit_image.specs.Shows.{SaysBarePlan, IsContentUnder, Shows}
+use Rattle.unit_image.specs.Shows.{SaysBarePlan, IsContentUnder, Shows, ShowsNone}
 
 -- A fault of the site carries the count of faults, which rose in the call; a refused image has the cause given; want of
 -- memory needs none.
@@ -46,6 +46,18 @@ pub record HasOpenFault {T : Type 0} (before now : ℕ) (refused : ℕ → Type 
   pub stood : OnOk result (now ≡ before)
   pub cause : IfErr result (IsOpenCause before now refused)
   pub calm : IfErr result (StandsUnlessFailed before now)
+
+-- the image shows the state, unless a fault of the site is answered
+abbrev pub ShowsUnlessFailed : List ℕ → State → OpenFault → Type 0
+ShowsUnlessFailed image state (SiteFault count) = ⊤
+ShowsUnlessFailed image state (Image offset) = Shows image state
+ShowsUnlessFailed image state NoMemory = Shows image state
+
+-- What an opening leaves that failed: an image that shows no state stands as it was, whatever the fault; one that shows
+-- a state shows it still, unless the site failed.
+pub record LeavesShown (old new : Trace) (fault : OpenFault) : Type 0 where
+  pub none : (offset : ℕ) → ShowsNone old.now.image offset → OnlySyncs old new
+  pub stands : (state : State) → Shows old.now.image state → ShowsUnlessFailed new.now.image state fault
 
 -- a fault of a journal that is opened or read
 abbrev pub as_open_fault : JournalFault → OpenFault

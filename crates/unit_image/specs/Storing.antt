@@ -1,5 +1,5 @@
 -- How a change of the state is stored in an image of two banks (profile).
-use Rattle.std.specs.Prelude.{◌≡◌, ℕ, List, Result, OnOk}
+use Rattle.std.specs.Prelude.{◌≡◌, ℕ, Bool, IsTrue, List, Result, OnErr, OnOk}
 use Rattle.sdls_base.specs.declared.change.Change.{Change}
 use Rattle.sdls_base.specs.declared.change.Change.TheVariants.{Marks, Load, KeyStates, Create, Rekey, SaTo, SetNumber}
 use Rattle.sdls_base.specs.declared.change.Change.TheVariants.{SetWindow, Accepted, Nothing}
@@ -12,6 +12,7 @@ use Rattle.unit_state.specs.declared.state.State.{State}
 use Rattle.unit_state.specs.Applied.{applied}
 use Rattle.unit_state.specs.Restart.{restarted}
 use Rattle.image_content.specs.Content.{content_of}
+use Rattle.disk_journal.specs.Changes.{KeepsBeside}
 use Rattle.disk_journal.specs.Image.{Held, held}
 use Rattle.disk_journal.specs.Forms.{Becomes}
 use Rattle.disk_journal.specs.Journal.{IsSettled, JournalView}
@@ -52,3 +53,15 @@ LeavesRest new journal state =
 pub record KeepsPlaces (old new : JournalView) : Type 0 where
   pub plan_length : new.plan_length ≡ old.plan_length
   pub layout : new.layout ≡ old.layout
+
+-- What a call that stores a change does, if contracts know what the site holds.
+pub record StoresChange {T E : Type 0} (told : Bool) (state : State) (change : Change) (result : Result T E)
+    (before after : JournalView) (old new : Trace) : Type 0 where
+  pub stores : IsTrue told → Stores state change result after old new
+  -- After a change that takes away the octets of keys, each octet of all banks is stated.
+  pub gone : IsTrue told → OnOk result (Destroys change → LeavesRest new after (applied state change))
+  -- what stands before the banks and past them is as it was
+  pub beside : IsTrue told → OnOk result (KeepsBeside before.layout old.now.image new.now.image)
+  -- the journal has its places in the image, and after a fault it is as it was
+  pub places : KeepsPlaces before after
+  pub not_counted : OnErr result (after ≡ before)

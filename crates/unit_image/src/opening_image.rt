@@ -1,5 +1,5 @@
 // The opening of an image.
-ghost use Rattle.std.specs.Prelude.{◌≡◌, ◌≤◌, IsTrue, IfOk, OnOk, length, vec_len};
+ghost use Rattle.std.specs.Prelude.{◌≡◌, ◌≤◌, IsTrue, IfErr, IfOk, OnOk, length, vec_len};
 ghost use Rattle.sdls_outside.specs.Disk.{Leaves};
 ghost use Rattle.sdls_outside.specs.Moments.{EachMoment};
 ghost use Rattle.image_parts.specs.Changes.{EachImage, OnlySyncs};
@@ -8,14 +8,15 @@ ghost use Rattle.unit_plan.specs.Plan.{plan_of};
 ghost use Rattle.unit_image.specs.OpeningImage.{HasOpenFault};
 ghost use Rattle.image_parts.specs.declared.layout.TheConstants.{PLAN_ROOM};
 ghost use Rattle.disk_journal.specs.Image.{held};
-ghost use Rattle.disk_journal.specs.Journal.{IsOpen, IsSettled};
+ghost use Rattle.disk_journal.specs.Journal.{HasSiteFault, IsOpen, IsSettled};
 ghost use Rattle.unit_image.specs.Shows.{Shows, ShowsNone};
 ghost use Rattle.unit_image.specs.Image.{IsOfTwo};
-ghost use Rattle.unit_image.specs.OpeningImage.{BringsUp, IsHeldNext, Opening};
+ghost use Rattle.unit_image.specs.OpeningImage.{BringsUp, IsHeldNext, LeavesShown, Opening};
 
 use crate::fault::OpenFault;
+use crate::laws::refused_with_one;
 use crate::reading::{open_fault, read_plan, read_state, take_records};
-use disk_journal::Journal;
+use disk_journal::{Journal, JournalFault};
 use image_content::write_content_two;
 use image_parts::PLAN_ROOM;
 use sdls_base::{CONTENT_LENGTH_TWO, Version};
@@ -113,11 +114,12 @@ fn show<O: Site>(
         plan_of (held (O.trace site.old).now.image).plan ≡ Ok opened.plan) }
     ensures rules { IfOk result (λ opened. KeepsRules opened.state) }
     ensures any_moment { IsTrue O.told → EachMoment (O.trace site.old) (O.trace site.new) (Opening (O.trace site.old)) }
+    ensures left { IsTrue O.told → IfErr result (LeavesShown (O.trace site.old) (O.trace site.new)) }
     ensures puts { O.put_faults site.new ≡ O.put_faults site.old }
     ensures fault { HasOpenFault (O.faults site.old) (O.faults site.new)
-        (λ offset. IsTrue O.told → ShowsNone (O.trace site.old).now.image offset
-        × OnlySyncs (O.trace site.old) (O.trace site.new)) result }
+        (λ offset. IsTrue O.told → ShowsNone (O.trace site.old).now.image offset) result }
 {
+    refused_with_one();
     let opened = match inspect(alloc, site, text, room) {
         Ok(opened) => opened,
         Err(fault) => return Err(fault),
@@ -134,7 +136,7 @@ fn bring_up<O: Site>(
     site: &mut O,
     state: &State,
     room: &mut [u8],
-) -> Result<(), OpenFault>
+) -> Result<(), JournalFault>
     requires room { length room.old ≡ CONTENT_LENGTH_TWO }
     requires settled { IsTrue O.told → IsSettled (O.trace site.old) journal.old }
     requires shows { IsTrue O.told → Shows (O.trace site.old).now.image state.now }
@@ -142,16 +144,13 @@ fn bring_up<O: Site>(
     ensures brings { IsTrue O.told → BringsUp state.now result journal.new (O.trace site.old) (O.trace site.new) }
     ensures version { OnOk result (IsOfTwo journal.new) }
     ensures puts { O.put_faults site.new ≡ O.put_faults site.old }
-    ensures fault { HasOpenFault (O.faults site.old) (O.faults site.new) (λ offset. ⊥) result }
+    ensures fault { HasSiteFault (O.faults site.old) (O.faults site.new) result }
 {
     match journal.version() {
         Version::Two => Ok(()),
         Version::One => {
             write_content_two(state, room);
-            match journal.migrate(site, room) {
-                Ok(()) => Ok(()),
-                Err(fault) => Err(open_fault(fault)),
-            }
+            journal.migrate(site, room)
         }
     }
 }
@@ -166,8 +165,8 @@ fn plan_room(alloc: Global) -> Result<Vec<u8>, AllocError>
 /// Opens the image of a site: makes all checks of it, answers the state that it shows, brings its journal to rest, and
 /// brings an image of version 1 up to version 2. The content is read into `room`, which holds any octets afterwards.
 ///
-/// An answer `Image`, with the offset of the first check that fails, says that the image shows no state; nothing is
-/// written then. Each other refusal is a fault of the site, or memory ran out.
+/// An answer `Image`, with the offset of the first check that fails, says that the image shows no state. Each other
+/// refusal is a fault of the site, or memory ran out. Nothing is written to an image that shows no state.
 pub fn open<O: Site>(alloc: Global, site: &mut O, room: &mut [u8]) -> Result<Opened, OpenFault>
     requires { length room.old ≡ CONTENT_LENGTH_TWO }
     ensures settled { IsTrue O.told → IfOk result (λ opened. IsSettled (O.trace site.new) opened.journal) }
@@ -186,12 +185,14 @@ pub fn open<O: Site>(alloc: Global, site: &mut O, room: &mut [u8]) -> Result<Ope
     // A crash at any moment leaves what one before may have left, or what the opening of the image may leave: it with
     // other octets in its closed gates, or one that holds the same, or one on the way to its migration.
     ensures any_moment { IsTrue O.told → EachMoment (O.trace site.old) (O.trace site.new) (Opening (O.trace site.old)) }
-    // Only an image that shows no state is refused as one, and nothing is written then.
+    // An image that shows no state stands as it was, whatever is answered.
+    ensures left { IsTrue O.told → IfErr result (LeavesShown (O.trace site.old) (O.trace site.new)) }
     ensures puts { O.put_faults site.new ≡ O.put_faults site.old }
+    // Only an image that shows no state is refused as one.
     ensures fault { HasOpenFault (O.faults site.old) (O.faults site.new)
-        (λ offset. IsTrue O.told → ShowsNone (O.trace site.old).now.image offset
-        × OnlySyncs (O.trace site.old) (O.trace site.new)) result }
+        (λ offset. IsTrue O.told → ShowsNone (O.trace site.old).now.image offset) result }
 {
+    refused_with_one();
     let Ok(mut text) = plan_room(alloc) else {
         return Err(OpenFault::NoMemory);
     };
@@ -201,6 +202,6 @@ pub fn open<O: Site>(alloc: Global, site: &mut O, room: &mut [u8]) -> Result<Ope
     };
     match bring_up(&mut opened.journal, site, &opened.state, room) {
         Ok(()) => Ok(opened),
-        Err(fault) => Err(fault),
+        Err(fault) => Err(open_fault(fault)),
     }
 }

@@ -6,10 +6,9 @@ ghost use Rattle.unit_state.specs.State.{KeepsRules, key_row};
 ghost use Rattle.unit_state.specs.Allows.{Allows};
 ghost use Rattle.unit_state.specs.Applied.{applied};
 ghost use Rattle.unit_state.specs.Restart.{IsLight, IsStorable, acceptance_stored, stored_as};
-ghost use Rattle.disk_journal.specs.Changes.{KeepsBeside};
 ghost use Rattle.disk_journal.specs.Journal.{IsSettled, HasSiteFault};
 ghost use Rattle.unit_image.specs.Image.{IsOfTwo};
-ghost use Rattle.unit_image.specs.Storing.{Destroys, Stores, LeavesRest, KeepsPlaces};
+ghost use Rattle.unit_image.specs.Storing.{Destroys, StoresChange};
 
 use crate::content_after::write_after;
 use book_record::write_record;
@@ -66,14 +65,8 @@ fn store_storable<O: Site>(
     requires storable { IsStorable change.now }
     requires allowed { Allows state.now change.now }
     requires next { MatchOption next (IsLight change.now) (λ next. next.now ≡ applied state.now change.now) }
-    ensures stores { IsTrue O.told → Stores state.now change.now result journal.new (O.trace site.old)
+    ensures stores { StoresChange O.told state.now change.now result journal.old journal.new (O.trace site.old)
         (O.trace site.new) }
-    ensures gone { IsTrue O.told → OnOk result (Destroys change.now
-        → LeavesRest (O.trace site.new) journal.new (applied state.now change.now)) }
-    ensures beside { IsTrue O.told → OnOk result
-        (KeepsBeside journal.old.layout (O.trace site.old).now.image (O.trace site.new).now.image) }
-    ensures places { KeepsPlaces journal.old journal.new }
-    ensures not_counted { OnErr result (journal.new ≡ journal.old) }
     ensures fault { HasSiteFault (O.faults site.old) (O.faults site.new) result }
     ensures puts { O.put_faults site.new ≡ O.put_faults site.old }
 {
@@ -100,14 +93,8 @@ fn store_change<O: Site>(
     requires rules { KeepsRules state.now }
     requires allowed { Allows state.now change.now }
     requires next { MatchOption next (IsLight change.now) (λ next. next.now ≡ applied state.now change.now) }
-    ensures stores { IsTrue O.told → Stores state.now change.now result journal.new (O.trace site.old)
+    ensures stores { StoresChange O.told state.now change.now result journal.old journal.new (O.trace site.old)
         (O.trace site.new) }
-    ensures gone { IsTrue O.told → OnOk result (Destroys change.now
-        → LeavesRest (O.trace site.new) journal.new (applied state.now change.now)) }
-    ensures beside { IsTrue O.told → OnOk result
-        (KeepsBeside journal.old.layout (O.trace site.old).now.image (O.trace site.new).now.image) }
-    ensures places { KeepsPlaces journal.old journal.new }
-    ensures not_counted { OnErr result (journal.new ≡ journal.old) }
     ensures idle { stored_as state.now change.now ≡ None → (site.new ≡ site.old) × (journal.new ≡ journal.old) }
     ensures needed { OnErr result (IsTrue (is_some (stored_as state.now change.now))) }
     ensures fault { HasSiteFault (O.faults site.old) (O.faults site.new) result }
@@ -146,20 +133,8 @@ pub fn store<O: Site>(
     requires rules { KeepsRules state.now }
     requires allowed { Allows state.now change.now }
     requires next { MatchOption next (IsLight change.now) (λ next. next.now ≡ applied state.now change.now) }
-    ensures stores { IsTrue O.told → Stores state.now change.now result journal.new (O.trace site.old)
+    ensures stores { StoresChange O.told state.now change.now result journal.old journal.new (O.trace site.old)
         (O.trace site.new) }
-
-    // After a change that takes away the octets of keys, each octet of all banks is stated, in each image that a crash
-    // may leave.
-    ensures gone { IsTrue O.told → OnOk result (Destroys change.now
-        → LeavesRest (O.trace site.new) journal.new (applied state.now change.now)) }
-
-    // What stands before the banks and past them is as it was, and the journal has its places in the image.
-    ensures beside { IsTrue O.told → OnOk result
-        (KeepsBeside journal.old.layout (O.trace site.old).now.image (O.trace site.new).now.image) }
-    ensures places { KeepsPlaces journal.old journal.new }
-    ensures not_counted { OnErr result (journal.new ≡ journal.old) }
-
     // If nothing is stored for the change, nothing is done.
     ensures idle { stored_as state.now change.now ≡ None → (site.new ≡ site.old) × (journal.new ≡ journal.old) }
 

@@ -1,7 +1,8 @@
 use Rattle.std.proofs.Common.{refl, sym, subst}
-use Rattle.unit_image.specs.OpeningImage.{IsBroughtUp}
+use Rattle.unit_image.specs.OpeningImage.{IsBroughtUp, LeavesShown}
 use Rattle.disk_journal.specs.Image.{held}
 use Rattle.unit_image.proofs.Bringing.{next_shows, opening_then}
+use Rattle.unit_image.proofs.OpenFaults.{left_by_fault}
 use Rattle.unit_image.proofs.opening_image.open.Goals as goal
 
 pub returns-in-Ok-bring_up-clause-shows : goal.returns-in-Ok-bring_up-clause-shows
@@ -32,3 +33,11 @@ returns-clause-any_moment g c = λ told.
     opening_then old mid (g.O.Site.trace c.bring_up.new.site) c.in-Ok-show.opened.state brings.next (c.in-Ok-show.ensures.holds told)
     (c.in-Ok-show.ensures.shows told).0 brings.is c.in-Ok-show.opened.journal (c.in-Ok-show.ensures.settled told)
     (c.in-Ok-show.ensures.any_moment told) brings.moments
+
+pub returns-clause-left : goal.returns-clause-left
+returns-clause-left g c = λ told.
+    let old = g.O.Site.trace c.args.site.now in
+    let new = g.O.Site.trace c.bring_up.new.site in
+    subst (LeavesShown old new) (sym c.open_fault.ensures)
+    (left_by_fault c.refused_with_one.ensures.none old new c.in-Ok-show.opened.state _ _ c.in-Err-bring_up.fault (c.in-Ok-show.ensures.shows told).0
+    c.in-Err-bring_up.ensures.fault.cause)
