@@ -241,3 +241,11 @@ pub kept_left_out : (told : Bool) (old shown new : BookView) (site : SiteSeen) (
     → IsKept told (left_out entry (record shown { site = site })) → IsKept told new
 kept_left_out told old shown new site other entry same unchanged made kept =
     subst (IsKept told) (sym (made ∙ ap (λ (j : JournalView). left_out entry (record shown { site = site; journal = j })) unchanged)) kept
+
+-- the book with these parts leaves the entry out
+pub left_out_is : (old shown new : BookView) (site : SiteSeen) (other : JournalView) (entry : Entry) → shown ≡ old → other ≡ shown.journal
+    → new ≡ left_out entry (record shown { site = site; journal = other }) → new ≡ left_out entry (record old { site = new.site })
+left_out_is old shown new site other entry same unchanged made =
+    made ∙ ap (λ (j : JournalView). left_out entry (record shown { site = site; journal = j })) unchanged
+    ∙ ap (λ (b : BookView). left_out entry (record b { site = site })) same
+    ∙ ap (λ (s : SiteSeen). left_out entry (record old { site = s })) (sym (ap (λ (b : BookView). b.site) made))

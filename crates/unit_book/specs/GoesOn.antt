@@ -1,13 +1,15 @@
 -- What every call on a book leaves.
-use Rattle.std.specs.Prelude.{◌≡◌, ⊤, ◌≤◌, List, [], ◌++◌, length}
+use Rattle.std.specs.Prelude.{◌≡◌, ⊤, ℕ, ◌≤◌, Bool, IsTrue, false, List, [], ◌++◌, length, Result, IfErr, MatchResult, OnOk}
+use Rattle.sdls_base.specs.declared.entry.Entry.{Entry}
 use Rattle.sdls_base.specs.declared.entry.Logged.{Logged}
 use Rattle.sdls_outside.specs.Faults.{Rose}
 use Rattle.unit_state.specs.Laws.{KeepsPlaces}
 use Rattle.unit_book.specs.declared.fault.BookFault.{BookFault}
 use Rattle.unit_book.specs.declared.fault.BookFault.TheVariants.{SiteFault, Stopped, SessionFull, NoMemory}
 use Rattle.run_promise.specs.Log.{entries_of}
-use Rattle.unit_book.specs.Marks.{HasNoRelease, KeepsMarks}
-use Rattle.unit_book.specs.Book.{BookView}
+use Rattle.unit_image.specs.Storing.{Destroys, LeavesRest}
+use Rattle.unit_book.specs.Marks.{HasNoRelease, KeepsMarks, is_release}
+use Rattle.unit_book.specs.Book.{BookView, Enters, IsKept, IsUnstored}
 
 -- The opening stands: what was read, its plan and state, and the site as it was then. The log goes on by the lines
 -- that the call added. Neither the count of faults nor that of changes falls; once the first had risen, no entry
@@ -38,3 +40,18 @@ TellsRise book (SiteFault count) = Rose book.opened.faults book.site.faults × (
 TellsRise book (Stopped count) = Rose book.opened.faults book.site.faults × (count ≡ book.site.faults)
 TellsRise book SessionFull = ⊤
 TellsRise book NoMemory = ⊤
+
+-- What a call leaves that makes an entry, and its change with it.
+pub record MakesEntry (told : Bool) (entry : Entry) (result : Result ℕ BookFault) (old new : BookView) : Type 0 where
+  pub kept : IsKept told new
+  pub made : MatchResult result (Enters entry old new) (IsUnstored entry old new)
+  -- once a change has taken away the octets of keys, no image that a crash may leave holds them
+  pub gone : IsTrue told → OnOk result (Destroys entry.change → LeavesRest new.site.trace new.journal new.state)
+  pub goes_on : GoesOn old new
+  pub marks : is_release entry ≡ false → KeepsMarks old.state new.state
+  pub risen : IfErr result (TellsRise new)
+  pub calm : IsCalm old new
+  -- nothing is put
+  pub sunk : IsTrue told → new.site.trace.now.sunk ≡ old.site.trace.now.sunk
+  pub puts : new.site.put_faults ≡ old.site.put_faults
+  pub later : old.site.faults ≤ new.site.faults

@@ -6,13 +6,12 @@ ghost use Rattle.sdls_outside.specs.Faults.{Rose};
 ghost use Rattle.sdls_outside.specs.Site.{Puts, after_put};
 ghost use Rattle.unit_state.specs.Applied.{applied};
 ghost use Rattle.unit_state.specs.Allows.{Allows};
-ghost use Rattle.unit_image.specs.Storing.{Destroys, LeavesRest};
 ghost use Rattle.run_promise.specs.Log.{entries_of};
 ghost use Rattle.unit_book.specs.Log.{sunk_between};
 ghost use Rattle.unit_book.specs.Marks.{is_release, KeepsMarks};
-ghost use Rattle.unit_book.specs.Book.{IsKept, CanEnter, IsBarred, IsUnstored, Enters, IsNextState, entered, left_out};
+ghost use Rattle.unit_book.specs.Book.{IsKept, CanEnter, IsBarred, IsNextState, entered, left_out};
 ghost use Rattle.unit_book.specs.Book.{with_put, PutFails};
-ghost use Rattle.unit_book.specs.GoesOn.{GoesOn, IsCalm, TellsRise};
+ghost use Rattle.unit_book.specs.GoesOn.{GoesOn, MakesEntry, TellsRise};
 
 use crate::applying::{changes_of, put_next};
 use crate::fault::BookFault;
@@ -152,21 +151,15 @@ impl<O: Site> Book<O> {
         self.entries.push_reserved(entry);
     }
 
-    /// Stores what an entry changes, and makes the entry.
-    fn make_entry(&mut self, entry: Entry, next: Next) -> Result<u64, BookFault>
+    /// Stores what an entry changes, and makes the entry and its change. Where something is stored for it, that is in
+    /// every image that a crash may leave before the answer.
+    pub(crate) fn commit(&mut self, entry: Entry, next: Next) -> Result<u64, BookFault>
         requires kept { IsKept O.told self.old }
         requires can { CanEnter self.old }
         requires allows { Allows self.old.state entry.change }
         requires makes { IsNextState self.old.state entry.change next }
         requires marks { is_release entry ≡ false → KeepsMarks self.old.state (applied self.old.state entry.change) }
-        ensures kept { IsKept O.told self.new }
-        ensures made { MatchResult result (Enters entry self.old self.new) (IsUnstored entry self.old self.new) }
-        ensures gone { IsTrue O.told → OnOk result (Destroys entry.change
-            → LeavesRest self.new.site.trace self.new.journal self.new.state) }
-        ensures sunk { IsTrue O.told → self.new.site.trace.now.sunk ≡ self.old.site.trace.now.sunk }
-        ensures puts { self.new.site.put_faults ≡ self.old.site.put_faults }
-        ensures stood { OnOk result (self.new.site.faults ≡ self.old.site.faults) }
-        ensures later { self.old.site.faults ≤ self.new.site.faults }
+        ensures { MakesEntry O.told entry result self.old self.new }
     {
         match store(
             &mut self.journal,
@@ -185,30 +178,6 @@ impl<O: Site> Book<O> {
                 Err(BookFault::SiteFault(count))
             }
         }
-    }
-
-    /// Makes an entry, and its change with it. Where something is stored for it, that is in every image that a crash
-    /// may leave before the answer.
-    pub(crate) fn commit(&mut self, entry: Entry, next: Next) -> Result<u64, BookFault>
-        requires kept { IsKept O.told self.old }
-        requires can { CanEnter self.old }
-        requires allows { Allows self.old.state entry.change }
-        requires makes { IsNextState self.old.state entry.change next }
-        requires marks { is_release entry ≡ false → KeepsMarks self.old.state (applied self.old.state entry.change) }
-        ensures kept { IsKept O.told self.new }
-        ensures made { MatchResult result (Enters entry self.old self.new)
-            (IsUnstored entry self.old self.new) }
-        ensures gone { IsTrue O.told → OnOk result (Destroys entry.change
-            → LeavesRest self.new.site.trace self.new.journal self.new.state) }
-        ensures goes_on { GoesOn self.old self.new }
-        ensures marks { is_release entry ≡ false → KeepsMarks self.old.state self.new.state }
-        ensures risen { IfErr result (TellsRise self.new) }
-        ensures sunk { IsTrue O.told → self.new.site.trace.now.sunk ≡ self.old.site.trace.now.sunk }
-        ensures puts { self.new.site.put_faults ≡ self.old.site.put_faults }
-        ensures later { self.old.site.faults ≤ self.new.site.faults }
-        ensures calm { IsCalm self.old self.new }
-    {
-        self.make_entry(entry, next)
     }
 
     /// Hands octets to the site's sink. It makes no entry, and still puts after a fault of the disk.

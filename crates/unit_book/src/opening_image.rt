@@ -3,11 +3,11 @@ ghost use Rattle.std.specs.Prelude.{◌≡◌, ◌≤◌, IsTrue, Ok, IfOk, IfEr
 ghost use Rattle.sdls_outside.specs.Disk.{Leaves};
 ghost use Rattle.sdls_outside.specs.Moments.{EachMoment};
 ghost use Rattle.sdls_base.specs.declared.version.TheConstants.{CONTENT_LENGTH_TWO};
-ghost use Rattle.unit_image.specs.Image.{held, IsOfTwo, IsSettled, OnlySyncs, used_next};
+ghost use Rattle.unit_image.specs.Image.{held, IsOfTwo, IsSettled, used_next};
 ghost use Rattle.unit_plan.specs.Plan.{plan_of};
 ghost use Rattle.unit_state.specs.State.{KeepsRules};
 ghost use Rattle.unit_image.specs.Shows.{Shows, ShowsNone};
-ghost use Rattle.unit_image.specs.OpeningImage.{HasOpenFault, IsHeldNext, IsOpenCause, Opening};
+ghost use Rattle.unit_image.specs.OpeningImage.{HasOpenFault, IsHeldNext, IsOpenCause, LeavesShown, Opening};
 ghost use Rattle.unit_image.specs.OpeningImage.{StandsUnlessFailed};
 ghost use Rattle.unit_book.specs.Book.{IsKept, begun};
 
@@ -49,10 +49,10 @@ fn start<O: Site>(alloc: Global, site: &mut O) -> Result<Started, OpenFault>
         plan_of (held (O.trace site.old).now.image).plan ≡ Ok begun.found.plan) }
     ensures rules { IfOk result (λ begun. KeepsRules begun.found.state) }
     ensures any_moment { IsTrue O.told → EachMoment (O.trace site.old) (O.trace site.new) (Opening (O.trace site.old)) }
+    ensures left { IsTrue O.told → IfErr result (LeavesShown (O.trace site.old) (O.trace site.new)) }
     ensures puts { O.put_faults site.new ≡ O.put_faults site.old }
     ensures fault { HasOpenFault (O.faults site.old) (O.faults site.new)
-        (λ offset. IsTrue O.told → ShowsNone (O.trace site.old).now.image offset
-        × OnlySyncs (O.trace site.old) (O.trace site.new)) result }
+        (λ offset. IsTrue O.told → ShowsNone (O.trace site.old).now.image offset) result }
 {
     match site.begin() {
         Ok(_) => {}
@@ -78,8 +78,8 @@ impl<O: Site> Book<O> {
     /// Opens the image of a site: starts a run on it, reserves the room for the entries and for a content, makes all
     /// checks of the image, brings its journal to rest, and brings an image of version 1 up to version 2.
     ///
-    /// An answer `Image`, with the offset of the first check that fails, says that the image shows no state; nothing is
-    /// written then. Each other refusal is a fault of the site, or memory ran out.
+    /// An answer `Image`, with the offset of the first check that fails, says that the image shows no state. Each other
+    /// refusal is a fault of the site, or memory ran out. Nothing is written to an image that shows no state.
     pub fn open(alloc: Global, mut site: O) -> Result<Book<O>, (OpenFault, O)>
         ensures kept { IfOk result (IsKept O.told) }
         ensures begun { IfOk result (λ book.
@@ -92,10 +92,14 @@ impl<O: Site> Book<O> {
         ensures plan { IsTrue O.told → IfOk result (λ book. plan_of (held (O.trace site).now.image).plan
             ≡ Ok book.plan) }
 
-        // Only an image that shows no state is refused as one, and nothing is written then.
+        // Only an image that shows no state is refused as one.
         ensures refused { IfErr result (λ refused. IsOpenCause (O.faults site) (O.faults refused.1)
-            (λ offset. IsTrue O.told → ShowsNone (O.trace site).now.image offset
-            × OnlySyncs (O.trace site) (O.trace refused.1)) refused.0) }
+            (λ offset. IsTrue O.told → ShowsNone (O.trace site).now.image offset) refused.0) }
+
+        // An image that shows no state stands as it was, whatever is answered. One that shows a state shows it still,
+        // unless the site failed.
+        ensures left { IsTrue O.told → IfErr result (λ refused. LeavesShown (O.trace site) (O.trace refused.1)
+            refused.0) }
 
         // A crash at any moment leaves what one before may have left, or what the opening of the image may leave.
         ensures any_moment { IsTrue O.told → MatchResult result
