@@ -45,6 +45,7 @@ use Rattle.run_promise.specs.Sound.{IsNearBehind, IsSound, deeds_octets}
 use Rattle.law_runs.proofs.Stepping.{octets_of}
 use Rattle.run_promise.specs.Alone.{OneLane, IsExact}
 use Rattle.law_runs.proofs.Exacting.{exact_call}
+use Rattle.law_runs.proofs.Standing.{kept_stands}
 use Rattle.law_runs.proofs.Words.{moved_call}
 use Rattle.run_promise.specs.Words.{MovedWords}
 use Rattle.run_promise.specs.Ends.{ServesSoundly, IsEarly, IsReleased, IsServed, RunEnds}
@@ -172,6 +173,12 @@ module _ (told : Bool) (site after : SiteSeen) (source source_after : SourceSeen
   last_opened = elim end.puts_end [
     | inl broken ↦ ap (λ (b : BookView). b.opened) broken.1 ∙ end.goes_on.opened
     | inr put ↦ ap (λ (b : BookView). b.opened) put.1.made ∙ end.goes_on.opened
+  ]
+
+  last_start : end.last.start ≡ book.start
+  last_start = elim end.puts_end [
+    | inl broken ↦ ap (λ (b : BookView). b.start) broken.1 ∙ end.goes_on.start
+    | inr put ↦ ap (λ (b : BookView). b.start) put.1.made ∙ end.goes_on.start
   ]
 
   pub last_entries : entries_of end.last.log ≡ entries_of end.released.log
@@ -577,12 +584,6 @@ module _ (told : Bool) (site after : SiteSeen) (source source_after : SourceSeen
 
     -- ---- its moments
 
-    started : end.last.start ≡ book.start
-    started = elim end.puts_end [
-      | inl broken ↦ ap (λ (b : BookView). b.start) broken.1 ∙ end.goes_on.start
-      | inr put ↦ ap (λ (b : BookView). b.start) put.1.made ∙ end.goes_on.start
-    ]
-
     -- the log goes on from the one at the close
     log_on : (rest : List Logged) × (end.last.log ≡ log_of now ++ rest)
     log_on = elim end.puts_end [
@@ -635,7 +636,7 @@ module _ (told : Bool) (site after : SiteSeen) (source source_after : SourceSeen
         let history = end.kept.history is_told in
         let serving : EachMoment book.opened.trace after.trace (Serves book.start end.last.log end.last.standing book.opened.trace.now.sunk) =
         subst (λ (o : SiteSeen). EachMoment book.opened.trace o.trace (Serves book.start end.last.log end.last.standing book.opened.trace.now.sunk)) (sym end.site_is)
-        (subst (λ (st : State). EachMoment book.opened.trace end.last.site.trace (Serves st end.last.log end.last.standing book.opened.trace.now.sunk)) started
+        (subst (λ (st : State). EachMoment book.opened.trace end.last.site.trace (Serves st end.last.log end.last.standing book.opened.trace.now.sunk)) last_start
         (subst (λ (o : SiteSeen). EachMoment o.trace end.last.site.trace (Serves end.last.start end.last.log end.last.standing o.trace.now.sunk)) last_opened history.moments)) in
         all_moments call account book.plan book.start book.opened.trace end.last.log end.last.standing (ran.opening is_told) (ran.sunk is_told) serving
         end.entries_are settled_last covered_so pieces_front
@@ -841,6 +842,8 @@ module _ (told : Bool) (site after : SiteSeen) (source source_after : SourceSeen
           sound = record { run = sound_call_run is_told; moments = moments_so is_told };
           released = r;
           exact = λ one. subst (λ (ws : List ℕ). IsExact call account book.plan book.start ws (length (entries_in now))) (sym same) (exact_so is_told one);
+          exit = kept_stands told call account book.start end.last is_told end.kept end.site_is end.entries_are last_start
+              (ap (λ (s : SiteSeen). s.faults) last_opened ∙ ran.same_faults);
         }
 
     pub run_ends_so : RunEnds call

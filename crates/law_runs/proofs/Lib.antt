@@ -22,6 +22,7 @@ pub mod Moments
 pub mod Faults
 pub mod Moved
 pub mod Appending
+pub mod Standing
 pub mod Ended
 pub mod Looping
 pub mod Refusing

@@ -35,6 +35,7 @@ use Rattle.unit_image.specs.declared.fault.OpenFault.{OpenFault}
 use Rattle.unit_image.specs.declared.fault.OpenFault.TheVariants as openings
 use Rattle.unit_image.specs.OpeningImage.{IsOpenCause}
 use Rattle.unit_image.specs.Shows.{Shows, ShowsNone}
+use Rattle.unit_image.proofs.OpenFaults.{same_image}
 use Rattle.run_promise.specs.Site.{SiteSeen}
 use Rattle.run_promise.specs.Numbers.{release_at, release_of, released_floor, releases, mark_at, mark_of}
 use Rattle.run_promise.specs.Taken.{kept_floor}
@@ -48,10 +49,12 @@ use Rattle.run_promise.specs.declared.end.RunEnd.TheVariants as ends
 use Rattle.run_promise.specs.Call.{CallSeen, sunk_since}
 use Rattle.run_promise.specs.Account.{Account, AreAnswered, course_of, end_answer, end_octets, end_status}
 use Rattle.run_promise.specs.Causes.{CameBy, PutsDue, PutsFront, TellsEnd}
-use Rattle.run_promise.specs.Ends.{IsEarly, IsOpenRefusal, IsRefused, IsReleased, IsServed, IsSoundCall, IsUnopened, RunEnds}
+use Rattle.run_promise.specs.Ends.{IsEarly, IsOpenRefusal, IsRefused, IsReleased, IsServed, IsSoundCall, RunEnds}
+use Rattle.run_promise.specs.Exit.{IsUnopened, StandsAtExit}
 use Rattle.law_runs.specs.Refused.{Refused, refused_end}
 use Rattle.law_runs.proofs.Ended.{failed_put, same_count}
 use Rattle.law_runs.proofs.Resting.{no_records}
+use Rattle.law_runs.proofs.Standing.{shown_unless}
 
 -- ---- no release is due in a state that a restart left
 
@@ -148,10 +151,6 @@ put_image octets (Ok value) old new puts = puts.0.image
 put_image octets (Err error) old new (inl same) = ap (λ (t : Trace). t.now.image) same
 put_image octets (Err error) old new (inr sank) = sank.image
 
-sync_image : (old new : Trace) → OnlySyncs old new → new.now.image ≡ old.now.image
-sync_image old new (inl same) = ap (λ (t : Trace). t.now.image) same
-sync_image old new (inr synced) = synced.image
-
 -- ---- why it ended
 
 not_ended : (fault : OpenFault) → refused_end fault ≡ ends.Ended → ⊥
@@ -196,11 +195,11 @@ module _ (told : Bool) (site back after : SiteSeen) (source : SourceSeen) (fault
   answered openings.NoMemory = ((0, refl), refl)
 
   abbrev Cause : OpenFault → Type 0
-  Cause f = IsOpenCause site.faults back.faults (λ offset. IsTrue told → ShowsNone site.trace.now.image offset × OnlySyncs site.trace back.trace) f
+  Cause f = IsOpenCause site.faults back.faults (λ offset. IsTrue told → ShowsNone site.trace.now.image offset) f
 
   cause_of : (f : OpenFault) → Cause f → CameBy call account (refused_end f)
   cause_of (openings.SiteFault count) cause = (cause.0, cause.1, refl, refl)
-  cause_of (openings.Image offset) cause = (λ is_told. (cause is_told).0, refl, refl)
+  cause_of (openings.Image offset) cause = (cause, refl, refl)
   cause_of openings.NoMemory cause = tt
 
   tells : TellsEnd call account
@@ -272,13 +271,6 @@ module _ (told : Bool) (site back after : SiteSeen) (source : SourceSeen) (fault
             (subst (λ (base : List ℕ). Between base (base ++ answer_octets (end_answer refused.end 0)) sunk) h.1 between),
       )))
 
-  unopened : IsTrue told → EachMoment site.trace after.trace (IsUnopened call refused.end)
-  unopened is_told =
-      let P : List ℕ → Type 0 = λ image. Leaves site.trace.now image ⊎ LeftByOpening site.trace.now.image image in
-      each_weaker site.trace after.trace
-      (λ image sunk. P image × (sunk_since call sunk ≡ take (length (sunk_since call sunk)) (end_octets call refused.end))) (IsUnopened call refused.end)
-      (λ image sunk h. record { image_is = h.0; only_end = h.1 }) (with_end P is_told (refused.opening is_told))
-
   early : IsTrue told → OnlySyncs site.trace back.trace → EachMoment site.trace after.trace (IsEarly call refused.end)
   early is_told syncs =
       let P : List ℕ → Type 0 = Leaves site.trace.now in
@@ -287,15 +279,18 @@ module _ (told : Bool) (site back after : SiteSeen) (source : SourceSeen) (fault
       (λ image sunk h. record { leaves = h.0; only_end = h.1 })
       (with_end P is_told (only_syncs_moments site.trace back.trace syncs ((refused.stays is_told).0)).moments)
 
+  -- End leaves the image
+  end_stays : IsTrue told → after.trace.now.image ≡ back.trace.now.image
+  end_stays is_told = put_image (answer_octets (end_answer refused.end 0)) refused.put back.trace after.trace (refused.sinks is_told)
+
   -- ---- an image that shows a state
 
   module _ (plan : PlanLines) (state : State) where
-    served : (image sunk : List ℕ) → IsUnopened call refused.end image sunk
+    served : (image sunk : List ℕ) → (Leaves site.trace.now image ⊎ LeftByOpening site.trace.now.image image)
+        × (sunk_since call sunk ≡ take (length (sunk_since call sunk)) (end_octets call refused.end))
         → IsEarly call refused.end image sunk ⊎ IsServed call account plan state image sunk
-    served image sunk m = elim m.image_is [
-      | inl leaves ↦ inl (record { leaves = leaves; only_end = m.only_end })
-      | inr settles ↦ inr (record { front = m.only_end; image_shows = inl (tt, settles) })
-    ]
+    served image sunk (inl leaves, only_end) = inl (record { leaves = leaves; only_end = only_end })
+    served image sunk (inr settles, only_end) = inr (record { front = only_end; image_shows = inl (tt, settles) })
 
     sound_run : IsPlan plan → KeepsRules state → IsSound (course_of call account plan state) [] []
     sound_run plan_is rules = no_records _ plan_is rules refl
@@ -303,8 +298,12 @@ module _ (told : Bool) (site back after : SiteSeen) (source : SourceSeen) (fault
     sound_call : IsTrue told → IsPlan plan → KeepsRules state → IsSoundCall call account plan state
     sound_call is_told plan_is rules = record {
       run = sound_run plan_is rules;
-      moments = each_weaker site.trace after.trace (IsUnopened call refused.end)
-          (λ image sunk. IsEarly call refused.end image sunk ⊎ IsServed call account plan state image sunk) served (unopened is_told);
+      moments =
+          let P : List ℕ → Type 0 = λ image. Leaves site.trace.now image ⊎ LeftByOpening site.trace.now.image image in
+          each_weaker site.trace after.trace
+          (λ image sunk. P image × (sunk_since call sunk ≡ take (length (sunk_since call sunk)) (end_octets call refused.end)))
+          (λ image sunk. IsEarly call refused.end image sunk ⊎ IsServed call account plan state image sunk) served
+          (with_end P is_told (refused.opening is_told));
     }
 
     released : KeepsRules state → restarted state ≡ state → (ends : ℕ) → ends ≤ 0
@@ -364,29 +363,40 @@ module _ (told : Bool) (site back after : SiteSeen) (source : SourceSeen) (fault
       served = ([], [], take_none ends, refl, omega arith, λ all quiet. refl);
     }
 
+    -- the opening of an image that shows a state did not come to its end
+    never_opened : ((offset : ℕ) → ShowsNone site.trace.now.image offset → ⊥) → IsTrue told → (f : OpenFault) → refused_end f ≡ account.came → Cause f
+        → IsUnopened call account
+    never_opened shows is_told (openings.SiteFault count) is cause = record { came_is = inl (count, sym is); source_is = refl; no_entries = refl }
+    never_opened shows is_told (openings.Image offset) is cause = absurd (shows offset (cause is_told))
+    never_opened shows is_told openings.NoMemory is cause = record { came_is = inr (sym is); source_is = refl; no_entries = refl }
+
+    exit : ((offset : ℕ) → ShowsNone site.trace.now.image offset → ⊥) → IsTrue told → Shows site.trace.now.image state → restarted state ≡ state
+        → StandsAtExit call account state
+    exit never is_told shows left = record {
+      stands = λ well. subst (λ (image : List ℕ). Shows image (restarted state)) (sym (end_stays is_told))
+          (subst (Shows back.trace.now.image) (sym left)
+          (shown_unless site.faults back.faults after.faults (λ offset. IsTrue told → ShowsNone site.trace.now.image offset) back.trace.now.image state fault
+          refused.cause refused.put_cause.later well ((refused.left is_told).stands state shows)));
+      rests = λ well. inl (never_opened never is_told fault refl refused.cause);
+      stored = inl (never_opened never is_told fault refl refused.cause);
+    }
+
   -- ---- an image that shows none
 
-  module _ (one : (image : List ℕ) (a b : ℕ) → ShowsNone image a → ShowsNone image b → a ≡ b) where
+  module _ (never : (image : List ℕ) (state : State) (offset : ℕ) → Shows image state → ShowsNone image offset → ⊥)
+      (one : (image : List ℕ) (a b : ℕ) → ShowsNone image a → ShowsNone image b → a ≡ b) where
     refusal : (f : OpenFault) (offset : ℕ) → Cause f → IsTrue told → ShowsNone site.trace.now.image offset → IsOpenRefusal offset (refused_end f)
     refusal (openings.SiteFault count) offset cause is_told none = inr (inl (count, refl))
-    refusal (openings.Image at) offset cause is_told none = inl (ap ends.NoState (one site.trace.now.image at offset (cause is_told).0 none))
+    refusal (openings.Image at) offset cause is_told none = inl (ap ends.NoState (one site.trace.now.image at offset (cause is_told) none))
     refusal openings.NoMemory offset cause is_told none = inr (inr refl)
-
-    syncs : (f : OpenFault) (offset : ℕ) → Cause f → IsTrue told → refused_end f ≡ ends.NoState offset → OnlySyncs site.trace back.trace
-    syncs (openings.SiteFault count) offset cause is_told is = absurd (let s = ap end_status is in omega arith)
-    syncs (openings.Image at) offset cause is_told is = (cause is_told).1
-    syncs openings.NoMemory offset cause is_told is = absurd (let s = ap end_status is in omega arith)
 
     refused_so : IsTrue told → (offset : ℕ) → ShowsNone site.trace.now.image offset → IsRefused call account offset
     refused_so is_told offset none = record {
       came_is = refusal fault offset refused.cause is_told none;
       source_is = refl;
       no_entries = refl;
-      moments = unopened is_told;
-      image_is = λ is.
-          put_image (answer_octets (end_answer refused.end 0)) refused.put back.trace after.trace (refused.sinks is_told)
-          ∙ sync_image site.trace back.trace (syncs fault offset refused.cause is_told is);
-      early = λ is. early is_told (syncs fault offset refused.cause is_told is);
+      image_is = end_stays is_told ∙ same_image site.trace back.trace ((refused.left is_told).none offset none);
+      moments = early is_told ((refused.left is_told).none offset none);
     }
 
     pub refused_ends : ((text : List ℕ) (plan : PlanLines) → plan_of text ≡ Ok plan → IsPlan plan)
@@ -414,6 +424,8 @@ module _ (told : Bool) (site back after : SiteSeen) (source : SourceSeen) (fault
             sound = sound;
             released = r;
             exact = λ one. exact_none plan state r.words sound.run.history.run.ends words;
+            exit = exit plan state (λ offset. never site.trace.now.image state offset shows.shows) is_told shows.shows
+                (lefts site.trace.now.image state shows.shows);
           };
       refused = refused_so;
     }

@@ -148,7 +148,7 @@ module _ (call : CallSeen) (run : RunEnds call) where
       go PutFailed is cause tells = absurd (let lt = cause.0 in omega arith)
 
   pub refused_left : IsTrue call.told → (offset : ℕ) → ShowsNone (image_at_entry call) offset → IsLeftRefused call
-  refused_left told offset none = record { status_is = which; image_is = left }
+  refused_left told offset none = record { status_is = which; image_is = refusal.image_is }
     where
       refusal : IsRefused call run.account offset
       refusal = run.refused told offset none
@@ -174,15 +174,6 @@ module _ (call : CallSeen) (run : RunEnds call) where
         | inr rest ↦ elim rest [
           | inl fault ↦ elim (exact (SiteFault fault.0) fault.1 (λ z. absurd (omega arith))) [ inl five ↦ inr (inl five) | inr five ↦ inr (inl five) ]
           | inr memory ↦ elim (exact NoMemory memory (λ z. absurd (omega arith))) [ inl six ↦ inr (inr six) | inr five ↦ inr (inl five) ]
-        ]
-      ]
-
-      left : call.status ≡ 7 → call.site_after.trace.now.image ≡ image_at_entry call
-      left seven = elim refusal.came_is [
-        | inl is ↦ refusal.image_is is
-        | inr rest ↦ elim rest [
-          | inl fault ↦ elim (exact (SiteFault fault.0) fault.1 (λ z. absurd (omega arith))) [ inl five ↦ absurd (omega arith) | inr five ↦ absurd (omega arith) ]
-          | inr memory ↦ elim (exact NoMemory memory (λ z. absurd (omega arith))) [ inl six ↦ absurd (omega arith) | inr five ↦ absurd (omega arith) ]
         ]
       ]
 

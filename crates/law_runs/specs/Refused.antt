@@ -5,12 +5,11 @@ use Rattle.sdls_outside.specs.Disk.{Leaves}
 use Rattle.sdls_outside.specs.Faults.{HasCause}
 use Rattle.sdls_outside.specs.Moments.{EachMoment}
 use Rattle.sdls_outside.specs.Site as sites
-use Rattle.unit_image.specs.Image.{OnlySyncs}
 use Rattle.record_io.specs.declared.status.TheConstants.{SITE_FAULT}
 use Rattle.record_io.specs.Answers.{answer_octets}
 use Rattle.unit_image.specs.declared.fault.OpenFault.{OpenFault}
 use Rattle.unit_image.specs.declared.fault.OpenFault.TheVariants as faults
-use Rattle.unit_image.specs.OpeningImage.{IsOpenCause, Opening}
+use Rattle.unit_image.specs.OpeningImage.{IsOpenCause, LeavesShown, Opening}
 use Rattle.unit_image.specs.Shows.{ShowsNone}
 use Rattle.run_promise.specs.Site.{SiteSeen}
 use Rattle.run_promise.specs.declared.end.RunEnd.{RunEnd}
@@ -27,8 +26,8 @@ refused_end faults.NoMemory = ends.NoMemory
 -- The opening gave the site back with this fault, and then End was put on it, or a front of it. A fault of the site
 -- that came before is told, else why the book was not opened.
 pub record Refused (told : Bool) (site back after : SiteSeen) (fault : OpenFault) (status : ℕ) : Type 0 where
-  pub cause : IsOpenCause site.faults back.faults
-      (λ offset. IsTrue told → ShowsNone site.trace.now.image offset × OnlySyncs site.trace back.trace) fault
+  pub cause : IsOpenCause site.faults back.faults (λ offset. IsTrue told → ShowsNone site.trace.now.image offset) fault
+  pub left : IsTrue told → LeavesShown site.trace back.trace fault
   pub opening : IsTrue told → EachMoment site.trace back.trace (Opening site.trace)
   -- the image as it reads is one that a crash may leave, before the opening and behind it
   pub stays : IsTrue told → Leaves site.trace.now site.trace.now.image × Leaves back.trace.now back.trace.now.image

@@ -32,12 +32,11 @@ abbrev pub GoesToItsEnd : (call : CallSeen) → RunEnds call → Type 0
 GoesToItsEnd call ends = (ends.account.came ≡ Ended) ⊎ (((offset : ℕ) × (ends.account.came ≡ Malformed offset))
     ⊎ (((count : ℕ) × (ends.account.came ≡ SourceFault count)) × Rose call.source.faults call.source_after.faults))
 
--- The status is that of the refused image, of a fault of the site, or of lack of memory; with the first the image is as
--- it was.
+-- The status is that of the refused image, of a fault of the site, or of lack of memory; the image is as it was.
 pub record IsLeftRefused (call : CallSeen) : Type 0 where
   pub status_is : (call.status ≡ status.NO_STATE)
       ⊎ ((call.status ≡ status.SITE_FAULT) ⊎ (call.status ≡ status.NO_MEMORY))
-  pub image_is : call.status ≡ status.NO_STATE → call.site_after.trace.now.image ≡ image_at_entry call
+  pub image_is : call.site_after.trace.now.image ≡ image_at_entry call
 
 -- the history is full: a record without an answer needs an entry, or all have one, and a release is due
 pub record EndsWithFullHistory (call : CallSeen) (ends : RunEnds call) : Type 0 where

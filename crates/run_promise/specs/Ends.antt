@@ -7,7 +7,6 @@ use Rattle.sdls_base.specs.declared.entry.Entry.{Entry}
 use Rattle.sdls_outside.specs.Faults.{Rose}
 use Rattle.sdls_outside.specs.Disk.{Leaves}
 use Rattle.sdls_outside.specs.Moments.{EachMoment}
-use Rattle.unit_image.specs.OpeningImage.{LeftByOpening}
 use Rattle.key_book.specs.KeyBook.{place_of}
 use Rattle.record_io.specs.declared.status.TheConstants as status
 use Rattle.record_io.specs.Places.{records_of}
@@ -29,6 +28,7 @@ use Rattle.run_promise.specs.Call.{CallSeen, ShowsAtEntry, image_at_entry, sunk_
 use Rattle.run_promise.specs.Account.{Account, AreAnswered, SaysSiteFailed, course_of, deeds_in, end_octets}
 use Rattle.run_promise.specs.Causes.{CameBy, TellsEnd, StoodUntilRelease, PutsDue, PutsFront}
 use Rattle.run_promise.specs.Words.{MovedWords}
+use Rattle.run_promise.specs.Exit.{StandsAtExit}
 
 -- An early moment: what a crash then leaves of the image, one at the entry may leave too, and nothing but End was sunk.
 pub record IsEarly (call : CallSeen) (told : RunEnd) (image sunk : List ℕ) : Type 0 where
@@ -74,34 +74,27 @@ pub record IsReleased (call : CallSeen) (account : Account) (state : State) (end
       (deeds_in account)
 
 -- The image at the entry shows this state of this plan: the run is sound, the keys are released, and one lane alone is
--- exact.
+-- exact. At the exit the image shows what the entries made of it.
 pub record ServesSoundly (call : CallSeen) (account : Account) (plan : PlanLines) (state : State) : Type 0 where
   pub sound : IsSoundCall call account plan state
   pub released : IsReleased call account state sound.run.history.run.ends
   pub exact : OneLane (records_of account.handled)
       → IsExact call account plan state released.words sound.run.history.run.ends
+  pub exit : StandsAtExit call account state
 
 -- why the book over a refused image was not opened: that the image shows no state, a fault of the site, or want of
 -- memory
 abbrev pub IsOpenRefusal : ℕ → RunEnd → Type 0
 IsOpenRefusal offset came = (came ≡ NoState offset) ⊎ (((count : ℕ) × (came ≡ SiteFault count)) ⊎ (came ≡ NoMemory))
 
--- A moment of a call whose book was not opened: the image is one that a crash at the entry may leave, or one that the
--- opening of that at the entry may leave; nothing but End was sunk.
-pub record IsUnopened (call : CallSeen) (told : RunEnd) (image sunk : List ℕ) : Type 0 where
-  pub image_is : Leaves call.site.trace.now image ⊎ LeftByOpening (image_at_entry call) image
-  pub only_end : sunk_since call sunk ≡ take (length (sunk_since call sunk)) (end_octets call told)
-
--- A refused image: no book was opened, so nothing was taken of the source, and nothing is put but End. Where that is
--- the end that came, the image is as it was, and each moment is early.
+-- A refused image: no book was opened, so nothing was taken of the source, and nothing is put but End. The image is as
+-- it was, and each moment is early.
 pub record IsRefused (call : CallSeen) (account : Account) (offset : ℕ) : Type 0 where
   pub came_is : IsOpenRefusal offset account.came
   pub source_is : call.source_after ≡ call.source
   pub no_entries : call.entries ≡ []
-  pub moments : EachMoment call.site.trace call.site_after.trace (IsUnopened call account.told)
-  pub image_is : account.came ≡ NoState offset → call.site_after.trace.now.image ≡ image_at_entry call
-  pub early : account.came ≡ NoState offset → EachMoment call.site.trace call.site_after.trace
-      (IsEarly call account.told)
+  pub image_is : call.site_after.trace.now.image ≡ image_at_entry call
+  pub moments : EachMoment call.site.trace call.site_after.trace (IsEarly call account.told)
 
 -- How a run ends, over its account.
 pub record RunEnds (call : CallSeen) : Type 0 where

@@ -24,5 +24,6 @@ pub mod Account
 pub mod Words
 pub mod Alone
 pub mod Causes
+pub mod Exit
 pub mod Ends
 pub mod Lives
