@@ -1,5 +1,5 @@
 -- What `stat` puts, and what its moments leave, for `tell_state` and `run_stat`.
-use Rattle.std.proofs.Common.{◌≡◌, ◌⊎◌, inl, inr, ℕ, ◌+◌, ◌≤◌, Bool, IsTrue, List, [], ◌∷◌, ◌++◌, length, take, refl, sym, ◌∙◌, ap, subst, arith, append_assoc, Ok}
+use Rattle.std.proofs.Common.{◌≡◌, ◌≢◌, ◌⊎◌, inl, inr, ℕ, ◌+◌, ◌≤◌, Bool, IsTrue, List, [], ◌∷◌, ◌++◌, length, take, refl, sym, ◌∙◌, ap, subst, arith, append_assoc, Ok}
 use Rattle.std.proofs.lemmas.List.{length-append}
 use Rattle.sdls_outside.specs.Disk.{Leaves}
 use Rattle.sdls_outside.specs.Faults.{Rose}
@@ -17,7 +17,9 @@ use Rattle.unit_image.specs.declared.fault.OpenFault.TheVariants as faults
 use Rattle.unit_state.specs.declared.state.State.{State}
 use Rattle.unit_state.specs.Restart.{restarted}
 use Rattle.unit_state.specs.History.{after_first}
-use Rattle.unit_image.specs.OpeningImage.{IsOpenCause, Opening}
+use Rattle.unit_image.specs.OpeningImage.{IsOpenCause, LeavesShown, Opening, ShowsUnlessFailed}
+use Rattle.unit_image.proofs.OpenFaults.{same_image}
+use Rattle.unit_book.proofs.Opened.{shown_rests}
 use Rattle.unit_image.specs.Shows.{Shows, ShowsNone}
 use Rattle.run_promise.specs.Log.{entries_of}
 use Rattle.run_promise.specs.Site.{SiteSeen}
@@ -26,7 +28,7 @@ use Rattle.sdls_plain.specs.declared.stat.StatEnd.{StatEnd}
 use Rattle.sdls_plain.specs.declared.stat.StatEnd.TheVariants.{Told, SiteFault, NoMemory, NoState}
 use Rattle.sdls_outside.specs.Output.{OnlySinks, SinksFront}
 use Rattle.record_io.specs.Outcome.{Ends}
-use Rattle.sdls_plain.specs.Stat.{IsLeft, PutsText, ShowsAlone, StatMoment, StatDue, TellsBook, end_of_open, fault_text}
+use Rattle.sdls_plain.specs.Stat.{IsLeft, PutsText, ShowsAlone, StatMoment, StatDue, TellsBook, end_of_open, fault_text, stat_status}
 use Rattle.sdls_plain.proofs.Sinking.{sinks_leave}
 
 -- a book whose log is one piece serves the state at its start alone
@@ -174,10 +176,6 @@ refused_moments told text due status entry mid new rose opening ends is =
     (λ image sunk leaves. opening_moment entry image mid.now.sunk (opening.each image mid.now.sunk (moment_now mid (clock entry) image leaves)))
     (sinks_leave mid new (ends_sink told text due status mid new rose ends is)))
 
-same_image : (old new : Trace) → OnlySyncs old new → new.now.image ≡ old.now.image
-same_image old new (inl same) = ap (λ (t : Trace). t.now.image) same
-same_image old new (inr synced) = synced.image
-
 -- an image that was refused is left
 pub refused_left : (told : Bool) (text : List ℕ) (due status : ℕ) (entry mid new : Trace) (rose : Type 0)
     → OnlySyncs entry mid → Leaves entry.now entry.now.image → Ends told mid new rose text due status → IsTrue told → IsLeft entry new
@@ -193,19 +191,32 @@ refused_left told text due status entry mid new rose only stays ends is =
           (sinks_leave mid new sinks)),
     )
 
--- what refuses an image refuses it, and nothing else does
-pub image_refused : (before mid : ℕ) (None : ℕ → Type 0) (fault : OpenFault) (offset : ℕ) → end_of_open fault ≡ NoState offset
-    → IsOpenCause before mid None fault → None offset
-image_refused before mid None (faults.SiteFault count) offset is cause = absurd cc
-image_refused before mid None (faults.Image at) offset is cause = subst None (inside at offset is) cause
-  where
-    inside : (a b : ℕ) → NoState a ≡ NoState b → a ≡ b
-    inside a b same = cc
-image_refused before mid None faults.NoMemory offset is cause = absurd cc
+-- a book that was opened tells its state alone at the end
+pub alone_now : (opened last : Trace) (state : State) → EachMoment opened last (λ image sunk. ShowsAlone state image)
+    → Leaves last.now last.now.image → ShowsAlone state last.now.image
+alone_now opened last state each stays = each.each last.now.image last.now.sunk (moment_now last (clock opened) last.now.image stays)
 
--- a book that was opened was not refused
-pub not_refused : (book : BookView) (text : List ℕ) (end : StatEnd) (offset : ℕ) → end ≡ NoState offset → TellsBook book text end → ⊥
-not_refused book text Told offset is tells = absurd cc
-not_refused book text SiteFault offset is tells = tells
-not_refused book text NoMemory offset is tells = absurd cc
-not_refused book text (NoState at) offset is tells = tells
+-- the image shows the state that it showed
+pub still_shown : ((image : List ℕ) (one other : State) → Shows image one → Shows image other → one ≡ other) → (entry last : Trace) (start : State) → Shows entry.now.image start → ShowsAlone start last.now.image
+    → (state : State) → Shows entry.now.image state → Shows last.now.image state
+still_shown once entry last start shows alone state other =
+    subst (Shows last.now.image) (shown_rests entry.now.image start shows ∙ once entry.now.image start state shows other) alone.shows
+
+-- a put that is no fault of the image leaves what an opening left that failed
+pub fault_leaves : (told : Bool) (entry mid new : Trace) (rose : Type 0) (fault : OpenFault) (status : ℕ) → LeavesShown entry mid fault
+    → Ends told mid new rose (fault_text (end_of_open fault)) (stat_status (end_of_open fault)) status → IsTrue told
+    → (state : State) → Shows entry.now.image state → end_of_open fault ≢ SiteFault → Shows new.now.image state
+fault_leaves told entry mid new rose fault status left ends is state shows other =
+    let sinks = ends_sink told (fault_text (end_of_open fault)) (stat_status (end_of_open fault)) status mid new rose ends is in
+    subst (λ (image : List ℕ). Shows image state) (sym sinks.stands.image) (go fault other (left.stands state shows))
+  where
+    go : (f : OpenFault) → end_of_open f ≢ SiteFault → ShowsUnlessFailed mid.now.image state f → Shows mid.now.image state
+    go (faults.SiteFault count) other shown = absurd (other refl)
+    go (faults.Image offset) other shown = shown
+    go faults.NoMemory other shown = shown
+
+-- an opening that failed told no state
+pub not_told : (fault : OpenFault) → end_of_open fault ≡ Told → ⊥
+not_told (faults.SiteFault count) is = cc
+not_told (faults.Image offset) is = cc
+not_told faults.NoMemory is = cc

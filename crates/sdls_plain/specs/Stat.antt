@@ -1,5 +1,5 @@
 -- How `stat` ends (profile).
-use Rattle.std.specs.Prelude.{◌≡◌, ◌⊎◌, ℕ, Bool, IsTrue, List, ◌++◌, codes, decimal, Ok}
+use Rattle.std.specs.Prelude.{◌≡◌, ◌≢◌, ◌⊎◌, ℕ, Bool, IsTrue, List, ◌++◌, codes, decimal, Ok}
 use Rattle.sdls_outside.specs.Disk.{Leaves}
 use Rattle.sdls_outside.specs.Moments.{Trace, EachMoment, Between}
 use Rattle.unit_image.specs.Image.{held, IsOpenedForm, used_next}
@@ -86,11 +86,15 @@ abbrev pub IsLeft : Trace → Trace → Type 0
 IsLeft old new = (new.now.image ≡ old.now.image) × EachMoment old new (λ image sunk. Leaves old.now image)
 
 -- How `stat` ends: with the text and the status that are due, or a front of the text if a put failed; and what its
--- moments leave. An image that shows no state is left as it was.
+-- moments leave.
 pub record EndsStat (told : Bool) (old new : Trace) (site_rose : Type 0) (status : ℕ) : Type 0 where
   pub end : StatEnd
   pub text : List ℕ
   pub due : StatDue told site_rose old.now.image text end
   pub put : PutsText told text (stat_status end) status old new site_rose
   pub moments : IsTrue told → EachMoment old new (λ image sunk. StatMoment old image)
-  pub refused : (offset : ℕ) → end ≡ NoState offset → IsTrue told → IsLeft old new
+  -- an image that shows no state is left as it was, whatever the end
+  pub refused : IsTrue told → (offset : ℕ) → ShowsNone old.now.image offset → IsLeft old new
+  -- one that shows a state shows it still, unless the site failed; where that was told, it has no opened form
+  pub stands : IsTrue told → (state : State) → Shows old.now.image state → end ≢ SiteFault → Shows new.now.image state
+  pub alone : IsTrue told → end ≡ Told → (form : List ℕ) → ¬ IsOpenedForm new.now.image form

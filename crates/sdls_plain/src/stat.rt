@@ -18,7 +18,7 @@ use sdls_outside::{Failed, Site};
 use status_text::status_text;
 use std::alloc::Global;
 use unit_book::Book;
-use unit_image::OpenFault;
+use unit_image::{OpenFault, refused_with_one, shows_one};
 
 /// Why `stat` ends.
 #[derive(Clone, Copy, Debug, PartialEq, Eq)]
@@ -172,6 +172,8 @@ pub(crate) fn run_stat<O: Site>(alloc: Global, site: O) -> Outcome<O>
     ensures quiet { result.status ≢ SITE_FAULT → O.faults result.site ≡ O.faults site }
     ensures no_history { result.entries.items ≡ [] }
 {
+    shows_one();
+    refused_with_one();
     match Book::open(alloc, site) {
         Ok(book) => tell_state(alloc, book),
         Err((fault, site)) => tell_fault(alloc, fault, site),

@@ -2,9 +2,8 @@ use Rattle.std.proofs.Common.{◌≡◌, IsTrue, subst, sym, ap, arith}
 use Rattle.sdls_outside.specs.Faults.{Rose}
 use Rattle.unit_image.specs.Shows.{Shows, ShowsNone}
 use Rattle.unit_book.specs.Book.{BookView}
-use Rattle.unit_image.specs.Image.{OnlySyncs}
 use Rattle.sdls_plain.specs.Stat.{end_of_open, fault_text, stat_status}
-use Rattle.sdls_plain.proofs.Telling.{all_moments, ends_put, fault_due, image_refused, not_refused, puts_from, refused_left, refused_moments, sunk_same, told_due}
+use Rattle.sdls_plain.proofs.Telling.{all_moments, alone_now, ends_put, fault_due, fault_leaves, not_told, puts_from, refused_left, refused_moments, still_shown, sunk_same, told_due}
 use Rattle.sdls_plain.proofs.stat.run_stat.Goals as goal
 
 pub returns-in-Ok-clause-ends : goal.returns-in-Ok-clause-ends
@@ -24,7 +23,13 @@ returns-in-Ok-clause-ends g c =
           (λ is. sunk_same (g.O.Site.trace site) book.site.trace (c.in-Ok.ensures.stays is) (c.in-Ok.ensures.any_moment is)) told.3;
       moments = λ is. all_moments (g.O.Site.trace site) book.site.trace (g.O.Site.trace last) book.start (c.in-Ok.ensures.shows is).0
           (c.in-Ok.ensures.any_moment is) (c.tell_state.ensures.moments is);
-      refused = λ offset ends is. absurd (not_refused book told.1 told.0 offset ends told.2);
+      refused = λ is offset none.
+          absurd (c.refused_with_one.ensures.none (g.O.Site.trace site).now.image book.start offset (c.in-Ok.ensures.shows is).0 none);
+      stands = λ is state shows other.
+          still_shown c.shows_one.ensures (g.O.Site.trace site) (g.O.Site.trace last) book.start (c.in-Ok.ensures.shows is).0
+          (alone_now book.site.trace (g.O.Site.trace last) book.start (c.tell_state.ensures.moments is) (g.met.O.Site.image_may_stay last is)) state shows;
+      alone = λ is ends.
+          (alone_now book.site.trace (g.O.Site.trace last) book.start (c.tell_state.ensures.moments is) (g.met.O.Site.image_may_stay last is)).no_form;
     }
 
 pub returns-in-Err-clause-ends : goal.returns-in-Err-clause-ends
@@ -35,8 +40,8 @@ returns-in-Err-clause-ends g c =
       end = end_of_open fault;
       text = fault_text (end_of_open fault);
       due = fault_due g.O.Site.told (g.O.Site.trace site).now.image (g.O.Site.faults site) (g.O.Site.faults mid) (g.O.Site.faults last)
-          (λ offset. IsTrue g.O.Site.told → ShowsNone (g.O.Site.trace site).now.image offset × OnlySyncs (g.O.Site.trace site) (g.O.Site.trace mid)) fault
-          c.tell_fault.ensures.later (λ offset none is. (none is).0) c.in-Err.ensures.refused;
+          (λ offset. IsTrue g.O.Site.told → ShowsNone (g.O.Site.trace site).now.image offset) fault
+          c.tell_fault.ensures.later (λ offset none is. none is) c.in-Err.ensures.refused;
       put = puts_from g.O.Site.told (fault_text (end_of_open fault)) (stat_status (end_of_open fault)) c.tell_fault.result.status (g.O.Site.trace site)
           (g.O.Site.trace mid) (g.O.Site.trace last) (Rose (g.O.Site.faults site) (g.O.Site.faults last)) (Rose (g.O.Site.faults mid) (g.O.Site.faults last))
           (λ late. omega (arith, late))
@@ -46,10 +51,11 @@ returns-in-Err-clause-ends g c =
       moments = λ is. refused_moments g.O.Site.told (fault_text (end_of_open fault)) (stat_status (end_of_open fault)) c.tell_fault.result.status
           (g.O.Site.trace site) (g.O.Site.trace mid) (g.O.Site.trace last) (Rose (g.O.Site.faults mid) (g.O.Site.faults last))
           (c.in-Err.ensures.any_moment is) c.tell_fault.ensures.ends is;
-      refused = λ offset ends is. refused_left g.O.Site.told (fault_text (end_of_open fault)) (stat_status (end_of_open fault)) c.tell_fault.result.status
+      refused = λ is offset none. refused_left g.O.Site.told (fault_text (end_of_open fault)) (stat_status (end_of_open fault)) c.tell_fault.result.status
           (g.O.Site.trace site) (g.O.Site.trace mid) (g.O.Site.trace last) (Rose (g.O.Site.faults mid) (g.O.Site.faults last))
-          (image_refused (g.O.Site.faults site) (g.O.Site.faults mid)
-          (λ offset. IsTrue g.O.Site.told → ShowsNone (g.O.Site.trace site).now.image offset × OnlySyncs (g.O.Site.trace site) (g.O.Site.trace mid)) fault offset ends
-          c.in-Err.ensures.refused is).1
-          (g.met.O.Site.image_may_stay site is) c.tell_fault.ensures.ends is;
+          ((c.in-Err.ensures.left is).none offset none) (g.met.O.Site.image_may_stay site is) c.tell_fault.ensures.ends is;
+      stands = λ is state shows other. fault_leaves g.O.Site.told (g.O.Site.trace site) (g.O.Site.trace mid) (g.O.Site.trace last)
+          (Rose (g.O.Site.faults mid) (g.O.Site.faults last)) fault c.tell_fault.result.status (c.in-Err.ensures.left is) c.tell_fault.ensures.ends is
+          state shows other;
+      alone = λ is ends. absurd (not_told fault ends);
     }
