@@ -10,6 +10,9 @@ use Rattle.run_promise.specs.ProtectingFrames.{protect_reply}
 use Rattle.counter_table.specs.declared.view.Turn.{Turn}
 use Rattle.counter_table.specs.declared.view.View.{View}
 use Rattle.counter_table.specs.Turn.{epoch_seen, seeing}
+use Rattle.counter_table.specs.Worker.{view, IsSame}
+use Rattle.counter_table.specs.declared.counters.Counters.{Counters}
+use Rattle.counter_table.specs.declared.counters.Worker.{Worker}
 use Rattle.unit_book.specs.declared.fault.BookFault.{BookFault}
 use Rattle.run_promise.specs.Log.{entries_of}
 use Rattle.unit_book.specs.Book.{BookView}
@@ -18,7 +21,7 @@ use Rattle.shared_unit.specs.declared.permit.Done.{Done}
 use Rattle.shared_unit.specs.declared.permit.Protected.{Protected}
 use Rattle.shared_unit.specs.declared.permit.Protected.TheVariants as answers
 use Rattle.shared_unit.specs.Told.{state_at, entry_count}
-use Rattle.shared_unit.specs.Turn.{FindsCovered, Visits, Loads}
+use Rattle.shared_unit.specs.Turn.{FindsCovered, IsReady, Visits, Loads}
 use Rattle.shared_unit.specs.Numbers.{Draws, ComesBack, RunsOut, UsesNumber}
 use Rattle.shared_unit.specs.Permit.{IsTrueFor, IsOfPermit, IsProtectedUnder, LacksLayout}
 use Rattle.shared_unit.specs.Funding.{Reserves}
@@ -185,3 +188,27 @@ module _ (told : Bool) where
       × ((p : Permit) → kept ≡ Some p → p.link ≡ link → IsOfPermit plan p clear → p.epoch < w.turn.epoch)
   IsByKept plan kept link clear out (Some answer) v w =
       (p : Permit) × (kept ≡ Some p) × IsUsed plan link clear p w.turn × IsKeptStep p clear out (Some answer) v w
+
+-- What `protect` leaves, with this permit kept before and this one behind it. The worker can make further calls, has the
+-- shares that it had, and took the turn once at most.
+pub record ProtectsFrame {B : Type 0} (told : Bool) (counters : Counters B) (plan : PlanLines) (link : ℕ)
+    (clear room out : List ℕ) (before after : Option Permit) (result : Protected) (old new : Worker B) : Type 0 where
+  pub ready : IsReady counters plan new
+  pub same : IsSame old new
+  pub shares : (view new).numbers.shares ≡ (view old).numbers.shares
+  pub turn : TakesAtMostOnce told (view old).turn (view new).turn
+  -- the answer is the one that is due, and a permit that is kept is true
+  pub step : IsProtectStep told plan link clear out after result (view old) (view new)
+  pub kept : IsTrueIfKept after (view new).turn
+  pub leaves : LeavesUnprotected result room out
+  -- no number was spent by the worker that is not below its row's mark in the book that the call found, if it took the
+  -- turn
+  pub covered : CoversIfTaken told (view old) (view new)
+  -- the epoch beside an answer is the one loaded last, or that of the book held; where the plan is enough there is none
+  pub epochs : (channel : ℕ) → channel_check plan link clear ≡ Ok (Some channel)
+      → IfEpoch result (IsEpochOf told (view old).turn (view new).turn)
+  -- with the kept permit, where its epoch was the one loaded last, the turn is taken for a ticket that came back alone
+  pub turns : (p : Permit) (d : Done) → before ≡ Some p → p.link ≡ link → IsOfPermit plan p clear
+      → result ≡ answers.Done d → d.epoch ≡ p.epoch → TakesByTicket (view old) (view new)
+  pub turns_kept : (p : Permit) → before ≡ Some p → p.link ≡ link → IsOfPermit plan p clear
+      → (view new).turn.epoch ≤ p.epoch → TakesByTicket (view old) (view new)

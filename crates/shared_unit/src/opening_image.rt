@@ -1,8 +1,7 @@
 //! The beginning of a unit.
 ghost use Rattle.std.specs.Prelude.{◌≡◌, ◌<◌, ◌≤◌, ◌^◌, ℕ, IsTrue, true, [], IfOk, IfErr, MatchResult};
 ghost use Rattle.sdls_outside.specs.Moments.{EachMoment};
-ghost use Rattle.unit_image.specs.Image.{OnlySyncs};
-ghost use Rattle.unit_image.specs.OpeningImage.{IsOpenCause, Opening};
+ghost use Rattle.unit_image.specs.OpeningImage.{IsOpenCause, LeavesShown, Opening};
 ghost use Rattle.unit_image.specs.Shows.{ShowsNone};
 ghost use Rattle.counter_table.specs.Known.{known_mark};
 ghost use Rattle.counter_table.specs.Worker.{view, IsOf};
@@ -19,7 +18,7 @@ use sdls_outside::Site;
 use std::alloc::Global;
 use std::sync::Wait;
 use unit_book::Book;
-use unit_image::OpenFault;
+use unit_image::{OpenFault, refused_with_one, shows_one};
 
 // A row for each key that a book can have.
 const ROWS: u16 = MOST_KEYS as u16;
@@ -96,10 +95,14 @@ impl<O: Site> Unit<O> {
             × BookIsOpened O.told (site_seen O.trace O.faults O.put_faults site) book
             × Begins book made.0.counters made.0.plan made.1) }
 
-        // Only an image that shows no state is refused as one, and nothing is written then.
+        // Only an image that shows no state is refused as one.
         ensures refused { IfErr result (λ refused. IsOpenCause (O.faults site) (O.faults refused.1)
-            (λ offset. IsTrue O.told → ShowsNone (O.trace site).now.image offset
-            × OnlySyncs (O.trace site) (O.trace refused.1)) refused.0) }
+            (λ offset. IsTrue O.told → ShowsNone (O.trace site).now.image offset) refused.0) }
+
+        // An image that shows no state stands as it was, whatever is answered. One that shows a state shows it still,
+        // unless the site failed.
+        ensures left { IsTrue O.told → IfErr result (λ refused. LeavesShown (O.trace site) (O.trace refused.1)
+            refused.0) }
 
         // A crash at any moment leaves what one before may have left, or what the opening of the image may leave.
         ensures any_moment { IfErr result (λ refused. IsTrue O.told
@@ -107,6 +110,8 @@ impl<O: Site> Unit<O> {
         ensures later { IfErr result (λ refused. O.faults site ≤ O.faults refused.1) }
         ensures puts { IfErr result (λ refused. O.put_faults refused.1 ≡ O.put_faults site) }
     {
+        shows_one();
+        refused_with_one();
         let book = match Book::open(alloc, site) {
             Ok(book) => book,
             Err(refused) => return Err(refused),

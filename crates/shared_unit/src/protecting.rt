@@ -7,9 +7,9 @@ ghost use Rattle.counter_table.specs.Worker.{view, IsSame};
 ghost use Rattle.shared_unit.specs.declared.permit.Permit.{Permit};
 ghost use Rattle.shared_unit.specs.declared.permit.Done.{Done};
 ghost use Rattle.shared_unit.specs.Permit.{IsOfPermit, IsTrueFor};
-ghost use Rattle.shared_unit.specs.Protecting.{CoversIfTaken, FindsEpoch, IfEpoch, IsByKept, IsEpochOf, IsKeptStep};
-ghost use Rattle.shared_unit.specs.Protecting.{IsProtectStep, IsTrueIfKept, LeavesUnanswered};
-ghost use Rattle.shared_unit.specs.Protecting.{LeavesUnprotected, TakesAtMostOnce, TakesByTicket};
+ghost use Rattle.shared_unit.specs.Protecting.{CoversIfTaken, FindsEpoch, IfEpoch, IsByKept, IsKeptStep, IsProtectStep};
+ghost use Rattle.shared_unit.specs.Protecting.{IsTrueIfKept, LeavesUnanswered, LeavesUnprotected, ProtectsFrame};
+ghost use Rattle.shared_unit.specs.Protecting.{TakesAtMostOnce};
 ghost use Rattle.shared_unit.specs.Turn.{FindsCovered, IsReady};
 
 use crate::permit::{Permit, PermitReply, Protected, Ready};
@@ -160,33 +160,8 @@ impl<O: Site> Unit<O> {
         requires ready { IsReady self.now.counters self.now.plan worker.old }
         requires kept { IsTrueIfKept kept.old (view worker.old).turn }
         requires room { length out.old ≡ FRAME_ROOM }
-        ensures ready { IsReady self.now.counters self.now.plan worker.new }
-        ensures same { IsSame worker.old worker.new }
-        ensures shares { (view worker.new).numbers.shares ≡ (view worker.old).numbers.shares }
-        ensures turn { TakesAtMostOnce O.told (view worker.old).turn
-            (view worker.new).turn }
-        ensures kept { IsTrueIfKept kept.new (view worker.new).turn }
-        ensures step { IsProtectStep O.told self.now.plan link clear.now out.new kept.new
-            result (view worker.old) (view worker.new) }
-        ensures leaves { LeavesUnprotected result out.old out.new }
-
-        // No number was spent by the worker that is not below its row's mark in the book that the call found, if it
-        // took the turn.
-        ensures covered { CoversIfTaken O.told (view worker.old) (view worker.new) }
-
-        // The epoch beside an answer is the one loaded last, or that of the book held; where the plan is enough there
-        // is none.
-        ensures epochs { (channel : ℕ) → channel_check self.now.plan link clear.now ≡ Ok (Some channel)
-            → IfEpoch result (IsEpochOf O.told (view worker.old).turn
-            (view worker.new).turn) }
-
-        // With the kept permit, where its epoch was the one loaded last, the turn is taken for a ticket that came back
-        // alone.
-        ensures turns { (p : Permit) (d : Done) → kept.old ≡ Some p → p.link ≡ link
-            → IsOfPermit self.now.plan p clear.now
-            → result ≡ Protected.Done d → d.epoch ≡ p.epoch → TakesByTicket (view worker.old) (view worker.new) }
-        ensures turns_kept { (p : Permit) → kept.old ≡ Some p → p.link ≡ link → IsOfPermit self.now.plan p clear.now
-            → (view worker.new).turn.epoch ≤ p.epoch → TakesByTicket (view worker.old) (view worker.new) }
+        ensures { ProtectsFrame O.told self.now.counters self.now.plan link clear.now out.old out.new kept.old kept.new
+            result worker.old worker.new }
     {
         let channel = match frame_checks::channel(&self.plan, link, clear) {
             Err(fault) => return Protected::Refused(fault, 0),
