@@ -39,6 +39,7 @@ returns-in-Err g c =
     (sym c.refuse.ensures.entries)
     (c.refused_run_ends.ensures told (seen c.args.site) (seen c.in-Err.site) (seen c.refuse.result.site) source c.in-Err.fault c.refuse.result.status (record {
       cause = c.in-Err.ensures.refused;
+      left = c.in-Err.ensures.left;
       opening = c.in-Err.ensures.any_moment;
       stays = λ is_told. (c.image_stays.ensures c.args.site is_told, c.image_stays.ensures c.in-Err.site is_told);
       later = c.in-Err.ensures.later;
