@@ -9,3 +9,4 @@ pub mod Free
 pub mod Allowed
 pub mod NeedsAlike
 pub mod Fronts
+pub mod ReplyLengths

@@ -2,7 +2,8 @@ ghost use Rattle.std.specs.Prelude.{◌≡◌};
 ghost use Rattle.ep_core.specs.Refusal.{code_of, value_of};
 
 use crate::refusal::Refusal;
-use sdls_base::{KeyId, Octets};
+use crate::reply_octets::ReplyOctets;
+use sdls_base::KeyId;
 
 /// The reply to a command.
 #[derive(Drop)]
@@ -14,7 +15,7 @@ pub enum Reply {
         /// The number that was used, or 0.
         number: u64,
         /// The message that tells it.
-        pdu: Octets,
+        pdu: ReplyOctets,
     },
     /// The command was refused, and nothing changed.
     Refused {

@@ -1,11 +1,12 @@
 //! The parts of a step: a change with the reply that tells it.
 
 ghost use Rattle.std.specs.Prelude.{◌≡◌, IfOk};
-ghost use Rattle.ep_codec.specs.ReplyPdu.{IsInBounds};
+ghost use Rattle.ep_codec.specs.ReplyPdu.{IsInBounds, reply_octets};
 ghost use Rattle.ep_core.specs.Step.{done, refused, using_number};
 
 use crate::refusal::Refusal;
 use crate::reply::Reply;
+use crate::reply_octets::ReplyOctets;
 use ep_codec::{ReplyPdu, write_reply};
 use sdls_base::{Change, KeyId, NoMemory};
 use std::alloc::Global;
@@ -17,6 +18,15 @@ pub(crate) fn refused(refusal: Refusal) -> (Change, Reply)
     (Change::Nothing, Reply::refused(refusal))
 }
 
+/// Writes the message of a reply.
+fn write(alloc: Global, pdu: &ReplyPdu) -> Result<ReplyOctets, NoMemory>
+    requires { IsInBounds pdu.now }
+    ensures { IfOk result (λ octets. octets ≡ reply_octets pdu.now) }
+{
+    let octets = write_reply(alloc, pdu)?;
+    Ok(ReplyOctets::new(octets))
+}
+
 /// A change, with its reply.
 pub(crate) fn done(
     alloc: Global,
@@ -26,7 +36,7 @@ pub(crate) fn done(
     requires { IsInBounds pdu.now }
     ensures { IfOk result (λ step. step ≡ done change pdu.now) }
 {
-    let pdu = write_reply(alloc, pdu)?;
+    let pdu = write(alloc, pdu)?;
     Ok((
         change,
         Reply::Done {
@@ -47,7 +57,7 @@ pub(crate) fn using_number(
     requires { IsInBounds pdu.now }
     ensures { IfOk result (λ step. step ≡ using_number key number pdu.now) }
 {
-    let pdu = write_reply(alloc, pdu)?;
+    let pdu = write(alloc, pdu)?;
     Ok((
         Change::Nothing,
         Reply::Done {

@@ -10,7 +10,8 @@ use Rattle.circular_buffer.specs.Buffer.{Buffer, buffer, keep_last, last_item}
 use Rattle.circular_buffer.proofs.Places.{slice_get-append_right}
 use Rattle.fsr_log.specs.declared.events.Event.{Event}
 use Rattle.fsr_log.specs.declared.events.TheConstants.{MOST_EVENTS}
-use Rattle.fsr_log.specs.Noted.{Noted, is_erase, is_reset, is_event, is_alarm, is_open, is_seen, event_of}
+use Rattle.fsr_log.specs.Kinds.{is_event, is_alarm}
+use Rattle.fsr_log.specs.Noted.{Noted, is_erase, is_reset, is_open, is_seen, event_of}
 use Rattle.fsr_log.specs.Report.{Report, behind_last, last_where, events_of, alarm_of, last_open_of, last_seen_of}
 use Rattle.fsr_log.specs.Report.{report_of}
 use Rattle.fsr_log.specs.Steps.{ring_behind, alarm_behind}

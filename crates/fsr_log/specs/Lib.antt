@@ -1,3 +1,4 @@
+pub mod Kinds
 pub mod Noted
 pub mod Message
 pub mod Report

@@ -1,11 +1,9 @@
 -- The answers of a run, as its log takes them (profile).
 use Rattle.std.specs.Prelude.{ℕ, ◌+◌, ◌==◌, ◌&&◌, ◌||◌, Bool, true, false, List, [], ◌∷◌}
-use Rattle.std.specs.Int.{is_in_range}
 use Rattle.record_io.specs.declared.answers.Answer.{Answer}
 use Rattle.record_io.specs.declared.kinds.RecordKind.{RecordKind}
 use Rattle.record_io.specs.declared.kinds.RecordKind.TheVariants.{Protect, Open, Command, Monitor}
-use Rattle.record_io.specs.declared.code.TheConstants.{ACCEPTED, REFUSED, LAYOUT, SPI, NUMBER, EXHAUSTED, SITE_FAULT}
-use Rattle.record_io.specs.declared.code.TheConstants.{NO_MEMORY}
+use Rattle.record_io.specs.declared.code.TheConstants.{ACCEPTED, NUMBER}
 use Rattle.fsr_log.specs.declared.events.Event.{Event}
 use Rattle.fsr_log.specs.declared.messages.TheConstants.{ERASE_LOG, ALARM_RESET}
 use Rattle.record_io.specs.declared.code.TheConstants.{MONITORED}
@@ -16,15 +14,6 @@ pub record Noted : Type 0 where
   pub index : ℕ
   pub kind : RecordKind
   pub answer : Answer
-
--- a refusal: codes 04, 10 to 17, 20 and 31 to 33
-abbrev pub is_event : ℕ → Bool
-is_event code = (code == REFUSED)
-    || (is_in_range LAYOUT NUMBER code || ((code == EXHAUSTED) || is_in_range SITE_FAULT NO_MEMORY code))
-
--- a code that raises the alarm: 12 to 17
-abbrev pub is_alarm : ℕ → Bool
-is_alarm code = is_in_range SPI NUMBER code
 
 -- a code whose answer carries the key and the number that a frame had: 01 and 17
 abbrev pub is_seen : ℕ → Bool

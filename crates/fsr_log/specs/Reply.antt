@@ -1,12 +1,11 @@
 -- The replies to monitoring messages (profile). A reply's tag is that of its message and 80 hexadecimal.
-use Rattle.std.specs.Prelude.{◌≡◌, ℕ, ◌+◌, ◌-◌, ◌*◌, ◌%◌, ◌==◌, Bool, if◌then◌else◌, List, [], ◌∷◌, ◌++◌, length, Some}
+use Rattle.std.specs.Prelude.{◌≡◌, ℕ, ◌+◌, ◌-◌, ◌*◌, ◌%◌, Bool, if◌then◌else◌, List, [], ◌∷◌, ◌++◌, length, Some}
 use Rattle.std.specs.Prelude.{Result, Ok, Err}
 use Rattle.std.specs.List.{flat_map}
-use Rattle.std.specs.Int.{w16, w64, to_be_bytes, is_in_range}
+use Rattle.std.specs.Int.{w16, w64, to_be_bytes}
 use Rattle.aes_block.specs.Aes.{encrypted}
 use Rattle.cmac.specs.Cmac.{mac}
 use Rattle.ep_codec.specs.Command.{message}
-use Rattle.record_io.specs.declared.code.TheConstants.{SPI, COVERAGE, MAC, NUMBER}
 use Rattle.fsr_log.specs.declared.events.Event.{Event}
 use Rattle.fsr_log.specs.declared.events.TheConstants.{MOST_EVENTS}
 use Rattle.fsr_log.specs.declared.messages.Monitoring.{Monitoring}
@@ -14,6 +13,7 @@ use Rattle.fsr_log.specs.declared.messages.Monitoring.TheVariants.{Ping, LogStat
 use Rattle.fsr_log.specs.declared.messages.Monitoring.TheVariants.{AlarmReset}
 use Rattle.fsr_log.specs.declared.messages.TheConstants.{PING, LOG_STATUS, DUMP_LOG, ERASE_LOG, SELF_TEST, ALARM_RESET}
 use Rattle.fsr_log.specs.declared.replies.TheConstants.{REPLY, REPORT_WORD, SELF_TEST_KEY}
+use Rattle.fsr_log.specs.Kinds.{kind_at, kind_bit}
 use Rattle.fsr_log.specs.Message.{IsMonitoring, monitor_fault}
 use Rattle.fsr_log.specs.Report.{Report}
 
@@ -24,8 +24,7 @@ bit set = if set then 1 else 0
 -- association
 abbrev pub first_of_word : Report → ℕ
 first_of_word report =
-    REPORT_WORD + 8 * bit report.alarm + 4 * bit (report.last_open == NUMBER) + 2 * bit (report.last_open == MAC)
-    + bit (is_in_range SPI COVERAGE report.last_open)
+    REPORT_WORD + 8 * bit report.alarm + kind_bit (kind_at report.last_open)
 
 -- the report word: its first octet; the key that was seen last; the low 8 bits of the number that was seen last
 abbrev pub report_word : Report → List ℕ

@@ -5,7 +5,8 @@ use Rattle.std.specs.List.{list_any, filter}
 use Rattle.circular_buffer.specs.Buffer.{keep_last, last_item}
 use Rattle.fsr_log.specs.declared.events.Event.{Event}
 use Rattle.fsr_log.specs.declared.events.TheConstants.{MOST_EVENTS}
-use Rattle.fsr_log.specs.Noted.{Noted, is_event, is_alarm, is_seen, is_open, is_erase, is_reset, event_of}
+use Rattle.fsr_log.specs.Kinds.{is_event, is_alarm}
+use Rattle.fsr_log.specs.Noted.{Noted, is_seen, is_open, is_erase, is_reset, event_of}
 
 -- what stands behind the last that passes the test; all, if none does
 abbrev pub behind_last : (Noted → Bool) → List Noted → List Noted

@@ -5,7 +5,8 @@ use Rattle.record_io.specs.declared.answers.Answer.{Answer}
 use Rattle.fsr_log.specs.declared.events.Event.{Event}
 use Rattle.fsr_log.specs.declared.messages.TheConstants.{ERASE_LOG, ALARM_RESET}
 use Rattle.fsr_log.specs.declared.replies.TheConstants.{REPLY}
-use Rattle.fsr_log.specs.Noted.{is_event, is_alarm, is_reply}
+use Rattle.fsr_log.specs.Kinds.{is_event, is_alarm}
+use Rattle.fsr_log.specs.Noted.{is_reply}
 
 -- the ring: none behind an erased log, one event more behind a refusal
 abbrev pub ring_behind : Buffer Event → ℕ → Answer → Buffer Event

@@ -6,6 +6,7 @@
 #![tactic(auto)]
 
 mod events;
+mod kinds;
 mod laws;
 mod log;
 mod messages;
@@ -13,6 +14,7 @@ mod notes;
 mod replies;
 
 pub use events::{Event, MOST_EVENTS};
+pub use kinds::is_event;
 pub use laws::{events_fit, message_without_fault, one_message};
 pub use log::Log;
 pub use messages::{

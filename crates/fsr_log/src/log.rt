@@ -1,19 +1,20 @@
 //! The log.
-ghost use Rattle.std.specs.Prelude.{◌≡◌, ◌*◌, ◌≤◌, List, [], ◌∷◌, ◌++◌, length, IfOk};
+ghost use Rattle.std.specs.Prelude.{◌≡◌, ◌*◌, ◌^◌, ◌<◌, ◌≤◌, List, [], ◌∷◌, ◌++◌, length, IfOk};
 ghost use Rattle.fsr_log.specs.declared.events.TheConstants.{EVENT, MOST_EVENTS};
 ghost use Rattle.fsr_log.specs.Noted.{Noted};
 ghost use Rattle.fsr_log.specs.Report.{report_of};
 ghost use Rattle.fsr_log.specs.Reply.{Answers, dump, first_of_word, reply_of, report_word};
 
 use crate::events::{EVENT, Event, MOST_EVENTS, put_events};
+use crate::kinds::AnswerKind;
 use crate::messages::{
     ALARM_RESET, DUMP_LOG, ERASE_LOG, LOG_STATUS, Monitoring, PING, SELF_TEST, read_monitoring,
 };
 use crate::notes::{alarm, last_open, last_seen, note_event};
 use crate::replies::{REPORT_WORD, counts, reply_octets, tested};
 use circular_buffer::HeapCircularBuffer;
-use record_io::{Answer, RecordKind, code};
-use sdls_base::{NoMemory, Octets};
+use record_io::{Answer, RecordKind, ShortOctets};
+use sdls_base::NoMemory;
 use std::alloc::Global;
 use std::marker::Model;
 
@@ -73,14 +74,7 @@ impl Log {
     fn first_of_word(&self) -> u8
         ensures { result ≡ first_of_word self.now }
     {
-        let number = self.last_open == code::NUMBER;
-        let mac = self.last_open == code::MAC;
-        let association = matches!(self.last_open, code::SPI..=code::COVERAGE);
-        REPORT_WORD
-            + 8 * u8::from(self.alarm)
-            + 4 * u8::from(number)
-            + 2 * u8::from(mac)
-            + u8::from(association)
+        REPORT_WORD + 8 * u8::from(self.alarm) + AnswerKind::at(self.last_open).bit()
     }
 
     fn report_word(&self) -> [u8; 4]
@@ -104,7 +98,8 @@ impl Log {
     }
 
     fn reply(&self, alloc: Global, message: &Monitoring) -> Result<Vec<u8>, NoMemory>
-        ensures { IfOk result (λ out. out.items ≡ reply_of self.now message.now) }
+        ensures octets { IfOk result (λ out. out.items ≡ reply_of self.now message.now) }
+        ensures short { IfOk result (λ out. length out.items < 2 ^ 32) }
     {
         match message {
             Monitoring::Ping => reply_octets(alloc, PING, &self.report_word()),
@@ -118,13 +113,17 @@ impl Log {
 
     /// Answers octets that should be a monitoring message: the reply, or the offset of their first fault. The log stays
     /// as it is: what an Erase log or an Alarm reset changes comes when its answer is noted.
-    pub fn answer(&self, alloc: Global, message: &[u8]) -> Result<Result<Octets, u32>, NoMemory>
+    pub fn answer(
+        &self,
+        alloc: Global,
+        message: &[u8],
+    ) -> Result<Result<ShortOctets, u32>, NoMemory>
         ensures { IfOk result (Answers self.now message.now) }
     {
         match read_monitoring(message) {
             Ok(message) => {
                 let reply = self.reply(alloc, &message)?;
-                Ok(Ok(Octets::new(reply)))
+                Ok(Ok(ShortOctets::new(reply)))
             }
             Err(offset) => Ok(Err(offset)),
         }

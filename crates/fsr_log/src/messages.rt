@@ -109,7 +109,8 @@ pub fn read_monitoring(octets: &[u8]) -> Result<Monitoring, u32>
 /// The octets of the message with this tag and data.
 pub(crate) fn message_octets(alloc: Global, tag: u8, body: &[u8]) -> Result<Vec<u8>, NoMemory>
     requires short { length body.now < 2 ^ 13 }
-    ensures { IfOk result (λ out. out.items ≡ message tag body.now) }
+    ensures octets { IfOk result (λ out. out.items ≡ message tag body.now) }
+    ensures short { IfOk result (λ out. length out.items < 2 ^ 32) }
 {
     let bits = 8 * body.len() as u16;
     let mut out = Vec::new(alloc);

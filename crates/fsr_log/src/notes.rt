@@ -1,33 +1,14 @@
 //! What one more answer changes.
 ghost use Rattle.std.specs.Prelude.{◌≡◌, if◌then◌else◌};
-ghost use Rattle.fsr_log.specs.Noted.{is_alarm, is_event, is_open, is_reply, is_seen};
+ghost use Rattle.fsr_log.specs.Noted.{is_open, is_reply, is_seen};
 ghost use Rattle.fsr_log.specs.Steps.{alarm_behind, ring_behind};
 
 use crate::events::Event;
+use crate::kinds::{AnswerKind, is_event};
 use crate::messages::{ALARM_RESET, ERASE_LOG};
 use crate::replies::REPLY;
 use circular_buffer::HeapCircularBuffer;
 use record_io::{Answer, RecordKind, code};
-
-/// If a code is that of a refusal, which the log keeps.
-fn is_event(code: u8) -> bool
-    ensures { result ≡ is_event code }
-{
-    matches!(
-        code,
-        code::REFUSED
-            | code::LAYOUT..=code::NUMBER
-            | code::EXHAUSTED
-            | code::SITE_FAULT..=code::NO_MEMORY
-    )
-}
-
-/// If a code raises the alarm.
-fn is_alarm(code: u8) -> bool
-    ensures { result ≡ is_alarm code }
-{
-    matches!(code, code::SPI..=code::NUMBER)
-}
 
 /// If the answer is the reply to a monitoring message with this tag.
 fn is_reply(answer: &Answer, tag: u8) -> bool
@@ -59,7 +40,7 @@ pub(crate) fn note_event(events: &mut HeapCircularBuffer<Event>, index: u64, ans
 pub(crate) fn alarm(before: bool, answer: &Answer) -> bool
     ensures { result ≡ alarm_behind before answer.now }
 {
-    !is_reply(answer, REPLY + ALARM_RESET) && (before || is_alarm(answer.code))
+    !is_reply(answer, REPLY + ALARM_RESET) && (before || AnswerKind::at(answer.code).raises_alarm())
 }
 
 /// The code of the last answer to an Open record.

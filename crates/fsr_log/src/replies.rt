@@ -24,7 +24,8 @@ pub const SELF_TEST_KEY: [u8; 16] = [0, 1, 2, 3, 4, 5, 6, 7, 8, 9, 10, 11, 12, 1
 pub(crate) fn reply_octets(alloc: Global, tag: u8, body: &[u8]) -> Result<Vec<u8>, NoMemory>
     requires tag { tag + REPLY < 2 ^ 8 }
     requires short { length body.now < 2 ^ 13 }
-    ensures { IfOk result (λ out. out.items ≡ message (REPLY + tag) body.now) }
+    ensures octets { IfOk result (λ out. out.items ≡ message (REPLY + tag) body.now) }
+    ensures short { IfOk result (λ out. length out.items < 2 ^ 32) }
 {
     message_octets(alloc, REPLY + tag, body)
 }

@@ -5,9 +5,9 @@ use Rattle.std.proofs.lemmas.Nat.{from_be_bytes-to_be_bytes_2}
 use Rattle.sdls_base.proofs.Endings.{take_front}
 use Rattle.record_io.specs.declared.kinds.ItemKind.{ItemKind}
 use Rattle.record_io.specs.declared.kinds.ItemKind.TheVariants.{Fence, Recorded}
-use Rattle.record_io.specs.declared.heads.Head.{Head}
+use Rattle.record_io.specs.declared.heads.ItemHead.{ItemHead}
 use Rattle.record_io.specs.Input.{Item, IsItem, most_octets, kind_octet, item_header, item_octets, items_octets, LacksItem, LacksBeginning, beginning}
-use Rattle.record_io.specs.Steps.{IsHead, IsNoHead}
+use Rattle.record_io.specs.Heads.{IsHead, IsNoHead}
 use Rattle.record_io.specs.declared.kinds.TheConstants.{MOST_RECORD_OCTETS}
 
 pub length-header : (item : Item) → length (item_header item) ≡ 6
@@ -43,17 +43,17 @@ pub most_small : (kind : ItemKind) → most_octets kind ≤ MOST_RECORD_OCTETS
 most_small Fence = omega arith
 most_small (Recorded kind) = omega arith
 
-same_length : (item : Item) (head : Head) (header : List ℕ) → IsItem item → IsHead header head → header ≡ item_header item → length item.octets ≡ head.len
+same_length : (item : Item) (head : ItemHead) (header : List ℕ) → IsItem item → IsHead header head → header ≡ item_header item → length item.octets ≡ head.len
 same_length item head header is found e =
     let fields : to_be_bytes w16 (length item.octets) ≡ to_be_bytes w16 head.len = ap (λ l. drop 4 l) (sym e ∙ found.spelled) in
     sym (from_be_bytes-to_be_bytes_2 (length item.octets) (omega (arith, is.short, most_small item.kind)))
     ∙ ap (λ l. from_be_bytes w16 l) fields ∙ from_be_bytes-to_be_bytes_2 head.len (omega (arith, found.short, most_small head.kind))
 
-pub length-head : (header : List ℕ) (head : Head) → IsHead header head → length header ≡ 6
+pub length-head : (header : List ℕ) (head : ItemHead) → IsHead header head → length header ≡ 6
 length-head header head found = ap length found.spelled
 
 -- a head behind which octets are missing
-pub lacks_octets : (header part : List ℕ) (head : Head) → IsHead header head → length part < head.len → LacksItem (header ++ part)
+pub lacks_octets : (header part : List ℕ) (head : ItemHead) → IsHead header head → length part < head.len → LacksItem (header ++ part)
 lacks_octets header part head found few = λ item after is e.
     let six : length header ≡ 6 = length-head header head found in
     let same : length item.octets ≡ head.len = same_length item head header is found (header_in_front header part after item six e) in
@@ -65,12 +65,12 @@ lacks_front octets rest lacks = λ item after is e.
     lacks item (after ++ rest) is (ap (λ l. l ++ rest) e ∙ append_assoc (item_octets item) after rest)
 
 -- the item that a head and its octets spell
-pub spelled_item : (header octets : List ℕ) (head : Head) → IsHead header head → length octets ≡ head.len
+pub spelled_item : (header octets : List ℕ) (head : ItemHead) → IsHead header head → length octets ≡ head.len
     → header ++ octets ≡ item_octets (record { kind = head.kind; lane = head.lane; link = head.link; octets = octets })
 spelled_item header octets head found same =
     ap (λ l. l ++ octets) (found.spelled ∙ ap (λ n. kind_octet head.kind ∷ head.lane ∷ head.link ∷ 0 ∷ to_be_bytes w16 n) (sym same))
 
-pub item_is : (header octets : List ℕ) (head : Head) → IsHead header head → length octets ≡ head.len
+pub item_is : (header octets : List ℕ) (head : ItemHead) → IsHead header head → length octets ≡ head.len
     → IsItem (record { kind = head.kind; lane = head.lane; link = head.link; octets = octets })
 item_is header octets head found same = record {
   lane = found.lane;

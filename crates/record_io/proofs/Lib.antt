@@ -7,3 +7,6 @@ pub mod Wholes
 pub mod OneReading
 pub mod OneAnswer
 pub mod AnswerHeaders
+pub mod Fronts
+pub mod NextItems
+pub mod KnownCodes

@@ -14,11 +14,12 @@ use Rattle.record_io.specs.declared.records.Record.{Record}
 use Rattle.record_io.specs.declared.records.SegmentEnd.{SegmentEnd}
 use Rattle.record_io.specs.declared.records.SegmentEnd.TheVariants.{More, End, Malformed, SourceFault}
 use Rattle.record_io.specs.declared.records.SegmentEnd.TheVariants as ends_as
-use Rattle.record_io.specs.declared.heads.Head.{Head}
+use Rattle.record_io.specs.declared.heads.ItemHead.{ItemHead}
 use Rattle.record_io.specs.declared.reader.Read.{Read}
 use Rattle.record_io.specs.declared.reader.Read.TheVariants as reads
 use Rattle.record_io.specs.Input.{Item, IsItem, most_octets, item_octets, items_octets, LacksItem, MOST_OCTETS}
-use Rattle.record_io.specs.Steps.{IsHead, IsNoHead, still_counted, TakesTooFew, Took, item_of, items_of, AreNumbered, ReadsOn, Segment, task_at, Breaks, EndsBehind, EndsNext, ReadsItem, Wants}
+use Rattle.record_io.specs.Heads.{IsHead, IsNoHead}
+use Rattle.record_io.specs.Steps.{still_counted, TakesTooFew, Took, item_of, items_of, AreNumbered, ReadsOn, Segment, task_at, Breaks, EndsBehind, EndsNext, ReadsItem, Wants}
 use Rattle.record_io.proofs.Items.{items_octets-append, not_empty, lacks_short, lacks_head, lacks_octets, lacks_front, length-head, spelled_item, item_is}
 use Rattle.record_io.specs.declared.reader.TheConstants.{SEGMENT_RECORDS}
 
@@ -90,7 +91,7 @@ breaks_at_head told old header left offset at within six none = record {
 }
 
 -- the head of a fence, which ends the segment
-pub continues_at_fence : (told : Bool) (old new : ℕ) (header left : List ℕ) (head : Head) → IsHead header head → head.kind ≡ Fence
+pub continues_at_fence : (told : Bool) (old new : ℕ) (header left : List ℕ) (head : ItemHead) → IsHead header head → head.kind ≡ Fence
     → new ≡ old + 6 → new ≤ MOST_OCTETS → ReadsOn told 0 [] old new (header ++ left) left
 continues_at_fence told old new header left head found fence counted few =
     let none : head.len ≡ 0 = omega (arith, subst (λ (kind : ItemKind). head.len ≤ most_octets kind) fence found.short) in
@@ -107,7 +108,7 @@ continues_at_fence told old new header left head found fence counted few =
     }
 
 -- a fault behind the head
-pub fails_behind : (told : Bool) (old mid : ℕ) (header left_old left_new : List ℕ) (head : Head) → IsHead header head
+pub fails_behind : (told : Bool) (old mid : ℕ) (header left_old left_new : List ℕ) (head : ItemHead) → IsHead header head
     → mid ≡ old + 6 → (f : TakesTooFew told head.len mid left_old left_new)
     → Took told [] (header ++ f.part) old (header ++ left_old) left_new
 fails_behind told old mid header left_old left_new head found counted f =
@@ -117,7 +118,7 @@ fails_behind told old mid header left_old left_new head found counted f =
     (lacks_octets header f.part head found f.few)
 
 -- octets that are cut
-pub breaks_in_octets : (told : Bool) (old new : ℕ) (header octets left_old left_new : List ℕ) (head : Head) (offset : ℕ) → offset ≡ old
+pub breaks_in_octets : (told : Bool) (old new : ℕ) (header octets left_old left_new : List ℕ) (head : ItemHead) (offset : ℕ) → offset ≡ old
     → IsHead header head → length octets < head.len → (IsTrue told → left_old ≡ octets ++ left_new)
     → new ≡ old + 6 + length octets → new ≤ MOST_OCTETS → (IsTrue told → still_counted new left_new ≡ [])
     → Breaks told [] old (header ++ left_old) left_new offset
@@ -138,7 +139,7 @@ breaks_in_octets told old new header octets left_old left_new head offset at fou
     }
 
 -- memory runs out for the octets behind a head; if there are none, the head is the whole item
-pub wants_octets : (told : Bool) (old : ℕ) (header left : List ℕ) (head : Head) (len : ℕ) → len ≡ head.len → IsHead header head
+pub wants_octets : (told : Bool) (old : ℕ) (header left : List ℕ) (head : ItemHead) (len : ℕ) → len ≡ head.len → IsHead header head
     → old + 6 ≤ MOST_OCTETS → Wants told old (header ++ left) left
 wants_octets told old header left head zero none found few =
     let item : Item = record { kind = head.kind; lane = head.lane; link = head.link; octets = [] } in
@@ -156,7 +157,7 @@ wants_octets told old header left head (suc n) some found few = (
 )
 
 -- a record with its octets
-pub reads_record : (told : Bool) (old new : ℕ) (header octets left_old left_new : List ℕ) (head : Head) (kind : RecordKind)
+pub reads_record : (told : Bool) (old new : ℕ) (header octets left_old left_new : List ℕ) (head : ItemHead) (kind : RecordKind)
     → IsHead header head → head.kind ≡ Recorded kind → length octets ≡ head.len → (IsTrue told → left_old ≡ octets ++ left_new)
     → new ≡ old + 6 + length octets → new ≤ MOST_OCTETS
     → ReadsItem told old new (header ++ left_old) left_new (reads.Next kind head.lane head.link octets)

@@ -1,19 +1,14 @@
 -- An answer at the front of octets (profile).
-use Rattle.std.specs.Prelude.{◌≡◌, ℕ, ◌+◌, ◌==◌, Bool, IsTrue, List, [], ◌∷◌, ◌++◌, length, take}
+use Rattle.std.specs.Prelude.{◌≡◌, ℕ, ◌+◌, ◌==◌, Bool, IsTrue, List, ◌++◌, length, map, take}
 use Rattle.std.specs.List.{list_any}
 use Rattle.record_io.specs.declared.answers.Answer.{Answer}
 use Rattle.record_io.specs.declared.answers.TheConstants.{ANSWER_HEADER}
-use Rattle.record_io.specs.declared.code.TheConstants.{PROTECTED, ACCEPTED, CLEAR, DONE, REFUSED, LAYOUT, CHANNEL, SPI}
-use Rattle.record_io.specs.declared.code.TheConstants.{DIRECTION, STATE, COVERAGE, MAC, NUMBER, EXHAUSTED}
-use Rattle.record_io.specs.declared.code.TheConstants.{SITE_FAULT, STOPPED, NO_MEMORY, END}
 use Rattle.record_io.specs.Answers.{Cut, Header, HasWidths, header_octets}
-use Rattle.record_io.specs.declared.code.TheConstants.{MONITORED, MONITOR_FAULT}
+use Rattle.record_io.specs.Codes.{all_codes, code_octet}
 use Rattle.record_io.specs.declared.answer_reading.AnswerHead.{AnswerHead}
 
 abbrev pub answer_codes : List ℕ
-answer_codes = PROTECTED ∷ ACCEPTED ∷ CLEAR ∷ DONE ∷ REFUSED ∷ MONITORED ∷ MONITOR_FAULT ∷ LAYOUT ∷ CHANNEL ∷ SPI
-    ∷ DIRECTION ∷ STATE ∷ COVERAGE ∷ MAC ∷ NUMBER ∷ EXHAUSTED ∷ SITE_FAULT ∷ STOPPED ∷ NO_MEMORY ∷ END
-    ∷ []
+answer_codes = map code_octet all_codes
 
 -- the code is that of an answer
 abbrev pub is_answer_code : ℕ → Bool

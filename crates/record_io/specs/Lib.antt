@@ -1,7 +1,11 @@
 pub mod Input
+pub mod Heads
 pub mod Places
 pub mod Reading
 pub mod Steps
 pub mod Answers
 pub mod Outcome
 pub mod AnswerReading
+pub mod Codes
+pub mod NextItem
+pub mod NextAnswer

@@ -2,32 +2,19 @@
 use Rattle.std.specs.Prelude.{◌≡◌, ◌≢◌, ℕ, ◌+◌, ◌-◌, ◌*◌, ◌<◌, ◌≤◌, ◌⊎◌, ⊤, Bool, IsTrue, ◌==◌, if◌then◌else◌, List, []}
 use Rattle.std.specs.Prelude.{◌∷◌, ◌++◌, length, take, map}
 use Rattle.std.specs.List.{All}
-use Rattle.std.specs.Int.{w16, to_be_bytes}
 use Rattle.record_io.specs.declared.kinds.ItemKind.TheVariants.{Fence, Recorded}
 use Rattle.record_io.specs.declared.kinds.RecordKind.TheVariants.{Monitor}
 use Rattle.record_io.specs.declared.records.Record.{Record}
 use Rattle.record_io.specs.declared.records.SegmentEnd.{SegmentEnd}
 use Rattle.record_io.specs.declared.records.SegmentEnd.TheVariants.{More, End, Malformed, SourceFault}
 use Rattle.record_io.specs.declared.records.SegmentEnd.TheVariants as ends
-use Rattle.record_io.specs.declared.heads.Head.{Head}
 use Rattle.record_io.specs.declared.reader.Read.{Read}
 use Rattle.record_io.specs.declared.reader.Read.TheVariants as reads
 use Rattle.record_io.specs.declared.reader.TheConstants.{SEGMENT_RECORDS}
-use Rattle.record_io.specs.Input.{Item, IsItem, kind_octet, lanes_of, least_octets, most_octets, item_header, item_octets}
+use Rattle.record_io.specs.Input.{Item, IsItem, item_octets}
 use Rattle.record_io.specs.Input.{items_octets}
 use Rattle.record_io.specs.Input.{beginning, LacksItem, LacksBeginning, MOST_OCTETS}
 use Rattle.record_io.specs.Reading.{Standing, HasFaultCause}
-
--- the six octets head an item of this kind
-pub record IsHead (header : List ℕ) (head : Head) : Type 0 where
-  pub lane : head.lane < lanes_of head.kind
-  pub long : least_octets head.kind ≤ head.len
-  pub short : head.len ≤ most_octets head.kind
-  pub spelled : header ≡ kind_octet head.kind ∷ head.lane ∷ head.link ∷ 0 ∷ to_be_bytes w16 head.len
-
--- the six octets head no item
-abbrev pub IsNoHead : List ℕ → Type 0
-IsNoHead header = (item : Item) → IsItem item → header ≢ item_header item
 
 -- of what is left, the octets that still count
 abbrev pub still_counted : ℕ → List ℕ → List ℕ

@@ -8,39 +8,11 @@ ghost use Rattle.record_io.specs.AnswerReading.{header_said, is_answer_code};
 ghost use Rattle.record_io.specs.declared.answer_reading.AnswerError.TheVariants as errors;
 
 use crate::answers::{ANSWER_HEADER, Answer};
-use crate::code::{
-    ACCEPTED, CHANNEL, CLEAR, COVERAGE, DIRECTION, DONE, END, EXHAUSTED, LAYOUT, MAC,
-    MONITOR_FAULT, MONITORED, NO_MEMORY, NUMBER, PROTECTED, REFUSED, SITE_FAULT, SPI, STATE,
-    STOPPED,
-};
+use crate::codes::AnswerCode;
+use crate::short_octets::ShortOctets;
 use ep_codec::{double_word_at, number_at, word_at};
-use sdls_base::Octets;
 use std::alloc::{AllocError, Global};
 use thiserror::Error;
-
-/// The codes of answers.
-const KNOWN: [u8; 20] = [
-    PROTECTED,
-    ACCEPTED,
-    CLEAR,
-    DONE,
-    REFUSED,
-    MONITORED,
-    MONITOR_FAULT,
-    LAYOUT,
-    CHANNEL,
-    SPI,
-    DIRECTION,
-    STATE,
-    COVERAGE,
-    MAC,
-    NUMBER,
-    EXHAUSTED,
-    SITE_FAULT,
-    STOPPED,
-    NO_MEMORY,
-    END,
-];
 
 /// Why no answer is read.
 #[derive(Clone, Copy, Debug, PartialEq, Eq, Error)]
@@ -69,10 +41,11 @@ pub struct AnswerHead {
 fn is_code(code: u8) -> bool
     ensures { result ≡ is_answer_code code }
 {
-    KNOWN.contains(&code)
+    AnswerCode::of(code).is_some()
 }
 
-fn head_of(header: &[u8]) -> AnswerHead
+/// What the 24 octets before a body say, whatever their code.
+pub fn answer_head(header: &[u8]) -> AnswerHead
     requires { length header.now ≡ ANSWER_HEADER }
     ensures spelled { header.now ≡ header_octets (header_said result) }
     ensures widths { HasWidths (header_said result) }
@@ -96,7 +69,7 @@ pub fn known_head(header: &[u8]) -> Option<AnswerHead>
     if !is_code(header[0]) {
         return None;
     }
-    Some(head_of(header))
+    Some(answer_head(header))
 }
 
 /// Reads the answer behind whose header these octets stand, and says how many octets it has.
@@ -113,7 +86,7 @@ fn read_body(alloc: Global, head: &AnswerHead, behind: &[u8]) -> Result<(Answer,
             key: head.key,
             position: head.position,
             number: head.number,
-            body: Octets::new(body),
+            body: ShortOctets::new(body),
         },
         ANSWER_HEADER + len,
     ))
@@ -134,7 +107,7 @@ pub fn read_answer(alloc: Global, octets: &[u8]) -> Result<Option<(Answer, usize
     if !is_code(octets[0]) {
         return Err(AnswerError::Code);
     }
-    let head = head_of(&octets[..ANSWER_HEADER]);
+    let head = answer_head(&octets[..ANSWER_HEADER]);
     match read_body(alloc, &head, &octets[ANSWER_HEADER..]) {
         Ok(read) => Ok(Some(read)),
         Err(_) => Err(AnswerError::NoMemory),

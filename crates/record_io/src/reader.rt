@@ -10,11 +10,12 @@ ghost use Rattle.record_io.specs.Reading.{GoesOn, HasFaultCause};
 ghost use Rattle.record_io.specs.Steps.{still_counted, TakesTooFew, Moves, ReadsItem, Wants, IsFaultRead};
 ghost use Rattle.record_io.specs.Steps.{CountsRecords, Segment, due_beginning, EndsBefore};
 
-use crate::heads::{Head, head_of};
+use crate::heads::{ITEM_HEADER, ItemHead, item_head};
 use crate::kinds::{ItemKind, RecordKind, is_monitor};
 use crate::records::{Record, SegmentEnd};
+use crate::short_octets::ShortOctets;
 use crate::spare::Spare;
-use sdls_base::{NoMemory, Octets};
+use sdls_base::NoMemory;
 use sdls_outside::{Failed, Source, collect};
 use std::alloc::Global;
 use std::marker::Model;
@@ -32,7 +33,7 @@ pub(crate) enum Read {
         kind: RecordKind,
         lane: u8,
         link: u8,
-        octets: Octets,
+        octets: ShortOctets,
     },
     Ends(SegmentEnd),
 }
@@ -144,7 +145,7 @@ impl Reader {
         &mut self,
         alloc: Global,
         source: &mut S,
-        header: [u8; 6],
+        header: [u8; ITEM_HEADER],
     ) -> Result<Read, NoMemory>
         requires { 6 ≤ self.old.taken }
         ensures read { IfOk result (ReadsItem S.told (self.old.taken - 6) self.new.taken
@@ -156,17 +157,17 @@ impl Reader {
         ensures later { S.faults source.old ≤ S.faults source.new }
         ensures cause { IfOk result (IsFaultRead (S.faults source.old) (S.faults source.new)) }
     {
-        let offset = self.taken - 6;
-        match head_of(header) {
+        let offset = self.taken - ITEM_HEADER as u64;
+        match item_head(header) {
             None => Ok(Read::Ends(SegmentEnd::Malformed(offset))),
             Some(
-                Head {
+                ItemHead {
                     kind: ItemKind::Fence,
                     ..
                 },
             ) => Ok(Read::Ends(SegmentEnd::More)),
             Some(
-                Head {
+                ItemHead {
                     kind: ItemKind::Recorded(kind),
                     lane,
                     link,
@@ -181,7 +182,7 @@ impl Reader {
                     kind,
                     lane,
                     link,
-                    octets: Octets::new(octets),
+                    octets: ShortOctets::new(octets),
                 }),
             },
         }
@@ -197,11 +198,11 @@ impl Reader {
         ensures cause { IfOk result (IsFaultRead (S.faults source.old) (S.faults source.new)) }
     {
         let offset = self.taken;
-        let mut header = [0; 6];
+        let mut header = [0; ITEM_HEADER];
         match self.take(source, &mut header) {
             Err(Failed) => Ok(Read::Ends(SegmentEnd::SourceFault(source.faults()))),
             Ok(0) => Ok(Read::Ends(SegmentEnd::End)),
-            Ok(6) => self.read_behind(alloc, source, header),
+            Ok(ITEM_HEADER) => self.read_behind(alloc, source, header),
             Ok(_) => Ok(Read::Ends(SegmentEnd::Malformed(offset))),
         }
     }

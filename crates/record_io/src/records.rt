@@ -1,8 +1,8 @@
 use crate::kinds::RecordKind;
-use sdls_base::Octets;
+use crate::short_octets::ShortOctets;
 
 /// A record of the input, which is answered.
-#[derive(Debug, PartialEq, Eq, Drop)]
+#[derive(Debug, Drop)]
 pub struct Record {
     /// Its number among the records of the input, from 0; fences are not counted.
     pub index: u64,
@@ -11,12 +11,12 @@ pub struct Record {
     pub lane: u8,
     /// The link that the frame belongs to; of a command and of a Monitor record it is not looked at.
     pub link: u8,
-    /// At most [`crate::MOST_RECORD_OCTETS`].
-    pub octets: Octets,
+    /// A reader gives at most [`crate::MOST_RECORD_OCTETS`].
+    pub octets: ShortOctets,
 }
 
 /// How a segment ends.
-#[derive(Debug, PartialEq, Eq, Drop)]
+#[derive(Debug, Drop)]
 pub enum SegmentEnd {
     /// After a fence, or after 1,024 records.
     More,

@@ -1,6 +1,6 @@
 use Rattle.std.proofs.Common.{arith}
 use Rattle.record_io.proofs.AnswerHeaders.{fields_spelled}
-use Rattle.record_io.proofs.answer_reading.head_of.Goals as goal
+use Rattle.record_io.proofs.answer_reading.answer_head.Goals as goal
 
 pub returns-clause-spelled : goal.returns-clause-spelled
 returns-clause-spelled c =

@@ -1,0 +1,98 @@
+//! What an answer is to the log.
+ghost use Rattle.std.specs.Prelude.{◌≡◌};
+ghost use Rattle.fsr_log.specs.Kinds.{is_event, is_event_kind, kind_at, kind_bit, kind_of, raises_alarm};
+
+use record_io::AnswerCode;
+
+/// What an answer is to the log, by its code.
+#[derive(Clone, Copy, Debug, PartialEq, Eq)]
+pub(crate) enum AnswerKind {
+    /// It refuses nothing.
+    Service,
+    /// A refusal that says nothing of who sent the record.
+    Refusal,
+    /// A frame is refused for its association.
+    Association,
+    /// A frame is refused for its MAC.
+    Mac,
+    /// A frame is refused for its number.
+    Number,
+}
+
+fn kind_of(code: AnswerCode) -> AnswerKind
+    ensures { result ≡ kind_of code }
+{
+    match code {
+        AnswerCode::Protected
+        | AnswerCode::Accepted
+        | AnswerCode::Clear
+        | AnswerCode::Done
+        | AnswerCode::Monitored
+        | AnswerCode::MonitorFault
+        | AnswerCode::End => AnswerKind::Service,
+        AnswerCode::Refused
+        | AnswerCode::Layout
+        | AnswerCode::Channel
+        | AnswerCode::Exhausted
+        | AnswerCode::SiteFault
+        | AnswerCode::Stopped
+        | AnswerCode::NoMemory => AnswerKind::Refusal,
+        AnswerCode::Spi | AnswerCode::Direction | AnswerCode::State | AnswerCode::Coverage => {
+            AnswerKind::Association
+        }
+        AnswerCode::Mac => AnswerKind::Mac,
+        AnswerCode::Number => AnswerKind::Number,
+    }
+}
+
+impl AnswerKind {
+    /// The kind of the answer with this code. An octet that is no code refuses nothing.
+    pub(crate) fn at(code: u8) -> AnswerKind
+        ensures { result ≡ kind_at code }
+    {
+        match AnswerCode::of(code) {
+            Some(code) => kind_of(code),
+            None => AnswerKind::Service,
+        }
+    }
+
+    /// If the log keeps an event of it.
+    pub(crate) fn is_event(self) -> bool
+        ensures { result ≡ is_event_kind self }
+    {
+        match self {
+            AnswerKind::Service => false,
+            AnswerKind::Refusal | AnswerKind::Association | AnswerKind::Mac | AnswerKind::Number =>
+                true,
+        }
+    }
+
+    /// The bit of a report word that says it of the last answer to an Open record.
+    pub(crate) fn bit(self) -> u8
+        ensures { result ≡ kind_bit self }
+    {
+        match self {
+            AnswerKind::Service | AnswerKind::Refusal => 0,
+            AnswerKind::Association => 1,
+            AnswerKind::Mac => 2,
+            AnswerKind::Number => 4,
+        }
+    }
+
+    /// If it raises the alarm.
+    pub(crate) fn raises_alarm(self) -> bool
+        ensures { result ≡ raises_alarm self }
+    {
+        match self {
+            AnswerKind::Service | AnswerKind::Refusal => false,
+            AnswerKind::Association | AnswerKind::Mac | AnswerKind::Number => true,
+        }
+    }
+}
+
+/// If a code is that of a refusal, which the log keeps.
+pub fn is_event(code: u8) -> bool
+    ensures { result ≡ is_event code }
+{
+    AnswerKind::at(code).is_event()
+}

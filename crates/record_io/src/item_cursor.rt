@@ -1,0 +1,76 @@
+//! The items of recorded input, one after the other.
+ghost use Rattle.std.specs.Prelude.{◌≤◌, ◌++◌, IsTrue, IfOk};
+ghost use Rattle.sdls_outside.specs.Faults.{Rose};
+ghost use Rattle.record_io.specs.Heads.{IsHead};
+ghost use Rattle.record_io.specs.NextItem.{IfItemFault, StandsItem};
+
+use crate::heads::{ITEM_HEADER, ItemHead, item_head};
+use crate::kinds::ItemKind;
+use crate::short_octets::ShortOctets;
+use sdls_base::NoMemory;
+use sdls_outside::{Failed, Source, collect};
+use std::alloc::Global;
+
+/// An item that was taken.
+#[derive(Debug, Drop)]
+pub struct FoundItem {
+    pub kind: ItemKind,
+    pub lane: u8,
+    pub link: u8,
+    pub octets: ShortOctets,
+}
+
+/// What stands next in recorded input behind its beginning.
+#[derive(Debug, Drop)]
+pub enum NextItem {
+    Item(FoundItem),
+    /// Nothing.
+    End,
+    /// Octets that are no whole item.
+    NoItem,
+    SourceFault,
+}
+
+/// Takes the octets of an item behind its first six.
+fn take_octets<S: Source>(
+    alloc: Global,
+    source: &mut S,
+    header: [u8; ITEM_HEADER],
+    head: ItemHead,
+) -> Result<NextItem, NoMemory>
+    requires { IsHead header head }
+    ensures stands { IsTrue S.told → IfOk result (StandsItem (header ++ S.left source.old) (S.left source.new)) }
+    ensures cause { IfOk result (IfItemFault (Rose (S.faults source.old) (S.faults source.new))) }
+    ensures later { S.faults source.old ≤ S.faults source.new }
+{
+    let mut octets = vec![in alloc; 0; usize::from(head.len)]?;
+    match collect(source, octets.as_mut_slice()) {
+        Err(Failed) => Ok(NextItem::SourceFault),
+        Ok(count) if count < octets.len() => Ok(NextItem::NoItem),
+        Ok(_) => Ok(NextItem::Item(FoundItem {
+            kind: head.kind,
+            lane: head.lane,
+            link: head.link,
+            octets: ShortOctets::new(octets),
+        })),
+    }
+}
+
+/// Takes the next item of recorded input behind its beginning. Of octets that are none it takes at most as many as the
+/// item would have.
+pub fn next_item<S: Source>(alloc: Global, source: &mut S) -> Result<NextItem, NoMemory>
+    ensures stands { IsTrue S.told → IfOk result (StandsItem (S.left source.old) (S.left source.new)) }
+    ensures cause { IfOk result (IfItemFault (Rose (S.faults source.old) (S.faults source.new))) }
+    ensures later { S.faults source.old ≤ S.faults source.new }
+{
+    let mut header = [0; ITEM_HEADER];
+    match collect(source, &mut header) {
+        Err(Failed) => Ok(NextItem::SourceFault),
+        Ok(0) => Ok(NextItem::End),
+        Ok(count) if count < ITEM_HEADER => Ok(NextItem::NoItem),
+        Ok(_) => match item_head(header) {
+            None => Ok(NextItem::NoItem),
+            Some(head) => take_octets(alloc, source, header, head),
+        },
+    }
+}
