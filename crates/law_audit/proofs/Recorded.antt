@@ -18,12 +18,12 @@ use Rattle.law_history.proofs.Codes.{fits_code}
 use Rattle.run_promise.specs.Fits.{Course, Fits}
 use Rattle.run_promise.specs.Deed.{Deed}
 use Rattle.run_promise.specs.Sound.{deeds_octets}
-use Rattle.run_promise.specs.Life.{Given, LifeRun, IsRun, FollowFrom, IsLife, OnceInLife, AreApart, answers_begun, given_of, given_in}
+use Rattle.run_promise.specs.Life.{AreEnd, Given, LifeRun, IsRun, FollowFrom, IsLife, OnceInLife, AreApart, answers_begun, given_of, given_in}
 use Rattle.pair_audit.specs.Counted.{CountsAnswers, TellsAlike, TellAlike, counted_of}
 use Rattle.record_io.specs.AnswerReading.{IsAnswerCode}
 use Rattle.pair_audit.specs.Recording.{RunCounts, RunsCount, ReadsRuns, recording, recording_beginning, runs_octets}
 use Rattle.pair_audit.specs.Repeats.{AreUnlike, RepeatNothing}
-use Rattle.law_audit.specs.Recorded.{IsEndSpelled, IsSpelled, SankFew, sunk_by}
+use Rattle.law_audit.specs.Recorded.{SankFew, sunk_by}
 use Rattle.pair_audit.proofs.Pairs.{pairs_head, pairs_tail, pairs_none, pairs_append, all_left, all_right, pairs_left, pairs_right, pairs_cross}
 
 -- ---- answers that tell alike
@@ -164,14 +164,17 @@ pub record IsDue (run : LifeRun) : Type 0 where
 told_all : (deeds : List Deed) → All (λ (d : Deed). IsAnswer d.answer) deeds → All IsAnswer (told deeds)
 told_all deeds h = All-map IsAnswer (λ (d : Deed). d.answer) deeds h
 
-due : (run : LifeRun) → run.sunk ≡ take (length run.sunk) (deeds_octets run.deeds ++ run.ends) → IsSpelled run → IsDue run
-due run front spelled = by_end spelled.ends
+due : (run : LifeRun) → IsRun run → IsDue run
+due run is_run = by_end is_run.ended
   where
-    by_end : IsEndSpelled run.ends → IsDue run
+    front : run.sunk ≡ take (length run.sunk) (deeds_octets run.deeds ++ run.ends)
+    front = is_run.moment.front
+
+    by_end : AreEnd run.ends → IsDue run
     by_end (inl none) = record {
       es = [];
       ends = All-nil (λ (e : Answer). e.code ≡ END);
-      answers_are = subst (All IsAnswer) (sym (append-nil (told run.deeds))) (told_all run.deeds spelled.answers);
+      answers_are = subst (All IsAnswer) (sym (append-nil (told run.deeds))) (told_all run.deeds is_run.sound.widths);
       sunk_is = front ∙ ap (λ (l : List ℕ). take (length run.sunk) (deeds_octets run.deeds ++ l)) none
           ∙ ap (take (length run.sunk)) (append-nil (answers_octets (told run.deeds)))
           ∙ ap (λ (l : List Answer). take (length run.sunk) (answers_octets l)) (sym (append-nil (told run.deeds)));
@@ -179,7 +182,7 @@ due run front spelled = by_end spelled.ends
     by_end (inr (end, is, code, octets)) = record {
       es = end ∷ [];
       ends = All-cons (λ (e : Answer). e.code ≡ END) end [] code (All-nil (λ (e : Answer). e.code ≡ END));
-      answers_are = All-append IsAnswer (told run.deeds) (end ∷ []) (told_all run.deeds spelled.answers) (All-cons IsAnswer end [] is (All-nil IsAnswer));
+      answers_are = All-append IsAnswer (told run.deeds) (end ∷ []) (told_all run.deeds is_run.sound.widths) (All-cons IsAnswer end [] is (All-nil IsAnswer));
       sunk_is = front ∙ ap (λ (l : List ℕ). take (length run.sunk) (deeds_octets run.deeds ++ l)) (octets ∙ sym (append-nil (answer_octets end)))
           ∙ ap (take (length run.sunk)) (sym (octets-append (told run.deeds) (end ∷ [])));
     }
@@ -286,11 +289,9 @@ kept_runs kept P (run ∷ runs) h = go (kept run) (kept_runs kept P runs (All-ta
     go true rest = All-cons P run (filter kept runs) (All-head P run runs h) rest
     go false rest = rest
 
-follow_due : (image : List ℕ) (runs : List LifeRun) → FollowFrom image runs → All IsSpelled runs → All IsDue runs
-follow_due image [] follow spelled = All-nil IsDue
-follow_due image (run ∷ runs) (start, is, follow) spelled =
-    All-cons IsDue run runs (due run is.moment.front (All-head IsSpelled run runs spelled))
-    (follow_due run.image runs follow (All-tail IsSpelled run runs spelled))
+follow_due : (image : List ℕ) (runs : List LifeRun) → FollowFrom image runs → All IsDue runs
+follow_due image [] follow = All-nil IsDue
+follow_due image (run ∷ runs) (start, is, follow) = All-cons IsDue run runs (due run is) (follow_due run.image runs follow)
 
 apart_unlike : (one other : Given) → AreApart one other → GivenUnlike one other
 apart_unlike one other apart (inl (key, number, a, b)) = apart.by_identifier key number a b
@@ -339,15 +340,15 @@ deeds_code run is =
     (fits_code (NearWord run.course.begin.start run.course.entries (records_of run.places)) run.course d.task d.answer fits))
     run.deeds is.sound.answers
 
-follow_kept : (image : List ℕ) (runs : List LifeRun) → FollowFrom image runs → All IsSpelled runs → All SankFew runs → All IsKept runs
-follow_kept image [] follow spelled few = All-nil IsKept
-follow_kept image (run ∷ runs) (start, is, follow) spelled few =
+follow_kept : (image : List ℕ) (runs : List LifeRun) → FollowFrom image runs → All SankFew runs → All IsKept runs
+follow_kept image [] follow few = All-nil IsKept
+follow_kept image (run ∷ runs) (start, is, follow) few =
     All-cons IsKept run runs (record {
-      due = due run is.moment.front (All-head IsSpelled run runs spelled);
+      due = due run is;
       codes = deeds_code run is;
       short = All-head SankFew run runs few;
     })
-    (follow_kept run.image runs follow (All-tail IsSpelled run runs spelled) (All-tail SankFew run runs few))
+    (follow_kept run.image runs follow (All-tail SankFew run runs few))
 
 begun_all : (P : Deed → Type 0) (count : ℕ) (ds : List Deed) → All P ds → All P (answers_begun count ds)
 begun_all P count [] h = All-nil P
@@ -385,10 +386,10 @@ module _ (shows : FrontsShow) (fronts : FrontsCount) where
       let later = runs_count runs (All-tail IsKept run runs are) in
       (own.0 ++ later.0, (own.0, later.0, own.1, later.1, refl))
 
-  pub in_order : (image : List ℕ) (runs : List LifeRun) (kept : LifeRun → Bool) → IsLife image runs → All IsSpelled runs → All SankFew runs
+  pub in_order : (image : List ℕ) (runs : List LifeRun) (kept : LifeRun → Bool) → IsLife image runs → All SankFew runs
       → (answers : List Answer) × ReadsRuns (recording (sunk_by kept runs)) (sunk_by kept runs) answers []
-  in_order image runs kept life spelled few =
-      let found = runs_count (filter kept runs) (kept_runs kept IsKept runs (follow_kept image runs life.follow spelled few)) in (
+  in_order image runs kept life few =
+      let found = runs_count (filter kept runs) (kept_runs kept IsKept runs (follow_kept image runs life.follow few)) in (
         found.0,
         record {
           spelled = ap (λ (l : List ℕ). recording_beginning ++ l) (sym (append-nil (runs_octets (sunk_by kept runs))));
@@ -400,7 +401,7 @@ abbrev pub UsedOnce : Type 0
 UsedOnce = (image : List ℕ) (runs : List LifeRun) → IsLife image runs → OnceInLife runs
 
 pub repeats_nothing : FrontsCount → UsedOnce → (image : List ℕ) (runs : List LifeRun) (kept : LifeRun → Bool) (answers : List Answer) → IsLife image runs
-    → All IsSpelled runs → RunsCount (sunk_by kept runs) answers → RepeatNothing answers
-repeats_nothing fronts once image runs kept answers life spelled counts =
-    runs_pairs fronts (filter kept runs) (kept_runs kept IsDue runs (follow_due image runs life.follow spelled)) answers counts
+    → RunsCount (sunk_by kept runs) answers → RepeatNothing answers
+repeats_nothing fronts once image runs kept answers life counts =
+    runs_pairs fronts (filter kept runs) (kept_runs kept IsDue runs (follow_due image runs life.follow)) answers counts
     (kept_pairs kept GivenUnlike runs (λ i j d lt low. apart_unlike (slice_index_or (given_in runs) i d) (slice_index_or (given_in runs) j d) (once image runs life i j d lt low)))

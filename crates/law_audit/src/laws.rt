@@ -8,7 +8,7 @@ ghost use Rattle.pair_audit.specs.Audit.{acceptances_in, uses_in};
 ghost use Rattle.pair_audit.specs.Recording.{AuditSays, ReadsRuns, RunsCount, recording};
 ghost use Rattle.pair_audit.specs.declared.walk.AuditEnd.{AuditEnd};
 ghost use Rattle.pair_audit.specs.declared.walk.AuditEnd.TheVariants.{Clean};
-ghost use Rattle.law_audit.specs.Recorded.{IsSpelled, SankFew, sunk_by};
+ghost use Rattle.law_audit.specs.Recorded.{SankFew, sunk_by};
 
 use law_runs::used_once_in_a_life;
 use pair_audit::{audit_says_one, fronts_count, fronts_show};
@@ -17,10 +17,10 @@ use pair_audit::{audit_says_one, fronts_count, fronts_show};
 /// counts repeat nothing.
 pub fn recorded_life_repeats_nothing()
     ensures in_order { (image : List ℕ) (runs : List LifeRun) (kept : LifeRun → Bool) → IsLife image runs
-        → All IsSpelled runs → All SankFew runs
+        → All SankFew runs
         → (answers : List Answer) × ReadsRuns (recording (sunk_by kept runs)) (sunk_by kept runs) answers [] }
     ensures once { (image : List ℕ) (runs : List LifeRun) (kept : LifeRun → Bool) (answers : List Answer)
-        → IsLife image runs → All IsSpelled runs → RunsCount (sunk_by kept runs) answers → RepeatNothing answers }
+        → IsLife image runs → RunsCount (sunk_by kept runs) answers → RepeatNothing answers }
 {
     fronts_show();
     fronts_count();
@@ -31,7 +31,7 @@ pub fn recorded_life_repeats_nothing()
 /// use and that accept a number.
 pub fn recorded_life_is_clean()
     ensures { (image : List ℕ) (runs : List LifeRun) (kept : LifeRun → Bool) (end : AuditEnd) → IsLife image runs
-        → All IsSpelled runs → All SankFew runs → AuditSays (recording (sunk_by kept runs)) end
+        → All SankFew runs → AuditSays (recording (sunk_by kept runs)) end
         → (answers : List Answer) × RunsCount (sunk_by kept runs) answers
         × (end ≡ Clean (length (sunk_by kept runs)) (uses_in answers) (acceptances_in answers)) }
 {

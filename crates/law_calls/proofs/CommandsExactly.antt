@@ -1,5 +1,5 @@
 -- A message moves the word that it needs, and its answer tells how.
-use Rattle.std.proofs.Common.{◌≡◌, ◌⊎◌, ℕ, ◌+◌, ◌-◌, ◌<◌, ◌≤◌, Bool, false, List, [], ◌∷◌, ◌++◌, length, Some, Result, Ok, Err, refl, sym, ◌∙◌, ap, subst, arith, inl, inr, append-nil, length-append, true}
+use Rattle.std.proofs.Common.{◌≡◌, ◌≢◌, ◌⊎◌, ℕ, ◌+◌, ◌-◌, ◌<◌, ◌≤◌, Bool, false, List, [], ◌∷◌, ◌++◌, length, Some, Result, Ok, Err, refl, sym, ◌∙◌, ap, subst, arith, inl, inr, append-nil, length-append, true}
 use Rattle.std.specs.Bool.{⊤}
 use Rattle.std.proofs.lemmas.List.{append_cancel_left}
 use Rattle.sdls_base.specs.KeyId.{end_of}
@@ -45,7 +45,7 @@ use Rattle.shared_unit.specs.Told.{known_of_book}
 use Rattle.shared_unit.specs.Turn.{FindsCovered, Visits}
 use Rattle.shared_unit.proofs.Steps.{earlier_again}
 use Rattle.run_promise.specs.Begin.{Begin}
-use Rattle.law_workers.specs.Views.{entries_in}
+use Rattle.law_workers.specs.Views.{entries_in, log_of}
 use Rattle.law_workers.specs.Deeds.{course_in}
 use Rattle.run_promise.specs.Deed.{deed_of}
 use Rattle.law_workers.specs.Order.{Layout}
@@ -62,7 +62,7 @@ use Rattle.law_calls.proofs.Exactness.{AreDrawn, of_record, refused_exactly, tol
 use Rattle.law_calls.proofs.Fitted.{before_is, there}
 use Rattle.law_calls.proofs.Moving.{Moves, moves_none, moves_found, moves_drew, moves_over, moves_raised}
 use Rattle.law_calls.proofs.OneRecord.{Turned}
-use Rattle.law_calls.proofs.InTurn.{CoversSpent, Passes, Stands, clean_found, covers, given_as, given_entered, served_clean, stands_entered, stands_found, takes_pass}
+use Rattle.law_calls.proofs.InTurn.{CoversSpent, Passes, Stands, clean_found, covers, found_all, given_as, given_entered, given_stands, plain_uncounted, same_stands, served_clean, stands_entered, stands_found, takes_pass}
 use Rattle.law_calls.proofs.Visit.{log_is, plan_is, row_below, row_known, turned}
 use Rattle.law_calls.proofs.Stages.{Call}
 use Rattle.law_calls.proofs.Commandings.{call_of, one_drawer, Satisfied, satisfied}
@@ -110,8 +110,13 @@ module _ (told : Bool) (c : Call told) (commands : c.task.kind ≡ Command)
     pub number : (n : ℕ) → seen ≡ sights.Number n → (row : ℕ) × (move ≡ Drew row n)
     -- where the site had not failed, what is known of the book behind it, and what the machine says of it
     pub stands : FoundClean → Stands c.begin middle
+    pub stays : length (entries_of c.found.log) ≤ c.found.standing → length (entries_of middle.log) ≤ middle.standing
     pub shown : FoundClean → (es : List Entry) → middle.log ≡ c.found.log ++ lines_of es
         → machine.AloneShows c.begin (entries_of c.found.log) need seen es move
+
+  -- and where it was given back as it was found, if all stood before
+  stays_found : c.given ≡ c.found → c.found.log ≡ log_of c.old_view → AllStand c.old_view → AllStand c.new_view
+  stays_found same here all = same_stands told c.begin c.found c.given c.taken c.old_view c.new_view c.began c.free c.visits same c.known here all
 
   stands_first : FoundClean → Stands c.begin c.found
   stands_first clean = stands_found told c.begin c.found c.given c.taken c.old_view c.new_view c.began c.free c.visits clean
@@ -160,6 +165,20 @@ module _ (told : Bool) (c : Call told) (commands : c.task.kind ≡ Command)
   stands_reserved key n mark middle (above, mark_is, inr (high, (position, made))) clean =
       stands_entered c.begin c.found (stands_first clean) middle (reserve_of c.found.plan c.found.state key n) position made.1
 
+  stays_same : (middle : BookView) → middle ≡ c.found → length (entries_of c.found.log) ≤ c.found.standing
+      → length (entries_of middle.log) ≤ middle.standing
+  stays_same middle same = subst (λ (b : BookView). length (entries_of b.log) ≤ b.standing) (sym same)
+
+  stays_reserved : (key n mark : ℕ) (middle : BookView) → Reserves key n (Ok mark) c.found middle → length (entries_of c.found.log) ≤ c.found.standing
+      → length (entries_of middle.log) ≤ middle.standing
+  stays_reserved key n mark middle (above, mark_is, inl (low, same)) all = stays_same middle same all
+  stays_reserved key n mark middle (above, mark_is, inr (high, (position, made))) all =
+      let entry : Entry = reserve_of c.found.plan c.found.state key n in
+      let a : middle.standing ≡ c.found.standing + 1 = ap (λ (b : BookView). b.standing) made.1.is in
+      let b : length (entries_of middle.log) ≡ length (entries_of c.found.log) + 1 =
+      ap length (ap (λ (x : BookView). entries_of x.log) made.1.is ∙ lines_entries c.found.log (entry ∷ []))
+      ∙ length-append (entries_of c.found.log) (entry ∷ []) in omega arith
+
   has_row : (key row : ℕ) → place_of c.found.state.keys key ≡ Some row → place_of (after c.begin.start (entries_in c.new_view)).keys key ≡ Some row
   has_row key row place = row_known told c.begin c.found c.given c.taken c.new_view.turn c.began c.free c.visits key row place
 
@@ -174,6 +193,7 @@ module _ (told : Bool) (c : Call told) (commands : c.task.kind ≡ Command)
     tells = λ state on. refl;
     number = λ n sees. absurd (let no = sees in cc);
     stands = stands_same middle same;
+    stays = stays_same middle same;
     shown = λ clean es is. (none_more middle same es is, refl);
   }
   saw (needs.Look key) (sights.Word n) middle need (same, r) = record {
@@ -182,6 +202,7 @@ module _ (told : Bool) (c : Call told) (commands : c.task.kind ≡ Command)
     tells = λ state on. inl (key, r.row, on (needs.Look key) need, has_row key r.row r.place, refl);
     number = λ n sees. absurd (let no = sees in cc);
     stands = stands_same middle same;
+    stays = stays_same middle same;
     shown = λ clean es is. (none_more middle same es is, (r.row, place_now key r.row r.place clean, refl));
   }
   saw (needs.Raise key number) (sights.Word n) middle need (same, r) = record {
@@ -190,6 +211,7 @@ module _ (told : Bool) (c : Call told) (commands : c.task.kind ≡ Command)
     tells = λ state on. inr (key, r.row, number, on (needs.Raise key number) need, has_row key r.row r.place, refl);
     number = λ n sees. absurd (let no = sees in cc);
     stands = stands_same middle same;
+    stays = stays_same middle same;
     shown = λ clean es is. (none_more middle same es is, (r.row, place_now key r.row r.place clean, refl));
   }
   saw (needs.Number key) (sights.Number n) middle need d =
@@ -200,6 +222,7 @@ module _ (told : Bool) (c : Call told) (commands : c.task.kind ≡ Command)
         tells = λ state on. (key, d.row, on (needs.Number key) need, has_row key d.row d.place, refl);
         number = λ m sees. (d.row, ap (λ (x : ℕ). Drew d.row x) (same_number n m sees));
         stands = stands_reserved key n d.mark middle d.reserved;
+        stays = stays_reserved key n d.mark middle d.reserved;
         shown = λ clean es is. (d.below, funds_now key n d.mark middle d.reserved clean es is, (d.row, place_now key d.row d.place clean, refl));
       } where
         same_number : (one other : ℕ) → sights.Number one ≡ sights.Number other → one ≡ other
@@ -214,6 +237,7 @@ module _ (told : Bool) (c : Call told) (commands : c.task.kind ≡ Command)
       tells = λ state on. inl (key, f.row, on (needs.Number key) need, has_row key f.row f.place, refl);
       number = λ m sees. absurd (let no = sees in cc);
       stands = stands_same middle same;
+      stays = stays_same middle same;
       shown = λ clean es is. (f.out.0, none_more middle same es is, (f.row, place_now key f.row f.place clean, inl refl));
     }
     by_end (inr d) = record {
@@ -223,6 +247,7 @@ module _ (told : Bool) (c : Call told) (commands : c.task.kind ≡ Command)
       tells = λ state on. inr (key, f.row, on (needs.Number key) need, has_row key f.row f.place, refl);
       number = λ m sees. absurd (let no = sees in cc);
       stands = stands_same middle same;
+      stays = stays_same middle same;
       shown = λ clean es is. (f.out.0, none_more middle same es is, (f.row, place_now key f.row f.place clean, inr refl));
     }
   saw need seen middle needed s = absurd s
@@ -338,6 +363,7 @@ module _ (told : Bool) (c : Call told) (commands : c.task.kind ≡ Command)
         (answer_of (replied_told reply) position) here (level.all (was_clean clean))
         (given_entered told c.begin c.found c.given c.taken c.old_view c.new_view c.began c.free c.visits middle
         (record_entry c.task.index seen h.change) position h.made.1 (s.stage.all_stand h.made.0.0))
+        (plain_uncounted c.task.kind Command _ commands refl)
         (by_kind (answer_of (replied_told reply) position) (s.es ++ record_entry c.task.index seen h.change ∷ []) m.move (record {
           reserve = s.es;
           is = is_shown clean h.change reply h.step;
@@ -350,6 +376,14 @@ module _ (told : Bool) (c : Call told) (commands : c.task.kind ≡ Command)
           near_any : ℕ → ℕ → Type 0
           near_any key n = ⊤
 
+    -- all entries stand, where the book of the step was given back and all stood before
+    stays_middle : c.given ≡ middle → c.found.log ≡ log_of c.old_view → AllStand c.old_view → AllStand c.new_view
+    stays_middle same here all =
+        let a : c.given.standing ≡ middle.standing = ap (λ (b : BookView). b.standing) same in
+        let b : length (entries_of c.given.log) ≡ length (entries_of middle.log) = ap (λ (x : BookView). length (entries_of x.log)) same in
+        let low = m.stays (found_all told c.begin c.found c.given c.taken c.old_view c.new_view c.began c.free c.visits c.known here all) in
+        given_stands told c.begin c.found c.given c.taken c.old_view c.new_view c.began c.free c.visits (omega arith)
+
     left : c.given ≡ middle → c.given.log ≡ c.found.log ++ lines_of s.es
     left same = ap (λ (b : BookView). b.log) same ∙ s.stage.log
 
@@ -360,18 +394,19 @@ module _ (told : Bool) (c : Call told) (commands : c.task.kind ≡ Command)
       by_es (inr (key, n, sees, is)) = let size = ap length is in omega arith
 
     refused : (es : List Entry) → c.given.log ≡ c.found.log ++ lines_of es → AreDrawn (m.move ∷ []) es → (fault : BookFault) (position : ℕ)
+        → (((count : ℕ) → fault ≢ refusals.SiteFault count) → c.found.log ≡ log_of c.old_view → AllStand c.old_view → AllStand c.new_view)
         → (fault ≡ refusals.SessionFull → (length es ≤ 1) × IsClean c.old_view × AllStand c.new_view)
         → AnsweredExactly c.begin c.segment c.old_view c.new_view c.task (fault_answer fault position)
-    refused es is are fault position few =
+    refused es is are fault position stays few =
         refused_exactly c.begin c.segment c.task c.old_view c.new_view m.move m.moves c.found.log es (by_lines es is) are
-        s.numbers.spent (passes es is s.numbers.spent s.numbers.counted.spent_is) (not_kept m.move) fault position few
+        s.numbers.spent (passes es is s.numbers.spent s.numbers.counted.spent_is) (not_kept m.move) fault position stays few
         (λ protects. absurd (not_protect protects))
 
     unstored : (change : Change) (fault : BookFault) (position : ℕ) → IsUnstored (record_entry c.task.index seen change) middle c.given fault
         → AnsweredExactly c.begin c.segment c.old_view c.new_view c.task (fault_answer fault position)
     unstored change (refusals.SiteFault count) position h =
         refused (s.es ++ record_entry c.task.index seen change ∷ []) (with_own change (ap (λ (b : BookView). b.log) h.3)) (own_drawn change)
-        (refusals.SiteFault count) position (λ full. absurd (let no = full in cc))
+        (refusals.SiteFault count) position (λ other. absurd (other count refl)) (λ full. absurd (let no = full in cc))
     unstored change (refusals.Stopped count) position h = absurd h
     unstored change refusals.SessionFull position h = absurd h
     unstored change refusals.NoMemory position h = absurd h
@@ -379,12 +414,13 @@ module _ (told : Bool) (c : Call told) (commands : c.task.kind ≡ Command)
     refuses : (fault : BookFault) (position : ℕ) → RefusesMessage c.task.index c.task.octets seen middle c.given fault
         → AnsweredExactly c.begin c.segment c.old_view c.new_view c.task (fault_answer fault position)
     refuses fault position (inl (is_barred, same)) =
-        refused s.es (left same) drawn fault position
+        refused s.es (left same) drawn fault position (λ other here all. stays_middle same here all)
         (λ is.
         let full = subst (IsBarred middle) is is_barred in
         (few_es, was_clean (s.stage.clean full.0), all_given middle same (s.stage.all_stand full.0)))
     refuses fault position (inr (inl (none, same))) =
-        refused s.es (left same) drawn fault position (λ full. absurd (let no = sym none ∙ full in cc))
+        refused s.es (left same) drawn fault position (λ other here all. stays_middle same here all)
+        (λ full. absurd (let no = sym none ∙ full in cc))
     refuses fault position (inr (inr (can, ((change, reply), step, fails)))) = unstored change fault position fails
 
   -- the reserve was refused
@@ -398,11 +434,12 @@ module _ (told : Bool) (c : Call told) (commands : c.task.kind ≡ Command)
     moves = moves_drew c.begin c.old_view c.new_view c.task f.row (low_row f.key f.row f.place) f.n [] shows
 
     ends : (es : List Entry) → c.given.log ≡ c.found.log ++ lines_of es → AreDrawn (Drew f.row f.n ∷ []) es → (other : BookFault)
+        → (((count : ℕ) → other ≢ refusals.SiteFault count) → c.found.log ≡ log_of c.old_view → AllStand c.old_view → AllStand c.new_view)
         → (other ≡ refusals.SessionFull → (length es ≤ 1) × IsClean c.old_view × AllStand c.new_view)
         → AnsweredExactly c.begin c.segment c.old_view c.new_view c.task (fault_answer other position)
-    ends es is are other few =
+    ends es is are other stays few =
         refused_exactly c.begin c.segment c.task c.old_view c.new_view (Drew f.row f.n) moves c.found.log es (by_lines es is) are
-        [] (passes es is [] shows.counted.spent_is) (not_kept (Drew f.row f.n)) other position few
+        [] (passes es is [] shows.counted.spent_is) (not_kept (Drew f.row f.n)) other position stays few
         (λ protects. absurd (not_protect protects))
 
     none_left : c.given ≡ c.found → c.given.log ≡ c.found.log ++ lines_of []
@@ -411,13 +448,14 @@ module _ (told : Bool) (c : Call told) (commands : c.task.kind ≡ Command)
     by_refusal : (other : BookFault) → Reserves f.key f.n (Err other) c.found c.given
         → AnsweredExactly c.begin c.segment c.old_view c.new_view c.task (fault_answer other position)
     by_refusal other (unmarked, inl (is_barred, same)) =
-        ends [] (none_left same) tt other
+        ends [] (none_left same) tt other (λ other here all. stays_found same here all)
         (λ is.
         let full = subst (IsBarred c.found) is is_barred in
         (omega arith, was_clean full.0, all_given c.found same (c.visits.found_kept.whole full.0)))
     by_refusal (refusals.SiteFault count) (unmarked, inr (can, h)) =
         ends (reserve_of c.found.plan c.found.state f.key f.n ∷ []) (ap (λ (b : BookView). b.log) h.3)
-        (reserve_drawn f.row f.n (reserve_of c.found.plan c.found.state f.key f.n) refl, tt) (refusals.SiteFault count) (λ same. absurd (let no = same in cc))
+        (reserve_drawn f.row f.n (reserve_of c.found.plan c.found.state f.key f.n) refl, tt) (refusals.SiteFault count)
+        (λ other. absurd (other count refl)) (λ same. absurd (let no = same in cc))
     by_refusal (refusals.Stopped count) (unmarked, inr (can, h)) = absurd h
     by_refusal refusals.SessionFull (unmarked, inr (can, h)) = absurd h
     by_refusal refusals.NoMemory (unmarked, inr (can, h)) = absurd h
@@ -430,8 +468,8 @@ module _ (told : Bool) (c : Call told) (commands : c.task.kind ≡ Command)
       refused_exactly c.begin c.segment c.task c.old_view c.new_view Kept (moves_none c.begin c.old_view c.new_view numbers) c.found.log []
       (by_lines [] (ap (λ (b : BookView). b.log) same ∙ sym (append-nil c.found.log))) tt []
       (passes [] (ap (λ (b : BookView). b.log) same ∙ sym (append-nil c.found.log)) []
-      (ap (λ (k : Numbers). k.spent) numbers ∙ sym (append-nil c.old_view.numbers.spent))) (λ _. refl) fault position (λ full. absurd (let no = sym none ∙ full in cc))
-      (λ _ _. refl)
+      (ap (λ (k : Numbers). k.spent) numbers ∙ sym (append-nil c.old_view.numbers.spent))) (λ _. refl) fault position
+      (λ other here all. stays_found same here all) (λ full. absurd (let no = sym none ∙ full in cc)) (λ _ _. refl)
   commands_exactly (Err (fault, position)) (inr (need, needed, inl f), at) = fails need fault position f
   commands_exactly (Err (fault, position)) (inr (need, needed, inr (seen, middle, shows, r)), at) = refuses need seen middle needed shows fault position r
 

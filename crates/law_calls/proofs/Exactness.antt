@@ -1,5 +1,5 @@
 -- One record moves a word as its answer tells: what is the same for each call.
-use Rattle.std.proofs.Common.{◌≡◌, ◌⊎◌, ℕ, suc, ◌<◌, ◌≤◌, List, [], ◌∷◌, ◌++◌, length, Option, Some, None, refl, sym, ◌∙◌, ap, subst, arith, inl, inr, eqb, false}
+use Rattle.std.proofs.Common.{◌≡◌, ◌≢◌, ◌⊎◌, ℕ, suc, ◌<◌, ◌≤◌, List, [], ◌∷◌, ◌++◌, length, Option, Some, None, refl, sym, ◌∙◌, ap, subst, arith, inl, inr, eqb, false}
 use Rattle.std.specs.Bool.{⊤}
 use Rattle.std.specs.List.{slice_get}
 use Rattle.std.proofs.lemmas.Bool.{cases_eq}
@@ -134,26 +134,33 @@ module _ (begin : Begin) (segment : ℕ) (task : Record) (v w : View) (move : Mo
     by_code (inr is) = omega arith
   late_tells Monitor kept code n position late wants = kept refl
 
-  late : (code n position : ℕ) → SITE_FAULT ≤ code → IsServed (answer_of (counting code 0 n) position)
-  late code n position low same level backed =
-      served_late begin v w log es turned segment task move spent passes (answer_of (counting code 0 n) position) same low
+  -- where all entries stood they all do
+  abbrev pub StaysSo : Type 0
+  StaysSo = log ≡ log_of v → AllStand v → AllStand w
 
-  pub wanting_exactly : (draws task.kind ≡ false → move ≡ Kept) → (task.kind ≡ Protect → move ≡ Kept)
+  late : (code n position : ℕ) → SITE_FAULT ≤ code → (log ≡ log_of v → (AllStand v → AllStand w) ⊎ (code ≡ SITE_FAULT))
+      → IsServed (answer_of (counting code 0 n) position)
+  late code n position low ends same level backed =
+      served_late begin v w log es turned segment task move spent passes (answer_of (counting code 0 n) position) same low (ends same)
+
+  pub wanting_exactly : (draws task.kind ≡ false → move ≡ Kept) → StaysSo → (task.kind ≡ Protect → move ≡ Kept)
       → AnsweredExactly begin segment v w task (Some unserved_answer)
-  wanting_exactly kept wants =
-      told_exactly unserved_answer (late_tells task.kind kept NO_MEMORY 0 0 (omega arith) (λ is _. wants is)) (late NO_MEMORY 0 0 (omega arith))
+  wanting_exactly kept stays wants = told_exactly unserved_answer (late_tells task.kind kept NO_MEMORY 0 0 (omega arith) (λ is _. wants is))
+      (late NO_MEMORY 0 0 (omega arith) (λ same. inl (stays same)))
 
   pub refused_exactly : (draws task.kind ≡ false → move ≡ Kept) → (fault : BookFault) (position : ℕ)
+      → (((count : ℕ) → fault ≢ refusals.SiteFault count) → StaysSo)
       → (fault ≡ refusals.SessionFull → (length es ≤ 1) × IsClean v × AllStand w)
       → (task.kind ≡ Protect → fault ≡ refusals.NoMemory → move ≡ Kept)
       → AnsweredExactly begin segment v w task (fault_answer fault position)
-  refused_exactly kept (refusals.SiteFault count) position few wants =
+  refused_exactly kept (refusals.SiteFault count) position stays few wants =
       told_exactly (answer_of (counting SITE_FAULT 0 count) position)
       (late_tells task.kind kept SITE_FAULT count position (omega arith) (λ _ is. absurd (omega arith)))
-      (late SITE_FAULT count position (omega arith))
-  refused_exactly kept (refusals.Stopped count) position few wants =
+      (late SITE_FAULT count position (omega arith) (λ same. inr refl))
+  refused_exactly kept (refusals.Stopped count) position stays few wants =
       told_exactly (answer_of (counting STOPPED 0 count) position)
       (late_tells task.kind kept STOPPED count position (omega arith) (λ _ is. absurd (omega arith)))
-      (late STOPPED count position (omega arith))
-  refused_exactly kept refusals.SessionFull position few wants = untold_exactly (few refl).0 (few refl).1 (few refl).2
-  refused_exactly kept refusals.NoMemory position few wants = wanting_exactly kept (λ is. wants is refl)
+      (late STOPPED count position (omega arith) (λ same. inl (stays (λ other is. absurd (let no = is in cc)) same)))
+  refused_exactly kept refusals.SessionFull position stays few wants = untold_exactly (few refl).0 (few refl).1 (few refl).2
+  refused_exactly kept refusals.NoMemory position stays few wants =
+      wanting_exactly kept (stays (λ other is. absurd (let no = is in cc))) (λ is. wants is refl)

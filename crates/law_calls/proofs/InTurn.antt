@@ -1,13 +1,13 @@
 -- What a call that handles a record is in turn: what was known before it, where no other worker made a line meanwhile.
-use Rattle.std.proofs.Common.{◌≡◌, ℕ, zero, suc, ◌+◌, ◌-◌, ◌<◌, ◌≤◌, Bool, false, List, [], ◌∷◌, ◌++◌, length, take, drop, Some, refl, sym, ◌∙◌, ap, subst, inl, inr, arith, append-nil, length-append}
-use Rattle.std.proofs.lemmas.List.{append_cancel_left, take-append-le, take_all, take-append-drop}
+use Rattle.std.proofs.Common.{◌≡◌, ◌⊎◌, ℕ, zero, suc, ◌+◌, ◌-◌, ◌<◌, ◌≤◌, nat_le, ◌==◌, ◌&&◌, ◌||◌, eq-eqb, Bool, true, false, IsTrue, List, [], ◌∷◌, ◌++◌, length, take, drop, Some, refl, sym, ◌∙◌, ap, subst, inl, inr, arith, append-nil, length-append}
+use Rattle.std.proofs.lemmas.List.{append_cancel_left, length-take, take-append-le, take_all, take-append-drop}
 use Rattle.sdls_base.specs.declared.entry.Entry.{Entry}
 use Rattle.sdls_base.specs.declared.entry.Logged.{Logged}
 use Rattle.sdls_base.specs.declared.TheConstants.{MOST_KEYS}
 use Rattle.sdls_outside.specs.Faults.{Rose}
 use Rattle.key_book.specs.KeyBook.{place_of}
 use Rattle.record_io.specs.declared.answers.Answer.{Answer}
-use Rattle.record_io.specs.declared.code.TheConstants.{SITE_FAULT}
+use Rattle.record_io.specs.declared.code.TheConstants.{MONITOR_FAULT, SITE_FAULT}
 use Rattle.record_io.specs.declared.records.Record.{Record}
 use Rattle.unit_state.specs.declared.state.State.{State}
 use Rattle.unit_state.specs.Applied.{applied}
@@ -27,10 +27,13 @@ use Rattle.shared_unit.specs.Told.{known_of_book}
 use Rattle.shared_unit.specs.Turn.{FindsCovered, taking_once, Visits}
 use Rattle.run_promise.specs.Begin.{Begin}
 use Rattle.law_workers.specs.Views.{log_of, entries_in}
-use Rattle.run_promise.specs.Deed.{deed_of}
+use Rattle.run_promise.specs.Deed.{deed_of, is_monitored, tells_count}
+use Rattle.record_io.specs.declared.kinds.RecordKind.{RecordKind}
+use Rattle.record_io.specs.declared.kinds.RecordKind.TheVariants.{Protect, Open, Command, Monitor}
+use Rattle.std.proofs.lemmas.Bool.Decides.{nat_tests}
 use Rattle.law_workers.proofs.Rows.{mark_known}
 use Rattle.run_promise.specs.Machine.{Move}
-use Rattle.run_promise.specs.Serving.{AloneServes}
+use Rattle.run_promise.specs.Serving.{AloneServes, has_failed}
 use Rattle.law_workers.specs.InTurn.{MadeAllLines, IsClean, IsLevel, AllStand, stood_in, AreOf, IsBacked, ServedInTurn}
 use Rattle.law_workers.proofs.Turns.{all_stood, level_on, backed_on, stood_is, stood_more, stood_on}
 use Rattle.law_workers.specs.Began.{BeganWith}
@@ -65,6 +68,25 @@ module _ (v w : View) (log : List Logged) (count : ℕ) (low : length (log_of v)
               let place = all (length (log_of v)) (omega arith) (omega arith) in
               let (least, most) = places_within (length log) count (length (log_of v)) place in absurd (omega arith)
 
+either_one : (one other : Bool) → IsTrue one → IsTrue (one || other)
+either_one true other is = refl
+either_one false other is = absurd (let no : false ≡ true = is in cc)
+
+or_other : (one other : Bool) → other ≡ true → IsTrue (one || other)
+or_other true other is = refl
+or_other false other is = is
+
+-- an answer with a code from 31 on tells no count, and none to another record than a Monitor record does
+late_uncounted : (kind : RecordKind) (code : ℕ) → SITE_FAULT ≤ code → IsTrue (is_monitored kind && nat_le code MONITOR_FAULT) → ⊥
+late_uncounted Protect code low t = let no : false ≡ true = t in absurd (let e = no in cc)
+late_uncounted Open code low t = let no : false ≡ true = t in absurd (let e = no in cc)
+late_uncounted Command code low t = let no : false ≡ true = t in absurd (let e = no in cc)
+late_uncounted Monitor code low t = let few : nat_le code MONITOR_FAULT ≡ true = t in let less : code ≤ MONITOR_FAULT = grind (arith, nat_tests) in omega arith
+
+pub plain_uncounted : (kind other : RecordKind) (test : Bool) → kind ≡ other → is_monitored other ≡ false → IsTrue (is_monitored kind && test) → ⊥
+plain_uncounted kind other test is plain t =
+    let no : false ≡ true = subst (λ (b : Bool). IsTrue (b && test)) (ap is_monitored is ∙ plain) t in absurd (let e = no in cc)
+
 module _ (begin : Begin) (v w : View) (log : List Logged) (es : List Entry) (turned : Turned log es v.turn w.turn) where
   pub known_log : MadeAllLines v w (places (length log) (length es)) → log ≡ log_of v
   known_log = found_known v w log (length es) turned.low (lines_of es) turned.earlier.log.0 turned.earlier.log.1 turned.log_is
@@ -80,6 +102,14 @@ module _ (begin : Begin) (v w : View) (log : List Logged) (es : List Entry) (tur
     pub backed : MadeAllLines v w (places (length log) (length es)) → IsLevel v → (numbers : List (ℕ × ℕ)) → AreOf numbers v.numbers.spent
         → IsBacked begin w numbers → IsBacked begin v numbers
 
+  -- where these entries were added, and stand, all stand if all did
+  pub stays_with : log ≡ log_of v → stood_in w ≡ stood_in v ++ es → AllStand v → AllStand w
+  stays_with same stood before =
+      let all : entries_in w ≡ stood_in w =
+      entries_are ∙ ap (λ (l : List Logged). entries_of l ++ es) same ∙ ap (λ (l : List Entry). l ++ es) (sym (all_stood v before)) ∙ sym stood in
+      let size : length (entries_in w) ≡ length (stood_in w) = ap length all in
+      let most = length-take w.turn.known.standing (entries_in w) in omega arith
+
   -- the entries that stand, where all did in the log that was found
   pub stood_clean : log ≡ log_of v → AllStand v → AllStand w → stood_in w ≡ stood_in v ++ es
   stood_clean same before now =
@@ -92,6 +122,13 @@ module _ (begin : Begin) (v w : View) (log : List Logged) (es : List Entry) (tur
     -- so is the record served: it has this answer, and these entries more stand
     abbrev pub ServesSo : Answer → Type 0
     ServesSo answer = (own : List Entry) × (stood_in w ≡ stood_in v ++ own) × AloneServes begin (stood_in v) task answer own move
+        × ((AllStand v → AllStand w) ⊎ (answer.code ≡ SITE_FAULT)) × (IsTrue (tells_count (deed_of segment task answer)) → ⊥)
+
+    -- an entry that does not stand was there before, or the answer tells of it
+    told_failed : (failed : Bool) (answer : Answer) → (¬ AllStand v → IsTrue failed)
+        → (AllStand v → AllStand w) ⊎ (answer.code ≡ SITE_FAULT) → ¬ AllStand w → IsTrue (has_failed failed answer)
+    told_failed failed answer tells (inl stays) not = either_one failed (answer.code == SITE_FAULT) (tells (λ stands. not (stays stands)))
+    told_failed failed answer tells (inr code) not = or_other failed (answer.code == SITE_FAULT) (eq-eqb answer.code SITE_FAULT code)
 
     -- the record has this answer, in the history that was found
     pub served_turn : (answer : Answer) → (log ≡ log_of v → IsLevel v → IsBacked begin w spent → ServesSo answer)
@@ -103,28 +140,36 @@ module _ (begin : Begin) (v w : View) (log : List Logged) (es : List Entry) (tur
         spent_is = passes.spent_is;
         level = passes.level;
         served = λ all level backed.
-            let (own, is, one) = serves (known_log all) level backed in (
+            let (own, is, one, ends, uncounted) = serves (known_log all) level backed in (
               own,
               [],
               is ∙ ap (λ (l : List Entry). stood_in v ++ l) (sym (append-nil own)),
-              (own, [], sym (append-nil own), one, refl),
+              λ failed tells. (
+                (own, [], sym (append-nil own), one, λ counts. absurd (uncounted counts), refl),
+                told_failed failed answer tells ends,
+              ),
               (λ none. refl, inl refl),
             );
       };
     }
 
     -- in a history whose entries all stand
-    pub served_clean : (answer : Answer) → log ≡ log_of v → AllStand v → AllStand w → AloneServes begin (entries_of log) task answer es move → ServesSo answer
-    served_clean answer same before now serves = (
+    pub served_clean : (answer : Answer) → log ≡ log_of v → AllStand v → AllStand w → (IsTrue (tells_count (deed_of segment task answer)) → ⊥)
+        → AloneServes begin (entries_of log) task answer es move → ServesSo answer
+    served_clean answer same before now uncounted serves = (
       es,
       stood_clean same before now,
       subst (λ (l : List Entry). AloneServes begin l task answer es move) (ap entries_of same ∙ sym (all_stood v before)) serves,
+      inl (λ _. now),
+      uncounted,
     )
 
     -- with an answer that says nothing of its entries
-    pub served_late : (answer : Answer) → log ≡ log_of v → SITE_FAULT ≤ answer.code → ServesSo answer
-    served_late answer same low =
-        let (own, is) = stood_more v w turned.earlier.standing es (entries_are ∙ ap (λ (l : List Logged). entries_of l ++ es) same) in (own, is, inl low)
+    pub served_late : (answer : Answer) → log ≡ log_of v → SITE_FAULT ≤ answer.code → (AllStand v → AllStand w) ⊎ (answer.code ≡ SITE_FAULT)
+        → ServesSo answer
+    served_late answer same low ends =
+        let (own, is) = stood_more v w turned.earlier.standing es (entries_are ∙ ap (λ (l : List Logged). entries_of l ++ es) same) in
+        (own, is, inl low, ends, late_uncounted task.kind answer.code low)
 
     -- it has none, and made an entry at most, which stands
     pub unserved_turn : length es ≤ 1 → IsClean v → AllStand w
@@ -139,7 +184,7 @@ module _ (begin : Begin) (v w : View) (log : List Logged) (es : List Entry) (tur
           [],
           es,
           stood_clean (known_log all) (level.all clean) now,
-          refl,
+          λ failed tells. (refl, λ not. absurd (not now)),
           (λ none. absurd (let n : length (move ∷ []) ≡ 0 = ap length none in omega arith), inr (few, now)),
         );
       };
@@ -210,6 +255,21 @@ module _ (told : Bool) (begin : Begin) (found given : BookView) (u : Turn) (v w 
       let a : given.standing ≡ old.standing = ap (λ (b : BookView). b.standing) same in
       let b : length (entries_of given.log) ≡ length (entries_of old.log) = ap (λ (x : BookView). length (entries_of x.log)) same in
       given_stands (omega arith)
+
+  -- all entries stood in the book that was found, where no line was made since a view in which all did
+  pub found_all : u.known ≡ v.turn.known → found.log ≡ log_of v → AllStand v → length (entries_of found.log) ≤ found.standing
+  found_all known same all =
+      let e : Earlier v.turn.known (known_of_book found) =
+      subst (λ (k : Known). Earlier k (known_of_book found)) known visits.takes.follows.earlier in
+      let low = e.standing in
+      let size : length (entries_of found.log) ≡ length (entries_in v) = ap (λ (l : List Logged). length (entries_of l)) same in omega arith
+
+  -- and so they do where it was given back as it was found
+  pub same_stands : given ≡ found → u.known ≡ v.turn.known → found.log ≡ log_of v → AllStand v → AllStand w
+  same_stands same known here all =
+      let a : given.standing ≡ found.standing = ap (λ (b : BookView). b.standing) same in
+      let b : length (entries_of given.log) ≡ length (entries_of found.log) = ap (λ (x : BookView). length (entries_of x.log)) same in
+      let c = found_all known here all in given_stands (omega arith)
 
   -- an entry was made of a book whose entries all stood
   pub given_entered : (old : BookView) (entry : Entry) (position : ℕ) → Enters entry old given position → old.standing ≡ length (entries_of old.log) → AllStand w

@@ -1,5 +1,5 @@
 -- A frame that is opened moves no word.
-use Rattle.std.proofs.Common.{◌≡◌, ℕ, ◌≤◌, Bool, false, List, [], ◌∷◌, ◌++◌, length, length-append, refl, sym, ◌∙◌, ap, subst, inl, inr, arith, append-nil, Result, Ok, Err, MatchResult}
+use Rattle.std.proofs.Common.{◌≡◌, ◌≢◌, ℕ, ◌≤◌, Bool, false, List, [], ◌∷◌, ◌++◌, length, length-append, refl, sym, ◌∙◌, ap, subst, inl, inr, arith, append-nil, Result, Ok, Err, MatchResult}
 use Rattle.sdls_base.specs.declared.entry.Entry.{Entry}
 use Rattle.sdls_outside.specs.Faults.{Rose}
 use Rattle.frame_checks.specs.declared.open_reply.OpenReply.{OpenReply}
@@ -25,7 +25,7 @@ use Rattle.shared_unit.specs.Calls.{WithPosition}
 use Rattle.shared_unit.specs.Told.{known_of_book}
 use Rattle.shared_unit.specs.Turn.{FindsCovered, Visits}
 use Rattle.run_promise.specs.Begin.{Begin}
-use Rattle.law_workers.specs.Views.{entries_in}
+use Rattle.law_workers.specs.Views.{entries_in, log_of}
 use Rattle.run_promise.specs.Deed.{deed_of}
 use Rattle.run_promise.specs.Machine.{Kept}
 use Rattle.run_promise.specs.Serving.{now, AloneOpened, ServesKind, AloneServes}
@@ -37,7 +37,7 @@ use Rattle.law_calls.proofs.Behind.{lines_of, lines_entries}
 use Rattle.law_calls.proofs.OneRecord.{Turned}
 use Rattle.law_calls.proofs.Moving.{moves_none}
 use Rattle.law_calls.proofs.Exactness.{AreDrawn, of_record, refused_exactly, told_exactly}
-use Rattle.law_calls.proofs.InTurn.{Passes, Stands, clean_found, covers, given_as, given_entered, served_clean, stands_found, takes_pass}
+use Rattle.law_calls.proofs.InTurn.{Passes, Stands, clean_found, covers, given_as, given_entered, plain_uncounted, same_stands, served_clean, stands_found, takes_pass}
 use Rattle.law_calls.proofs.Visit.{plan_is, turned}
 
 module _ (told : Bool) (begin : Begin) (segment : ℕ) (task : Record)
@@ -96,16 +96,17 @@ module _ (told : Bool) (begin : Begin) (segment : ℕ) (task : Record)
   by_kind answer es h = inr (subst (λ (k : RecordKind). ServesKind begin (entries_of found.log) k task answer es Kept) (sym opens_it) h)
 
   refused : (es : List Entry) → given.log ≡ found.log ++ lines_of es → AreDrawn (Kept ∷ []) es → (fault : BookFault) (position : ℕ)
+      → (((count : ℕ) → fault ≢ refusals.SiteFault count) → found.log ≡ log_of v → AllStand v → AllStand w)
       → (fault ≡ refusals.SessionFull → (length es ≤ 1) × IsClean v × AllStand w)
       → AnsweredExactly begin segment v w task (fault_answer fault position)
-  refused es is drawn fault position few =
-      refused_exactly begin segment task v w Kept (moves_none begin v w numbers) found.log es (by_lines es is) drawn [] (passes es is) (λ _. refl) fault position few (λ _ _. refl)
+  refused es is drawn fault position stays few =
+      refused_exactly begin segment task v w Kept (moves_none begin v w numbers) found.log es (by_lines es is) drawn [] (passes es is) (λ _. refl) fault position stays few (λ _ _. refl)
 
   unstored : (reply : OpenReply) (fault : BookFault) (position : ℕ) → IsUnstored (frame_entry found.plan found.state task.index reply) found given fault
       → AnsweredExactly begin segment v w task (fault_answer fault position)
   unstored reply (refusals.SiteFault count) position h =
       refused (frame_entry found.plan found.state task.index reply ∷ []) (ap (λ (b : BookView). b.log) h.3) (of_frame reply) (refusals.SiteFault count) position
-      (λ same. absurd (let no = same in cc))
+      (λ other. absurd (other count refl)) (λ same. absurd (let no = same in cc))
   unstored reply (refusals.Stopped count) position h = absurd h
   unstored reply refusals.SessionFull position h = absurd h
   unstored reply refusals.NoMemory position h = absurd h
@@ -130,6 +131,7 @@ module _ (told : Bool) (begin : Begin) (segment : ℕ) (task : Record)
       (level.all (was_clean clean))
       (given_entered told begin found given v.turn v w began free visits found (frame_entry found.plan found.state task.index reply) position
       opened.made.1 (visits.found_kept.whole clean))
+      (plain_uncounted task.kind Open _ opens_it refl)
       (by_kind (answer_of (opened_told reply (field_in reply left)) position) (frame_entry found.plan found.state task.index reply ∷ []) (record {
         reply = reply;
         field = field_in reply left;
@@ -142,5 +144,6 @@ module _ (told : Bool) (begin : Begin) (segment : ℕ) (task : Record)
         move_is = refl;
       })))
   opens_exactly left (Err (fault, position)) (inl (is_barred, same), at) = refused [] (none_left same) tt fault position
+      (λ other here all. same_stands told begin found given v.turn v w began free visits same refl here all)
       (λ is. let full = subst (IsBarred found) is is_barred in (omega arith, was_clean full.0, all_given full.0 same))
   opens_exactly left (Err (fault, position)) (inr (can, (reply, field, replies, fails)), at) = unstored reply fault position fails

@@ -1,5 +1,5 @@
 -- A frame that is protected draws the number that its answer tells.
-use Rattle.std.proofs.Common.{◌≡◌, ◌⊎◌, ℕ, ◌<◌, ◌≤◌, Bool, false, List, [], ◌∷◌, ◌++◌, take, drop, append_assoc, Option, Some, Err, refl, sym, ◌∙◌, ap, subst, arith, inl, inr, append-nil, length, Ok, Result, true, eqb, eq-eqb, ◌+◌, None, ◌≢◌}
+use Rattle.std.proofs.Common.{◌≡◌, ◌≢◌, ◌⊎◌, ℕ, ◌<◌, ◌≤◌, Bool, IsTrue, false, List, [], ◌∷◌, ◌++◌, take, drop, append_assoc, Option, Some, Err, refl, sym, ◌∙◌, ap, subst, arith, inl, inr, append-nil, length, Ok, Result, true, eqb, eq-eqb, ◌+◌, None}
 use Rattle.std.proofs.lemmas.List.{take-append-drop}
 use Rattle.sdls_base.specs.Numbers.{times}
 use Rattle.sdls_base.specs.KeyId.{end_of}
@@ -46,7 +46,7 @@ use Rattle.shared_unit.specs.Told.{known_of_book}
 use Rattle.shared_unit.proofs.Steps.{earlier_again}
 use Rattle.run_promise.specs.Begin.{Begin}
 use Rattle.law_workers.specs.Views.{entries_in, log_of}
-use Rattle.run_promise.specs.Deed.{deed_of}
+use Rattle.run_promise.specs.Deed.{deed_of, tells_count}
 use Rattle.law_workers.specs.Order.{Layout}
 use Rattle.run_promise.specs.Machine.{Move, Kept, Found, Drew, Overdrew}
 use Rattle.run_promise.specs.Serving as machine
@@ -58,7 +58,7 @@ use Rattle.law_calls.specs.Answering.{answer_of, fault_answer, protected_answer,
 use Rattle.law_calls.proofs.Behind.{lines_of}
 use Rattle.law_calls.proofs.Counting.{Shows, found_shows, draws_shows, back_shows, uses_shows}
 use Rattle.law_calls.proofs.Exactness.{AreDrawn, refused_exactly, told_exactly}
-use Rattle.law_calls.proofs.InTurn.{CoversSpent, Passes, Stands, clean_found, covers, entries_are, given_as, given_entered, looks_pass, stands_found, stood_clean, takes_pass}
+use Rattle.law_calls.proofs.InTurn.{CoversSpent, Passes, Stands, clean_found, covers, entries_are, given_as, given_entered, looks_pass, plain_uncounted, same_stands, stands_found, stays_with, stood_clean, takes_pass}
 use Rattle.law_calls.proofs.Moving.{Moves, moves_none, moves_found, moves_drew, moves_over}
 use Rattle.law_calls.proofs.OneRecord.{Turned}
 use Rattle.law_calls.proofs.Permitted.{clear_reply, planned_reply, row_last}
@@ -90,6 +90,10 @@ module _ (told : Bool) (begin : Begin) (layout : Layout) (segment : ℕ) (task :
   not_kept : (move : Move) → draws task.kind ≡ false → move ≡ Kept
   not_kept move is = absurd (let both : true ≡ false = ap draws (sym protects) ∙ is in let b = both in cc)
 
+  -- no answer to a frame tells a count
+  uncounted : (answer : Answer) → IsTrue (tells_count (deed_of segment task answer)) → ⊥
+  uncounted answer = plain_uncounted task.kind Protect _ protects refl
+
   -- where none was made, those stand that stood
   none_stand : (log : List Logged) → Turned log [] v.turn w.turn → log ≡ log_of v → Stand []
   none_stand log turn same level =
@@ -101,7 +105,9 @@ module _ (told : Bool) (begin : Begin) (layout : Layout) (segment : ℕ) (task :
   looks_finish move moves spent spent_is l answer tells serves =
       let turn : Turned v.turn.known.log [] v.turn w.turn = looked told begin layout segment task v w began free protects l in
       told_exactly begin segment task v w move moves v.turn.known.log [] turn tt spent (looks_pass begin v w spent turn spent_is) answer tells
-      (λ same level backed. ([], none_stand v.turn.known.log turn same level, serves level backed (none_stand v.turn.known.log turn same level)))
+      (λ same level backed.
+      let stood = none_stand v.turn.known.log turn same level in
+      ([], stood, serves level backed stood, inl (stays_with begin v w v.turn.known.log [] turn same stood), uncounted answer))
 
   by_lines : (done : BookView → BookView → Type 0) (t : TakesTurn told done v.turn w.turn) (es : List Entry)
       → t.given.log ≡ t.found.log ++ lines_of es → Turned t.found.log es v.turn w.turn
@@ -127,7 +133,9 @@ module _ (told : Bool) (begin : Begin) (layout : Layout) (segment : ℕ) (task :
       → AnsweredExactly begin segment v w task (Some answer)
   taken_finish done t es is move moves drawn spent spent_is answer tells stand serves =
       told_exactly begin segment task v w move moves t.found.log es (by_lines done t es is) drawn spent (passes done t es is spent spent_is) answer tells
-      (λ same level backed. (es, stand same level, serves same level backed (stand same level)))
+      (λ same level backed.
+      let stood = stand same level in
+      (es, stood, serves same level backed stood, inl (stays_with begin v w t.found.log es (by_lines done t es is) same stood), uncounted answer))
 
   -- the site had not failed when the book was found
   abbrev FoundClean : (done : BookView → BookView → Type 0) → TakesTurn told done v.turn w.turn → Type 0
@@ -369,17 +377,19 @@ module _ (told : Bool) (begin : Begin) (layout : Layout) (segment : ℕ) (task :
       opening = opening_taken told begin layout segment task v w began free protects (Reserves p.binding.key n (Err other)) k
 
       ends : (es : List Entry) → k.given.log ≡ k.found.log ++ lines_of es → AreDrawn (Drew p.row n ∷ []) es
+          → (((count : ℕ) → other ≢ refusals.SiteFault count) → k.found.log ≡ log_of v → AllStand v → AllStand w)
           → (other ≡ refusals.SessionFull → (length es ≤ 1) × IsClean v × AllStand w) → other ≢ refusals.NoMemory
           → AnsweredExactly begin segment v w task (fault_answer other position)
-      ends es is are few remembers = refused_exactly begin segment task v w (Drew p.row n)
+      ends es is are stays few remembers = refused_exactly begin segment task v w (Drew p.row n)
           (moves_drew begin v w task p.row (row_below told begin layout segment task v w began free protects p used opening) n [] (shows n drawn))
           k.found.log es (by_lines (Reserves p.binding.key n (Err other)) k es is) are
           [] (passes (Reserves p.binding.key n (Err other)) k es is [] (shows n drawn).counted.spent_is)
-          (not_kept (Drew p.row n)) other position few (λ _ is. absurd (remembers is))
+          (not_kept (Drew p.row n)) other position stays few (λ _ is. absurd (remembers is))
 
       by_case : Reserves p.binding.key n (Err other) k.found k.given → AnsweredExactly begin segment v w task (fault_answer other position)
       by_case (unmarked, inl (is_barred, same)) =
           ends [] (none_left k.found k.given same) tt
+          (λ faulty here all. same_stands told begin k.found k.given (seeing k.epoch v.turn) v w began free k.visits same refl here all)
           (λ is.
           let full = subst (IsBarred k.found) is is_barred in (
             omega arith,
@@ -391,7 +401,8 @@ module _ (told : Bool) (begin : Begin) (layout : Layout) (segment : ℕ) (task :
             → AnsweredExactly begin segment v w task (fault_answer other position)
         by_fault (refusals.SiteFault count) is u =
             ends (reserve_of k.found.plan k.found.state p.binding.key n ∷ []) (ap (λ (b : BookView). b.log) u.3)
-            (reserve_drawn p.row n (reserve_of k.found.plan k.found.state p.binding.key n) refl, tt) (λ same. absurd (let no = sym is ∙ same in cc))
+            (reserve_drawn p.row n (reserve_of k.found.plan k.found.state p.binding.key n) refl, tt)
+            (λ faulty. absurd (faulty count is)) (λ same. absurd (let no = sym is ∙ same in cc))
             (λ same. let no = sym is ∙ same in cc)
         by_fault (refusals.Stopped count) is u = absurd u
         by_fault refusals.SessionFull is u = absurd u

@@ -52,4 +52,4 @@ unserved begin layout segment v task = (
 pub unserved_exactly : (begin : Begin) (segment : ℕ) (v : View) (task : Record) → AnsweredExactly begin segment v v task (Some unserved_answer)
 unserved_exactly begin segment v task =
     wanting_exactly begin segment task v v Kept (moves_none begin v v refl) v.turn.known.log [] (same_turn v) tt []
-    (looks_pass begin v v [] (same_turn v) (sym (append-nil v.numbers.spent))) (λ _. refl) (λ _. refl)
+    (looks_pass begin v v [] (same_turn v) (sym (append-nil v.numbers.spent))) (λ _. refl) (λ same all. all) (λ _. refl)

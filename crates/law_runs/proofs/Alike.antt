@@ -218,7 +218,7 @@ module _ (call other : CallSeen) (run : RunEnds call) (again : RunEnds other) (p
     (own entries : List Entry) → AreReported before deeds → AreReported before others
     → ((front rest : List Entry) → own ≡ front ++ rest → KeepsRules (after begin.start (history ++ front)))
     → SameTasks deeds others → AreServed deeds → AreServed others
-    → ServesAll begin history deeds moves own → ServesAll begin history others more entries
+    → ServesAll begin false history deeds moves own → ServesAll begin false history others more entries
     → Runs rows words moves → Runs rows words more
     → (map (λ (deed : Deed). deed.answer) deeds ≡ map (λ (deed : Deed). deed.answer) others) × (own ≡ entries) × (moves ≡ more))
     (along : (plan : PlanLines) (start : State) (places : List Place) (entries : List Entry) → IsLegalHistory plan start places entries
@@ -231,11 +231,11 @@ module _ (call other : CallSeen) (run : RunEnds call) (again : RunEnds other) (p
 
   -- where each record has its answer the records made all entries of the lane
   served_whole : (c : CallSeen) (account : Account) (ends : ℕ) (words : List ℕ) (e : IsExact c account plan state words ends) → ¬ Rose c.site.faults account.last
-      → length account.answers ≡ length account.handled → ServesAll (begin_of c plan state) [] (deeds_in account) e.moves (take ends c.entries)
+      → length account.answers ≡ length account.handled → ServesAll (begin_of c plan state) false [] (deeds_in account) e.moves (take ends c.entries)
   served_whole c account ends words e calm all =
       let (own, rest, is, serves, few, none) = e.served in
       let same : take ends c.entries ≡ own = is ∙ ap (λ (l : List Entry). own ++ l) (none all calm) ∙ append-nil own in
-      subst (λ (l : List Entry). ServesAll (begin_of c plan state) [] (deeds_in account) e.moves l) (sym same) serves
+      subst (λ (l : List Entry). ServesAll (begin_of c plan state) false [] (deeds_in account) e.moves l) (sym same) serves
 
   quiet : ¬ Rose call.site.faults run.account.last
   quiet rose = still (rose_later call.site.faults run.account.last call.site_after.faults run.after_later rose)
@@ -271,7 +271,7 @@ module _ (call other : CallSeen) (run : RunEnds call) (again : RunEnds other) (p
         (all_served (NearWord state other.entries (records_of again.account.handled)) (course_of other again.account plan state) again.account.handled again.account.answers t.run.answers
         refails)
         (served_whole call run.account s.run.history.run.ends r.words e quiet each)
-        (subst (λ (b : Begin). ServesAll b [] (deeds_in again.account) f.moves (take t.run.history.run.ends other.entries)) begins
+        (subst (λ (b : Begin). ServesAll b false [] (deeds_in again.account) f.moves (take t.run.history.run.ends other.entries)) begins
         (served_whole other again.account t.run.history.run.ends q.words f requiet reach))
         (no_more_moves MOST_KEYS (mark_at state) e.moves e.beyond (e.each each) e.runs)
         (no_more_moves MOST_KEYS (mark_at state) f.moves f.beyond (f.each reach) f.runs)

@@ -6,6 +6,8 @@ use Rattle.sdls_base.specs.declared.entry.Entry.{Entry}
 use Rattle.sdls_outside.specs.Faults.{Rose}
 use Rattle.counter_table.specs.declared.view.View.{View}
 use Rattle.counter_table.specs.Whole.{RowStands, IsWhole}
+use Rattle.record_io.specs.Answers.{IsAnswer}
+use Rattle.record_io.specs.Answers.{IsAnswer}
 use Rattle.record_io.specs.Places.{Place, records_of}
 use Rattle.unit_plan.specs.PlanRules.{IsPlan}
 use Rattle.unit_state.specs.State.{KeepsRules}
@@ -79,8 +81,8 @@ module _ (begin : Begin) (first now : View) (places : List Place) (deeds : List 
       (rules_at_end begin first now places deeds is_opened d whole plan_is started))
 
   -- the run is sound
-  pub sound_run : AreReported [] deeds → IsSound course places deeds
-  sound_run reports = record {
+  pub sound_run : AreReported [] deeds → All (λ (a : Deed). IsAnswer a.answer) deeds → IsSound course places deeds
+  sound_run reports widths = record {
     history = history;
     answers = fit;
     pairs = pairs begin first now (records_of places) deeds is_opened d whole rows started kept ascend;
@@ -95,6 +97,7 @@ module _ (begin : Begin) (first now : View) (places : List Place) (deeds : List 
     none_made = λ k a low code. none_of_lanes begin first now (records_of places) deeds is_opened d whole rows started kept words stand releases are
         (slice_index_or deeds k a).task.index (none_made begin first now (records_of places) deeds is_opened d whole rows started kept once k a low code);
     reports = reports;
+    widths = widths;
   }
 
   -- and what covers an answer covers it to the end, over the releases

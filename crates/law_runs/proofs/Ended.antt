@@ -10,7 +10,7 @@ use Rattle.sdls_outside.specs.Faults.{Rose}
 use Rattle.sdls_outside.specs.Moments.{Trace, Between, EachMoment}
 use Rattle.sdls_outside.specs.Site as sites
 use Rattle.record_io.specs.declared.status.TheConstants.{SITE_FAULT}
-use Rattle.record_io.specs.Answers.{answer_octets, answers_octets}
+use Rattle.record_io.specs.Answers.{IsAnswer, answer_octets, answers_octets}
 use Rattle.record_io.specs.Places.{Place, first_count, places_of, records_of}
 use Rattle.record_io.specs.Reading.{SourceSeen}
 use Rattle.counter_table.specs.declared.view.View.{View}
@@ -36,7 +36,7 @@ use Rattle.law_runs.proofs.Doing.{ends_run}
 use Rattle.law_runs.proofs.Moved.{moved_run, settled_more}
 use Rattle.law_runs.proofs.Moments.{all_moments}
 use Rattle.law_runs.proofs.Releases.{AreAdded, AreWords, IsRefusedRelease, are_added, are_releases, ends_released, released_full, released_pieces, released_quietly}
-use Rattle.law_runs.proofs.Placed.{IsBefore, places_ascend}
+use Rattle.law_runs.proofs.Placed.{IsBefore, answers_all, places_ascend}
 use Rattle.law_runs.specs.AtEnd.{EndsRun, course_at_end, StaysCovered}
 use Rattle.law_runs.specs.Release.{AreReleases}
 use Rattle.law_runs.specs.Settled.{AreSettled}
@@ -188,6 +188,10 @@ module _ (told : Bool) (site after : SiteSeen) (source source_after : SourceSeen
         ∙ entries_both end.released.log (lines.Piece (sunk_between end.released.site.trace end.last.site.trace) ∷ [])
         ∙ append-nil (entries_of end.released.log)
   ]
+
+  end_widths : IsAnswer (end_answer end.end (length entries))
+  end_widths =
+      subst (λ (es : List Entry). IsAnswer (end_answer end.end (length es))) (sym (end.entries_are ∙ last_entries)) end.widths
 
   pub entries_known : entries ≡ entries_of end.released.log
   entries_known = end.entries_are ∙ last_entries
@@ -541,6 +545,7 @@ module _ (told : Bool) (site after : SiteSeen) (source source_after : SourceSeen
         sound_run (begin_by told book.plan book.start) first now (places_of ran.come.of) (deeds_from (places_of ran.come.of) ran.come.answers)
         e.opened e.does e.whole e.rows e.plan_is e.rules e.left (λ row. slice_index words row) e.words_are (take entries_added.count (releases book.state 0 words)) e.releases_are
         e.pieces e.lined e.once e.ascend book.site.faults e.fewer e.stopped ran.come.reports
+        (answers_all IsAnswer (places_of ran.come.of) ran.come.answers ran.come.widths)
 
     covered_so : StaysCovered (course_of call account book.plan book.start)
         (deeds_from (places_of ran.come.of) ran.come.answers)
@@ -580,6 +585,7 @@ module _ (told : Bool) (site after : SiteSeen) (source source_after : SourceSeen
       none_made = subst (λ (c : Course). All (λ deed. IsUnmade deed.answer.code → HasNoEntry c.entries deed.task.index)
           (deeds_from (places_of ran.come.of) ran.come.answers)) course_is sound_so.none_made;
       reports = ran.come.reports;
+      widths = sound_so.widths;
     }
 
     -- ---- its moments
@@ -839,7 +845,7 @@ module _ (told : Bool) (site after : SiteSeen) (source source_after : SourceSeen
     sound_call is_told =
         let (r, same) = released_so is_told in
         record {
-          sound = record { run = sound_call_run is_told; moments = moments_so is_told };
+          sound = record { run = sound_call_run is_told; moments = moments_so is_told; end_widths = end_widths };
           released = r;
           exact = λ one. subst (λ (ws : List ℕ). IsExact call account book.plan book.start ws (length (entries_in now))) (sym same) (exact_so is_told one);
           exit = kept_stands told call account book.start end.last is_told end.kept end.site_is end.entries_are last_start

@@ -1,5 +1,5 @@
 -- Where all records are of one lane: how the words moved, segment by segment, and what is told of it at the end of a run.
-use Rattle.std.proofs.Common.{◌≡◌, ◌⊎◌, ℕ, zero, suc, ◌+◌, ◌<◌, ◌≤◌, List, [], ◌∷◌, ◌++◌, length, Some, refl, sym, ◌∙◌, ap, subst, inl, inr, arith, append_assoc, append-nil, length-append, take, drop, max}
+use Rattle.std.proofs.Common.{◌≡◌, ◌⊎◌, Bool, false, IsTrue, ℕ, zero, suc, ◌+◌, ◌<◌, ◌≤◌, List, [], ◌∷◌, ◌++◌, length, Some, refl, sym, ◌∙◌, ap, subst, inl, inr, arith, append_assoc, append-nil, length-append, take, drop, max}
 use Rattle.std.specs.List.{All, slice_get, slice_index}
 use Rattle.std.proofs.lemmas.Bool.Decides.{nat_tests}
 use Rattle.std.proofs.lemmas.List.{append_cancel_left, take-append-drop, take-append-le, take_all}
@@ -32,7 +32,7 @@ use Rattle.law_workers.proofs.Histories.{get_front, place_of_entry}
 use Rattle.law_workers.proofs.Joining.{grows_further}
 use Rattle.law_workers.proofs.Logs.{count_one, stands_both, times_both}
 use Rattle.run_promise.specs.Machine.{Move, Runs}
-use Rattle.run_promise.specs.Serving.{ServesAll}
+use Rattle.run_promise.specs.Serving.{ServesAll, failed_after}
 use Rattle.law_workers.specs.InTurn.{MadeAllLines, IsClean, IsLeftBehind, IsLevel, AllStand, stood_in, IsBacked}
 use Rattle.law_workers.specs.Exact.{words_in, Exact, IsOfMoves}
 use Rattle.run_promise.specs.Moves.{TellAll}
@@ -40,7 +40,7 @@ use Rattle.law_workers.specs.Alone.{MovedExactly, ServedAlone}
 use Rattle.run_promise.specs.Alone.{OneLane, IsExact}
 use Rattle.law_workers.proofs.Alone.{below_log, exact_seen, seen_moves}
 use Rattle.law_workers.proofs.Machines.{alone, exact_nothing, exact_then, nothing_moves, runs_same, tell_more, then_moves}
-use Rattle.law_workers.proofs.Turns.{all_on, level_on, log_low, made_first, made_rest, serves_both, stood_is, stood_on}
+use Rattle.law_workers.proofs.Turns.{all_on, failed_both, level_on, log_low, made_first, made_rest, serves_both, stood_is, stood_on}
 use Rattle.law_workers.specs.Opened.{IsJustOpened}
 use Rattle.law_workers.specs.Settles.{SettlesAt}
 use Rattle.run_promise.specs.Call.{CallSeen}
@@ -127,6 +127,12 @@ above_log begin u v ts ds d made is place h =
     let same : made ≡ d.gains.made = append_cancel_left u.turn.made made d.gains.made (sym is ∙ d.gained.made) in
     (d.works.made place (subst (λ (l : List ℕ). 0 < stands place l) same h)).0
 
+-- the answered records were served so, whether an append had failed before or not; and whether one has failed, the
+-- answers tell
+abbrev ServedSo : Begin → View → View → List Deed → List Move → List Entry → Type 0
+ServedSo begin first now deeds moves own = (failed : Bool) → (¬ AllStand first → IsTrue failed)
+    → ServesAll begin failed (stood_in first) deeds moves own × (¬ AllStand now → IsTrue (failed_after failed deeds))
+
 module _ (begin : Begin) (first v mid w : View) (places more : List Place) (answers next : List Answer) (number stored entries lines : ℕ)
     (does : Does begin first v (records_of places) (deeds_from places answers)) (each : length answers ≡ length places)
     (here : Does begin v mid (records_of more) (deeds_from more next))
@@ -146,7 +152,7 @@ module _ (begin : Begin) (first v mid w : View) (places more : List Place) (answ
   Before last = (e : Exact begin first v a.moved.made (deeds_from places answers) last)
       × (MadeAllLines first v a.moved.made → IsLevel first
       → (own : List Entry) × (rest : List Entry) × (stood_in v ≡ stood_in first ++ (own ++ rest))
-      × ServesAll begin (stood_in first) (deeds_from places answers) e.moves own × IsLeftBehind v last rest)
+      × ServedSo begin first v (deeds_from places answers) e.moves own × IsLeftBehind v last rest)
 
   before : Before []
   unfolding Before
@@ -184,10 +190,10 @@ module _ (begin : Begin) (first v mid w : View) (places more : List Place) (answ
   both_served : (e : Exact begin first v a.moved.made (deeds_from places answers) []) (moves : List Move) → moves ≡ e.moves ++ b.moved.exact.moves
       → (MadeAllLines first v a.moved.made → IsLevel first
       → (own : List Entry) × (rest : List Entry) × (stood_in v ≡ stood_in first ++ (own ++ rest))
-      × ServesAll begin (stood_in first) (deeds_from places answers) e.moves own × IsLeftBehind v [] rest)
+      × ServedSo begin first v (deeds_from places answers) e.moves own × IsLeftBehind v [] rest)
       → MadeAllLines first w (a.moved.made ++ (b.moved.made ++ puts.does.gains.made)) → IsLevel first
       → (own : List Entry) × (rest : List Entry) × (stood_in w ≡ stood_in first ++ (own ++ rest))
-      × ServesAll begin (stood_in first) (deeds_from places answers ++ deeds_from more next) moves own × IsLeftBehind w b.moved.last rest
+      × ServedSo begin first w (deeds_from places answers ++ deeds_from more next) moves own × IsLeftBehind w b.moved.last rest
   both_served e moves is served all level =
       let level_v = a.level level in
       let level_mid = b.between.level level_v in
@@ -202,9 +208,16 @@ module _ (begin : Begin) (first v mid w : View) (places more : List Place) (answ
         stood_on mid w puts.does.grows.earlier puts.does.grows.opening puts.entries level_mid
             ∙ more_is ∙ ap (λ (l : List Entry). l ++ (more_own ++ rest)) own_is ∙ append_assoc (stood_in first) own (more_own ++ rest)
             ∙ ap (λ (l : List Entry). stood_in first ++ l) (sym (append_assoc own more_own rest)),
-        subst (λ (l : List Move). ServesAll begin (stood_in first) (deeds_from places answers ++ deeds_from more next) l (own ++ more_own)) (sym is)
-            (serves_both begin (stood_in first) (deeds_from places answers) (deeds_from more next) e.moves b.moved.exact.moves own more_own one
-            (subst (λ (l : List Entry). ServesAll begin l (deeds_from more next) b.moved.exact.moves more_own) own_is two)),
+        λ failed tells.
+            let (first_part, told) = one failed tells in
+            let (second, last_told) = two (failed_after failed (deeds_from places answers)) told in (
+              subst (λ (l : List Move). ServesAll begin failed (stood_in first) (deeds_from places answers ++ deeds_from more next) l (own ++ more_own)) (sym is)
+                  (serves_both begin failed (stood_in first) (deeds_from places answers) (deeds_from more next) e.moves b.moved.exact.moves own more_own first_part
+                  (subst (λ (l : List Entry). ServesAll begin (failed_after failed (deeds_from places answers)) l (deeds_from more next) b.moved.exact.moves more_own)
+                  own_is second)),
+              λ not. subst IsTrue (sym (failed_both failed (deeds_from places answers) (deeds_from more next)))
+                  (last_told (λ all. not (all_on mid w puts.does.grows.earlier puts.does.grows.opening puts.entries all))),
+            ),
         left_put b.moved.last rest behind,
       )
 
@@ -213,7 +226,7 @@ module _ (begin : Begin) (first v mid w : View) (places more : List Place) (answ
       × (IsLevel first → IsLevel w)
       × (MadeAllLines first w moved.made → IsLevel first
       → (own : List Entry) × (rest : List Entry) × (stood_in w ≡ stood_in first ++ (own ++ rest))
-      × ServesAll begin (stood_in first) (deeds_from places answers ++ deeds_from more next) moved.exact.moves own × IsLeftBehind w moved.last rest)
+      × ServedSo begin first w (deeds_from places answers ++ deeds_from more next) moved.exact.moves own × IsLeftBehind w moved.last rest)
   unfolding before Before c moved_put
   alone_then =
       let (e, served) = before in (
@@ -238,17 +251,17 @@ alone_as : (begin : Begin) (first w : View) (places : List Place) (answers : Lis
     → deeds_from places answers ≡ deeds
     → (moved : MovedExactly begin first w n deeds) × (IsLevel first → IsLevel w)
     × (MadeAllLines first w moved.made → IsLevel first
-    → (own : List Entry) × (rest : List Entry) × (stood_in w ≡ stood_in first ++ (own ++ rest)) × ServesAll begin (stood_in first) deeds moved.exact.moves own
+    → (own : List Entry) × (rest : List Entry) × (stood_in w ≡ stood_in first ++ (own ++ rest)) × ServedSo begin first w deeds moved.exact.moves own
     × IsLeftBehind w moved.last rest)
     → RunAlone begin first w places answers
 alone_as begin first w places answers n deeds size is h =
     let (moved, level, served) = subst (λ (k : ℕ). (moved : MovedExactly begin first w k (deeds_from places answers)) × (IsLevel first → IsLevel w)
     × (MadeAllLines first w moved.made → IsLevel first
-    → (own : List Entry) × (rest : List Entry) × (stood_in w ≡ stood_in first ++ (own ++ rest)) × ServesAll begin (stood_in first) (deeds_from places answers) moved.exact.moves own
+    → (own : List Entry) × (rest : List Entry) × (stood_in w ≡ stood_in first ++ (own ++ rest)) × ServedSo begin first w (deeds_from places answers) moved.exact.moves own
     × IsLeftBehind w moved.last rest)) (sym size)
     (subst (λ (ds : List Deed). (moved : MovedExactly begin first w n ds) × (IsLevel first → IsLevel w)
     × (MadeAllLines first w moved.made → IsLevel first
-    → (own : List Entry) × (rest : List Entry) × (stood_in w ≡ stood_in first ++ (own ++ rest)) × ServesAll begin (stood_in first) ds moved.exact.moves own
+    → (own : List Entry) × (rest : List Entry) × (stood_in w ≡ stood_in first ++ (own ++ rest)) × ServedSo begin first w ds moved.exact.moves own
     × IsLeftBehind w moved.last rest)) (sym is) h) in
     record { moved = moved; level = level; served = served }
 
@@ -284,7 +297,10 @@ alone_nothing begin first = record {
     [],
     [],
     sym (append-nil (stood_in first)),
-    subst (λ (moves : List Move). ServesAll begin (stood_in first) [] moves []) (sym (nothing_moves begin first)) refl,
+    λ failed tells. (
+      subst (λ (moves : List Move). ServesAll begin failed (stood_in first) [] moves []) (sym (nothing_moves begin first)) refl,
+      tells,
+    ),
     (λ none. refl, inl refl),
   );
 }
@@ -339,8 +355,9 @@ exact_call call account plan begin first now words releases begins opened whole 
         own,
         rest ++ left,
         front,
-        subst (λ (b : Begin). ServesAll b [] (deeds_in account) alone_run.moved.exact.moves own) begins
-            (subst (λ (l : List Entry). ServesAll begin l (deeds_in account) alone_run.moved.exact.moves own) none_stood served),
+        subst (λ (b : Begin). ServesAll b false [] (deeds_in account) alone_run.moved.exact.moves own) begins
+            (subst (λ (l : List Entry). ServesAll begin false l (deeds_in account) alone_run.moved.exact.moves own) none_stood
+            (served false (λ not. absurd (not (let size = ap length none_first in omega arith)))).0),
         few_left rest behind,
         λ all quiet.
             let clean : IsClean now = (λ risen. quiet (subst (λ (n : ℕ). Rose n account.last) faults_before

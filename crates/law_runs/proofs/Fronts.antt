@@ -1,5 +1,5 @@
 -- Two runs of one lane over one image that handled the same records: as far as both have answers, these are the same.
-use Rattle.std.proofs.Common.{◌≡◌, ℕ, zero, suc, ◌≤◌, IsTrue, List, [], ◌∷◌, ◌++◌, length, map, take, Ok, refl, sym, ◌∙◌, ap, subst, arith, append_assoc}
+use Rattle.std.proofs.Common.{◌≡◌, Bool, false, ℕ, zero, suc, ◌≤◌, IsTrue, List, [], ◌∷◌, ◌++◌, length, map, take, Ok, refl, sym, ◌∙◌, ap, subst, arith, append_assoc}
 use Rattle.std.proofs.lemmas.List.{take_all}
 use Rattle.sdls_base.specs.declared.TheConstants.{MOST_KEYS}
 use Rattle.sdls_base.specs.declared.entry.Entry.{Entry}
@@ -19,7 +19,7 @@ use Rattle.run_promise.specs.Deed.{Deed}
 use Rattle.run_promise.specs.Machine.{Move, Runs, word_after}
 use Rattle.fsr_log.specs.Noted.{Noted}
 use Rattle.run_promise.specs.Reports.{AreReported, noted_of}
-use Rattle.run_promise.specs.Serving.{AreServed, SameTasks, ServesAll}
+use Rattle.run_promise.specs.Serving.{AreServed, SameTasks, ServesAll, has_failed}
 use Rattle.run_promise.specs.Alone.{OneLane, IsExact}
 use Rattle.run_promise.specs.declared.end.RunEnd.{RunEnd}
 use Rattle.run_promise.specs.declared.end.RunEnd.TheVariants as ends
@@ -31,18 +31,19 @@ use Rattle.law_runs.proofs.Alike.{are_served, began_alike, entries_alike, rules_
 
 -- ---- fronts
 
-front_serves : (begin : Begin) (history : List Entry) (n : ℕ) (deeds : List Deed) (moves : List Move) (own : List Entry) → ServesAll begin history deeds moves own
-    → (front : List Entry) × (rest : List Entry) × (own ≡ front ++ rest) × ServesAll begin history (take n deeds) (take n moves) front
-front_serves begin history zero deeds moves own h = ([], own, refl, refl)
-front_serves begin history (suc n) [] [] own h = ([], own, refl, refl)
-front_serves begin history (suc n) [] (move ∷ moves) own h = absurd h
-front_serves begin history (suc n) (deed ∷ deeds) [] own h = absurd h
-front_serves begin history (suc n) (deed ∷ deeds) (move ∷ moves) own (first, others, is, one, all) =
-    let (front, rest, split, served) = front_serves begin (history ++ first) n deeds moves others all in (
+front_serves : (begin : Begin) (failed : Bool) (history : List Entry) (n : ℕ) (deeds : List Deed) (moves : List Move) (own : List Entry)
+    → ServesAll begin failed history deeds moves own
+    → (front : List Entry) × (rest : List Entry) × (own ≡ front ++ rest) × ServesAll begin failed history (take n deeds) (take n moves) front
+front_serves begin failed history zero deeds moves own h = ([], own, refl, refl)
+front_serves begin failed history (suc n) [] [] own h = ([], own, refl, refl)
+front_serves begin failed history (suc n) [] (move ∷ moves) own h = absurd h
+front_serves begin failed history (suc n) (deed ∷ deeds) [] own h = absurd h
+front_serves begin failed history (suc n) (deed ∷ deeds) (move ∷ moves) own (first, others, is, one, counts, all) =
+    let (front, rest, split, served) = front_serves begin (has_failed failed deed.answer) (history ++ first) n deeds moves others all in (
       first ++ front,
       rest,
       is ∙ ap (λ (l : List Entry). first ++ l) split ∙ sym (append_assoc first front rest),
-      (first, front, refl, one, served),
+      (first, front, refl, one, counts, served),
     )
 
 front_runs : (rows : ℕ) (words : ℕ → ℕ) (n : ℕ) (moves beyond : List Move) → Runs rows words (moves ++ beyond) → Runs rows words (take n moves)
@@ -94,7 +95,7 @@ module _ (call other : CallSeen) (run : RunEnds call) (again : RunEnds other) (p
     (own entries : List Entry) → AreReported before deeds → AreReported before others
     → ((front rest : List Entry) → own ≡ front ++ rest → KeepsRules (after begin.start (history ++ front)))
     → SameTasks deeds others → AreServed deeds → AreServed others
-    → ServesAll begin history deeds moves own → ServesAll begin history others more entries
+    → ServesAll begin false history deeds moves own → ServesAll begin false history others more entries
     → Runs rows words moves → Runs rows words more
     → (map (λ (deed : Deed). deed.answer) deeds ≡ map (λ (deed : Deed). deed.answer) others) × (own ≡ entries) × (moves ≡ more))
     (along : (plan : PlanLines) (start : State) (places : List Place) (entries : List Entry) → IsLegalHistory plan start places entries
@@ -117,9 +118,9 @@ module _ (call other : CallSeen) (run : RunEnds call) (again : RunEnds other) (p
       same =
           let (own, rest, is, serves, few, none) = e.served in
           let (entries, left, at, reserves, few_left, zero_left) = f.served in
-          let (front, more, split, served) = front_serves (begin_of call plan state) [] n (deeds_in run.account) e.moves own serves in
-          let (back, most, cut, reserved) = front_serves (begin_of call plan state) [] n (deeds_in again.account) f.moves entries
-          (subst (λ (b : Begin). ServesAll b [] (deeds_in again.account) f.moves entries) (began_alike call other plan state told tells) reserves) in
+          let (front, more, split, served) = front_serves (begin_of call plan state) false [] n (deeds_in run.account) e.moves own serves in
+          let (back, most, cut, reserved) = front_serves (begin_of call plan state) false [] n (deeds_in again.account) f.moves entries
+          (subst (λ (b : Begin). ServesAll b false [] (deeds_in again.account) f.moves entries) (began_alike call other plan state told tells) reserves) in
           let both = once (begin_of call plan state) MOST_KEYS (mark_at state) [] [] (take n (deeds_in run.account)) (take n (deeds_in again.account))
           (take n e.moves) (take n f.moves) front back (front_reported n [] (deeds_in run.account) run.reports)
           (front_reported n [] (deeds_in again.account) again.reports)

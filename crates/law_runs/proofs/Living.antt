@@ -90,7 +90,7 @@ module _ (well : LivesWell) where
       lift plan state shows sound left sunk (inl early) = inl early
       lift plan state shows sound left sunk (inr served) =
           inr (lives_on call account plan state (end_octets call account.told) left (sunk_since call sunk) shows
-          (inr (end_answer account.told (length call.entries), refl, refl)) sound.run served image runs life left_is)
+          (inr (end_answer account.told (length call.entries), sound.end_widths, refl, refl)) sound.run served image runs life left_is)
 
   pub reading_keeps_lives : (call : CallSeen)
       → ((plan : PlanLines) (state : State) → ShowsAtEntry call plan state

@@ -12,7 +12,7 @@ use Rattle.counter_table.specs.Whole.{IsWhole}
 use Rattle.record_io.specs.declared.answers.Answer.{Answer}
 use Rattle.record_io.specs.declared.kinds.TheConstants.{LANES}
 use Rattle.record_io.specs.declared.records.Record.{Record}
-use Rattle.record_io.specs.Answers.{answer_octets, answers_octets}
+use Rattle.record_io.specs.Answers.{IsAnswer, answer_octets, answers_octets}
 use Rattle.record_io.specs.declared.kinds.ItemKind.{ItemKind}
 use Rattle.record_io.specs.declared.kinds.RecordKind.TheVariants.{Monitor}
 use Rattle.sdls_base.specs.declared.entry.Entry.{Entry}
@@ -386,6 +386,7 @@ module _ (start now : SourceSeen) (begin : Begin) (first v : View) (failed_befor
     exactly = way.exactly;
     moved = way.moved;
     reports = way.reports;
+    widths = way.widths;
     full = λ is. absurd (let t : ends.NoMemory ≡ ends.SessionFull = is in cc);
     earlier = λ is_told place there.
         let a = octets_of_take (length (of_first place.segment (places_of items))) answers in
@@ -558,6 +559,7 @@ module _ (start now : SourceSeen) (begin : Begin) (first v : View) (failed_befor
       exactly = exactly_on;
       moved = moved_now;
       reports = reported_on;
+      widths = All-append IsAnswer answers next way.widths h.widths;
       full = λ is. full_on (full is);
       earlier = earlier_put;
     }
@@ -582,6 +584,7 @@ module _ (start now : SourceSeen) (begin : Begin) (first v : View) (failed_befor
       exactly = exactly_on;
       moved = moved_now;
       reports = reported_on;
+      widths = All-append IsAnswer answers next way.widths h.widths;
     }
 
     -- they and the answers so far, as the log takes them
@@ -613,6 +616,7 @@ wants_reading start before now standing begin first v failed_before failed store
   exactly = way.served.exactly;
   moved = way.served.moved;
   reports = way.served.reports;
+  widths = way.served.widths;
   full = λ is. absurd (let t : ends.NoMemory ≡ ends.SessionFull = is in cc);
   earlier = λ is_told place there.
       let a = octets_of_take (length (of_first place.segment (places_of way.items))) way.answers in
@@ -656,5 +660,6 @@ begins_way start begin first failed stored none none_made = record {
     exactly = λ one. alone_nothing begin first;
     moved = words_nothing begin first [];
     reports = tt;
+    widths = All-nil IsAnswer;
   };
 }

@@ -122,6 +122,15 @@ deeds_all P (place ∷ places) (answer ∷ answers) all zero d low = all zero pl
 deeds_all P (place ∷ places) (answer ∷ answers) all (suc k) d low =
     deeds_all P places answers (λ j e inside. all (suc j) e (omega arith)) k d (omega arith)
 
+-- what holds of each answer holds of the answer of each record
+pub answers_all : (P : Answer → Type 0) (places : List Place) (answers : List Answer) → All P answers
+    → All (λ (deed : Deed). P deed.answer) (deeds_from places answers)
+answers_all P [] answers all k d low = absurd (omega arith)
+answers_all P (place ∷ places) [] all k d low = absurd (omega arith)
+answers_all P (place ∷ places) (answer ∷ answers) all zero d low = all zero answer (omega arith)
+answers_all P (place ∷ places) (answer ∷ answers) all (suc k) d low =
+    answers_all P places answers (λ j e inside. all (suc j) e (omega arith)) k d (omega arith)
+
 pub deeds_ascend : (places : List Place) (answers : List Answer) → AllPairs IsBefore places
     → AllPairs (λ (one other : Deed). one.task.index < other.task.index) (deeds_from places answers)
 deeds_ascend [] answers up i j d lt low = absurd (omega arith)

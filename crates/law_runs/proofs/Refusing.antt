@@ -304,6 +304,7 @@ module _ (told : Bool) (site back after : SiteSeen) (source : SourceSeen) (fault
           (λ image sunk. P image × (sunk_since call sunk ≡ take (length (sunk_since call sunk)) (end_octets call refused.end)))
           (λ image sunk. IsEarly call refused.end image sunk ⊎ IsServed call account plan state image sunk) served
           (with_end P is_told (refused.opening is_told));
+      end_widths = refused.widths;
     }
 
     released : KeepsRules state → restarted state ≡ state → (ends : ℕ) → ends ≤ 0

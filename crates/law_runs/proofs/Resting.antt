@@ -47,6 +47,7 @@ none_sound course plan_is rules = record {
   order = λ i j d less low. absurd (omega arith);
   none_made = λ k d low. absurd (omega arith);
   reports = tt;
+  widths = λ k d low. absurd (omega arith);
 }
 
 -- a run without records and without entries is sound

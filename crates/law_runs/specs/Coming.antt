@@ -6,7 +6,7 @@ use Rattle.sdls_outside.specs.Faults.{Rose}
 use Rattle.sdls_outside.specs.Moments.{Between}
 use Rattle.counter_table.specs.declared.view.View.{View}
 use Rattle.record_io.specs.declared.answers.Answer.{Answer}
-use Rattle.record_io.specs.Answers.{answers_octets}
+use Rattle.record_io.specs.Answers.{IsAnswer, answers_octets}
 use Rattle.record_io.specs.Input.{Item, IsInput, Whole, MalformedAt}
 use Rattle.record_io.specs.Places.{Place, places_of, records_of}
 use Rattle.record_io.specs.Reading.{SourceSeen, Standing, IsReading, HasTaken}
@@ -50,6 +50,7 @@ pub record IsServed (begin : Begin) (first now : View) (failed_before failed sto
   pub exactly : MovedAlone begin first now (places_of items) answers
   pub moved : MovesWords begin first now (records_of (places_of items)) (deeds_from (places_of items) answers)
   pub reports : AreReported [] (deeds_from (places_of items) answers)
+  pub widths : All IsAnswer answers
 
 -- Between two segments: the items so far end with a segment, the source did not fail, and each record of the items was
 -- answered.
@@ -129,6 +130,7 @@ pub record HasCome (start source : SourceSeen) (begin : Begin) (first now : View
   pub exactly : MovedAlone begin first now (places_of of) answers
   pub moved : MovesWords begin first now (records_of (places_of of)) (deeds_from (places_of of) answers)
   pub reports : AreReported [] (deeds_from (places_of of) answers)
+  pub widths : All IsAnswer answers
   pub full : came ≡ ends.SessionFull → StopsAtFullHistory begin first now (places_of of) answers
   -- all answers of the segments before that of a record that was handled were put
   pub earlier : IsTrue begin.told → (place : Place) → Contains (places_of of) place

@@ -1,5 +1,5 @@
 -- What the one worker of a run did since the opening, from segment to segment (profile).
-use Rattle.std.specs.Prelude.{◌≡◌, ℕ, ◌+◌, ◌<◌, ◌≤◌, IsTrue, List, [], ◌++◌, length, take, Contains}
+use Rattle.std.specs.Prelude.{◌≡◌, ℕ, ◌+◌, ◌<◌, ◌≤◌, Bool, IsTrue, List, [], ◌++◌, length, take, Contains}
 use Rattle.std.specs.List.{All, AllPairs}
 use Rattle.sdls_base.specs.declared.TheConstants.{MOST_KEYS}
 use Rattle.sdls_base.specs.declared.entry.Entry.{Entry}
@@ -16,8 +16,8 @@ use Rattle.law_workers.specs.Views.{entries_in, log_of}
 use Rattle.run_promise.specs.Deed.{Deed, tells_entry}
 use Rattle.law_workers.specs.Deeds.{Does, course_in}
 use Rattle.law_workers.specs.Order.{Layout, TakeTurns, Lined}
-use Rattle.run_promise.specs.Serving.{ServesAll}
-use Rattle.law_workers.specs.InTurn.{MadeAllLines, IsLeftBehind, IsLevel, stood_in}
+use Rattle.run_promise.specs.Serving.{ServesAll, failed_after}
+use Rattle.law_workers.specs.InTurn.{AllStand, MadeAllLines, IsLeftBehind, IsLevel, stood_in}
 use Rattle.law_workers.specs.Alone.{MovedExactly}
 use Rattle.run_promise.specs.Alone.{OneLane}
 use Rattle.law_workers.specs.Opened.{IsJustOpened}
@@ -54,13 +54,15 @@ pub record HasDone (begin : Begin) (first now : View) (places : List Place) (ans
 
 -- One lane alone: each record moved the words as its answer tells, and where no other worker made a line, the answered
 -- ones were served in turn from the entries that stood in the first view; they made all that stand but what a record
--- without an answer left.
+-- without an answer left. If not all entries stand, it was so at first, or an answer has told it.
 pub record RunAlone (begin : Begin) (first now : View) (places : List Place) (answers : List Answer) : Type 0 where
   pub moved : MovedExactly begin first now (length places) (deeds_from places answers)
   pub level : IsLevel first → IsLevel now
   pub served : MadeAllLines first now moved.made → IsLevel first
       → (own : List Entry) × (rest : List Entry) × (stood_in now ≡ stood_in first ++ (own ++ rest))
-      × ServesAll begin (stood_in first) (deeds_from places answers) moved.exact.moves own
+      × ((failed : Bool) → (¬ AllStand first → IsTrue failed)
+      → ServesAll begin failed (stood_in first) (deeds_from places answers) moved.exact.moves own
+      × (¬ AllStand now → IsTrue (failed_after failed (deeds_from places answers))))
       × IsLeftBehind now moved.last rest
 
 -- so it is where all records are of one lane

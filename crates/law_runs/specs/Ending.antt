@@ -4,7 +4,7 @@ use Rattle.sdls_base.specs.declared.entry.Entry.{Entry}
 use Rattle.sdls_outside.specs.Faults.{Rose}
 use Rattle.sdls_outside.specs.Site as sites
 use Rattle.record_io.specs.declared.status.TheConstants.{SITE_FAULT}
-use Rattle.record_io.specs.Answers.{answer_octets}
+use Rattle.record_io.specs.Answers.{IsAnswer, answer_octets}
 use Rattle.run_promise.specs.Site.{SiteSeen}
 use Rattle.unit_book.specs.declared.fault.BookFault.{BookFault}
 use Rattle.unit_book.specs.declared.fault.BookFault.TheVariants as faults
@@ -43,7 +43,7 @@ PutsEnd told came end old new status =
     ((came ≡ ends.PutFailed) × (new ≡ old) × (status ≡ SITE_FAULT))
     ⊎ ((came ≢ ends.PutFailed) × IsEndPut told end old new status)
 
--- The keys were released by these words `next`, and End was put.
+-- The keys were released by these words `next`, and End was put. Its fields have their widths.
 pub record Finishes (told : Bool) (before : ℕ) (words : List ℕ) (came : RunEnd) (book : BookView) (site : SiteSeen)
     (entries : List Entry) (status : ℕ) : Type 0 where
   pub released : BookView
@@ -59,3 +59,4 @@ pub record Finishes (told : Bool) (before : ℕ) (words : List ℕ) (came : RunE
   pub puts_end : PutsEnd told came end released last status
   pub site_is : site ≡ last.site
   pub entries_are : entries ≡ entries_of last.log
+  pub widths : IsAnswer (end_answer end (length (entries_of released.log)))

@@ -6,7 +6,7 @@ use Rattle.sdls_outside.specs.Faults.{HasCause}
 use Rattle.sdls_outside.specs.Moments.{EachMoment}
 use Rattle.sdls_outside.specs.Site as sites
 use Rattle.record_io.specs.declared.status.TheConstants.{SITE_FAULT}
-use Rattle.record_io.specs.Answers.{answer_octets}
+use Rattle.record_io.specs.Answers.{IsAnswer, answer_octets}
 use Rattle.unit_image.specs.declared.fault.OpenFault.{OpenFault}
 use Rattle.unit_image.specs.declared.fault.OpenFault.TheVariants as faults
 use Rattle.unit_image.specs.OpeningImage.{IsOpenCause, LeavesShown, Opening}
@@ -24,7 +24,7 @@ refused_end (faults.Image offset) = ends.NoState offset
 refused_end faults.NoMemory = ends.NoMemory
 
 -- The opening gave the site back with this fault, and then End was put on it, or a front of it. A fault of the site
--- that came before is told, else why the book was not opened.
+-- that came before is told, else why the book was not opened. The fields of End have their widths.
 pub record Refused (told : Bool) (site back after : SiteSeen) (fault : OpenFault) (status : ℕ) : Type 0 where
   pub cause : IsOpenCause site.faults back.faults (λ offset. IsTrue told → ShowsNone site.trace.now.image offset) fault
   pub left : IsTrue told → LeavesShown site.trace back.trace fault
@@ -40,3 +40,4 @@ pub record Refused (told : Bool) (site back after : SiteSeen) (fault : OpenFault
   pub counted : after.put_faults ≡ sites.after_put put back.put_faults
   pub put_cause : HasCause back.faults after.faults put
   pub status_is : MatchResult put (λ _. status ≡ end_status end) (λ _. status ≡ SITE_FAULT)
+  pub widths : IsAnswer (end_answer end 0)

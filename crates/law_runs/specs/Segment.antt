@@ -1,12 +1,13 @@
 -- One segment of a run, as its records were handled and its answers put (profile).
 use Rattle.std.specs.Prelude.{◌≡◌, ◌⊎◌, ℕ, ◌+◌, ◌≤◌, IsTrue, List, ◌++◌, length, slice_get, Some}
+use Rattle.std.specs.List.{All}
 use Rattle.sdls_outside.specs.Faults.{Rose}
 use Rattle.sdls_outside.specs.Moments.{Between}
 use Rattle.counter_table.specs.declared.view.View.{View}
 use Rattle.counter_table.specs.Whole.{IsWhole}
 use Rattle.record_io.specs.declared.answers.Answer.{Answer}
 use Rattle.record_io.specs.declared.records.Record.{Record}
-use Rattle.record_io.specs.Answers.{answers_octets}
+use Rattle.record_io.specs.Answers.{IsAnswer, answers_octets}
 use Rattle.run_promise.specs.declared.limits.TheConstants.{MOST_ENTRIES}
 use Rattle.run_promise.specs.Counts.{is_of_record, count_at}
 use Rattle.run_promise.specs.Deed.{is_entered}
@@ -27,6 +28,7 @@ pub record HandlesAndPuts (begin : Begin) (v mid w : View) (records : List Recor
   pub handled : (layout : Layout) (number : ℕ) → LiesIn layout number records
       → Handled layout begin v mid records (deeds_of number records answers)
   pub few : length answers ≤ length records
+  pub widths : All IsAnswer answers
   pub whole_mid : IsWhole begin.rows mid
   pub whole : IsWhole begin.rows w
   pub puts : PutsPieces begin mid w

@@ -1,8 +1,9 @@
 //! Laws of whole runs, from the opening to the end.
 ghost use Rattle.std.specs.Prelude.{◌≡◌, Bool, ℕ, ◌<◌, ◌≤◌, List, []};
-ghost use Rattle.std.specs.List.{AllPairs};
+ghost use Rattle.std.specs.List.{All, AllPairs};
 ghost use Rattle.sdls_base.specs.declared.entry.Entry.{Entry};
 ghost use Rattle.counter_table.specs.declared.view.View.{View};
+ghost use Rattle.record_io.specs.Answers.{IsAnswer};
 ghost use Rattle.record_io.specs.Places.{Place};
 ghost use Rattle.unit_state.specs.declared.state.State.{State};
 ghost use Rattle.unit_book.specs.Book.{BookView};
@@ -35,11 +36,12 @@ use law_image::shown_keeps_rules;
 use unit_image::{refused_with_one, shows_one};
 
 /// Law: a run that one worker did is sound, with the releases behind it, if each monitoring message has the answer of
-/// the log; and what covers an answer covers it to the end.
+/// the log and the fields of answers have their widths; and what covers an answer covers it to the end.
 pub fn run_is_sound()
     ensures sound { (begin : Begin) (first now : View) (places : List Place) (deeds : List Deed) (words : ℕ → ℕ)
         (releases : List Entry) (faults : ℕ)
         → EndsRun begin first now places deeds words releases faults → AreReported [] deeds
+        → All (λ deed. IsAnswer deed.answer) deeds
         → IsSound (course_at_end begin now releases faults) places deeds }
     ensures covered { (begin : Begin) (first now : View) (places : List Place) (deeds : List Deed) (words : ℕ → ℕ)
         (releases : List Entry) (faults : ℕ)

@@ -199,7 +199,7 @@ module _ (begin : Begin) (u v w : View) (ts us : List Record) (ds es : List Deed
   behind : (d e : Deed) → StandsWithin begin u v d → StandsWithin begin v w e → StandsBehind begin (entries_in w) d e
   behind d e s t = record {
     entries = λ p q. let x = s.entry p in let y = t.entry q in omega arith;
-    counted = λ p q. let x = s.stored p in let y = t.counted q in omega arith;
+    counted = λ p q. let x = s.entry p in let y = t.counted q in omega arith;
     counted_before = λ p q. let x = s.counted p in let y = t.entry q in omega arith;
     counts = λ p q. let x = s.counted p in let y = t.counted q in omega arith;
     epochs = λ p q. let x = s.epoch p in let y = t.epoch q in let same = told_later begin u u v w (grows_itself u) b.grows d s p in omega arith;

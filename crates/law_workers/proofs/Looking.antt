@@ -20,18 +20,18 @@ use Rattle.run_promise.specs.Deed.{Deed, deed_of, is_entered, tells_count, tells
 use Rattle.run_promise.specs.Log.{entries_of}
 use Rattle.run_promise.specs.Machine.{Move, Kept, LiesBetween}
 use Rattle.run_promise.specs.Moves.{Tells, TellsKind}
-use Rattle.run_promise.specs.Serving.{AloneServes, ServesKind}
+use Rattle.run_promise.specs.Serving.{AloneServes, CountsAll, ServesKind, has_failed}
 use Rattle.law_workers.specs.Views.{Gains, IsBetween, entries_in, log_of}
 use Rattle.law_workers.specs.Work.{indexed}
 use Rattle.law_workers.specs.Deeds.{Agree, Answers, IsSpent, IsWithoutEntry, MadeLast, StandsWithin, course_in}
 use Rattle.law_workers.specs.Order.{Handled, Layout, Lined, TakeTurns}
 use Rattle.law_workers.specs.Exact.{Exact, words_in}
-use Rattle.law_workers.specs.InTurn.{IsLevel, ServedBetween, stood_in}
+use Rattle.law_workers.specs.InTurn.{AllStand, IsLevel, ServedBetween, stood_in}
 use Rattle.law_workers.specs.Alone.{ServedAlone}
 use Rattle.law_workers.specs.Words.{MovesWords, TellsOne}
 use Rattle.law_workers.specs.Reporting.{IsReportAt, Looked}
 use Rattle.law_workers.proofs.Machines.{exact_move, move_moves}
-use Rattle.law_workers.proofs.Turns.{level_on, stood_on}
+use Rattle.law_workers.proofs.Turns.{all_on, all_stood, level_on, stood_on}
 
 one_only : {X : Type 0} (P : X → Type 0) (x : X) → P x → All P (x ∷ [])
 one_only P x h = All-cons P x [] h (All-nil P)
@@ -68,7 +68,7 @@ module _ (begin : Begin) (old new : View) (segment : ℕ) (task : Record) (answe
   fits = by_is is
     where
       by_is : IsReportAt new answer → FitsKind (IsBetween begin old new) (course_in begin new) task answer Monitor
-      by_is (inl (said, told, at)) = inl (record { reached = let s = looked.stands in omega arith; said = said; told = told })
+      by_is (inl (said, told, at)) = inl (record { reached = omega arith; said = said; told = told })
       by_is (inr wants) = inr wants
 
   no_entry : IsTrue (tells_entry deed) → ⊥
@@ -90,8 +90,7 @@ module _ (begin : Begin) (old new : View) (segment : ℕ) (task : Record) (answe
       ordered_not : task.kind ≡ Monitor → is_ordered begin deed ≡ false
       ordered_not same = rw same refl
 
-  counted : IsTrue (tells_count deed) → (old.turn.known.standing ≤ answer.position)
-      × (answer.position ≤ new.turn.known.standing) × (answer.position ≤ length (entries_in new))
+  counted : IsTrue (tells_count deed) → (length (entries_in old) ≤ answer.position) × (answer.position ≤ length (entries_in new))
   counted c = by_is is
     where
       count_is : task.kind ≡ Monitor → tells_count deed ≡ (true && nat_le answer.code 6)
@@ -101,10 +100,8 @@ module _ (begin : Begin) (old new : View) (segment : ℕ) (task : Record) (answe
       test true e = refl
       test false e = (let f : false ≡ true = e in cc)
 
-      by_is : IsReportAt new answer → (old.turn.known.standing ≤ answer.position)
-          × (answer.position ≤ new.turn.known.standing) × (answer.position ≤ length (entries_in new))
-      by_is (inl (said, told, at)) =
-          let low = looked.worked.grows.earlier.standing in let high = looked.stands in (omega arith, omega arith, omega arith)
+      by_is : IsReportAt new answer → (length (entries_in old) ≤ answer.position) × (answer.position ≤ length (entries_in new))
+      by_is (inl (said, told, at)) = let size = ap length (ap entries_of looked.log) in (omega arith, omega arith)
       by_is (inr wants) =
           let low : nat_le answer.code 6 ≡ true = test (nat_le answer.code 6) (rw (sym (count_is kind)) c) in
           let less : answer.code ≤ 6 = grind (arith, nat_tests) in
@@ -175,15 +172,34 @@ module _ (begin : Begin) (old new : View) (segment : ℕ) (task : Record) (answe
   stood : IsLevel old → stood_in new ≡ stood_in old
   stood level = stood_on old new looked.worked.grows.earlier looked.worked.grows.opening same_entries level
 
+  failed_on : (failed : Bool) → IsTrue failed → IsTrue (has_failed failed answer)
+  failed_on true t = refl
+  failed_on false t = absurd (let f : false ≡ true = t in cc)
+
   serves : IsLevel old → AloneServes begin (stood_in old) task answer [] Kept
   serves level = by_is is
     where
       by_is : IsReportAt new answer → AloneServes begin (stood_in old) task answer [] Kept
       by_is (inl (said, told, at)) =
-          let size : length (stood_in new) ≡ new.turn.known.standing = length-take-le new.turn.known.standing (entries_in new) looked.stands in
-          let same = ap length (stood level) in
-          inr (subst (λ (k : RecordKind). ServesKind begin (stood_in old) k task answer [] Kept) (sym kind) (omega arith, refl, refl))
+          inr (subst (λ (k : RecordKind). ServesKind begin (stood_in old) k task answer [] Kept) (sym kind) (refl, refl))
       by_is (inr wants) = let code = ap (λ (t : Told). t.code) wants.told in inl (omega arith)
+
+  -- the count is that of the entries that stand, and of one more where not all do
+  counts : IsLevel old → (failed : Bool) → (¬ AllStand old → IsTrue failed) → IsTrue (tells_count deed) → CountsAll failed (stood_in old) answer.position
+  counts level failed tells c = by_all (nat_le (length (entries_in old)) old.turn.known.standing) refl
+    where
+      here : answer.position ≡ length (entries_in old)
+      here = let (low, high) = counted c in let size = ap length same_entries in omega arith
+
+      by_all : (b : Bool) → nat_le (length (entries_in old)) old.turn.known.standing ≡ b → CountsAll failed (stood_in old) answer.position
+      by_all true test =
+          let all : length (entries_in old) ≤ old.turn.known.standing = grind (arith, nat_tests) in
+          inl (here ∙ sym (ap length (all_stood old all)))
+      by_all false test =
+          let short : old.turn.known.standing < length (entries_in old) = grind (arith, nat_tests) in
+          let size = length-take-le old.turn.known.standing (entries_in old) (omega arith) in
+          let few = level.few in
+          inr (tells (λ all. omega arith), let is = here in omega arith)
 
   between : ServedBetween begin old new [] [] (deed ∷ []) (Kept ∷ []) []
   between = record {
@@ -193,7 +209,10 @@ module _ (begin : Begin) (old new : View) (segment : ℕ) (task : Record) (answe
       [],
       [],
       stood level ∙ sym (append-nil (stood_in old)),
-      ([], [], refl, serves level, refl),
+      λ failed tells. (
+        ([], [], refl, serves level, counts level failed tells, refl),
+        λ not. failed_on failed (tells (λ stands. not (all_on old new looked.worked.grows.earlier looked.worked.grows.opening same_entries stands))),
+      ),
       (λ none. refl, inl refl),
     );
   }

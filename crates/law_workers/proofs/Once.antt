@@ -1,5 +1,5 @@
 -- One lane alone: its answers, its entries and its moves are one by the history, the words and the records.
-use Rattle.std.proofs.Common.{◌≡◌, ◌⊎◌, ℕ, ◌+◌, ◌<◌, List, [], ◌∷◌, ◌++◌, length, map, Some, Ok, refl, sym, ◌∙◌, ap, subst, inl, inr, arith, append_assoc}
+use Rattle.std.proofs.Common.{◌≡◌, ◌⊎◌, ℕ, ◌+◌, ◌<◌, Bool, false, IsTrue, List, [], ◌∷◌, ◌++◌, length, map, Some, Ok, refl, sym, ◌∙◌, ap, subst, inl, inr, arith, append_assoc}
 use Rattle.std.proofs.lemmas.Option.{none-some, same_Some}
 use Rattle.sdls_base.specs.KeyId.{end_of}
 use Rattle.sdls_base.specs.declared.change.Change.{Change}
@@ -32,8 +32,9 @@ use Rattle.fsr_log.specs.declared.messages.Monitoring.{Monitoring}
 use Rattle.fsr_log.specs.Message.{IsMonitoring}
 use Rattle.fsr_log.specs.Noted.{Noted}
 use Rattle.run_promise.specs.Reports.{AreReported, noted_of}
-use Rattle.law_workers.proofs.Reported.{report_once, same_noted}
-use Rattle.run_promise.specs.Serving.{now, Funds, AloneUnbound, AloneBound, AloneProtected, AloneExhausted, AloneOpened, AloneShows, AloneShown, AloneHandled, ServesKind, AloneServes, ServesAll, SameTasks, AreServed}
+use Rattle.law_workers.proofs.Reported.{counted_clean, report_once, same_noted, told_count}
+use Rattle.std.proofs.lemmas.Bool.Decides.{nat_tests}
+use Rattle.run_promise.specs.Serving.{CountsAll, has_failed, now, Funds, AloneUnbound, AloneBound, AloneProtected, AloneExhausted, AloneOpened, AloneShows, AloneShown, AloneHandled, ServesKind, AloneServes, ServesAll, SameTasks, AreServed}
 
 same_answer : (a b : Answer) → told_by a ≡ told_by b → a.position ≡ b.position → a ≡ b
 same_answer a b told place =
@@ -236,7 +237,7 @@ module _ (begin : Begin)
           )
 
       -- a record of a kind: the states after the entries that it made keep the rules
-      kind_once : (kind : RecordKind) → (kind ≡ Monitor → told_by a ≡ told_by b) → (own more : List Entry) → ((front rest : List Entry) → own ≡ front ++ rest → KeepsRules (now begin (history ++ front)))
+      kind_once : (kind : RecordKind) → (kind ≡ Monitor → (told_by a ≡ told_by b) × (a.position ≡ b.position)) → (own more : List Entry) → ((front rest : List Entry) → own ≡ front ++ rest → KeepsRules (now begin (history ++ front)))
           → ServesKind begin history kind task a own m → ServesKind begin history kind task b more n → Same a b own more m n
       kind_once Protect told own more rules (inl x) (inl y) = unbound_both words task a b own more m n at at' x y
       kind_once Protect told own more rules (inl x) (inr (inl y)) = absurd (unbound_or_bound words task a b own more m n at at' x y.is)
@@ -250,21 +251,28 @@ module _ (begin : Begin)
       kind_once Open told own more rules x y = opened_both words task a b own more m n at at' x y
       kind_once Command told own more rules x y =
           handled_both own more x y (rules x.reserve (record_entry task.index x.is.seen x.is.change ∷ []) x.own_is)
-      kind_once Monitor told own more rules x y = (same_answer a b (told refl) (x.0 ∙ sym y.0), x.1 ∙ sym y.1, x.2 ∙ sym y.2)
+      kind_once Monitor told own more rules x y = (same_answer a b (told refl).0 (told refl).1, x.0 ∙ sym y.0, x.1 ∙ sym y.1)
 
     -- a record that the site and memory sufficed for
     serves_once : (words : ℕ → ℕ) (task : Record) (a b : Answer) (m n : Move) → IsAt rows words m → IsAt rows words n → (own more : List Entry)
-        → (task.kind ≡ Monitor → told_by a ≡ told_by b)
+        → (task.kind ≡ Monitor → (told_by a ≡ told_by b) × (a.position ≡ b.position))
         → ((front rest : List Entry) → own ≡ front ++ rest → KeepsRules (now begin (history ++ front))) → a.code < SITE_FAULT → b.code < SITE_FAULT
         → AloneServes begin history task a own m → AloneServes begin history task b more n → Same a b own more m n
     serves_once words task a b m n at at' own more told rules low less (inl late) y = absurd (omega arith)
     serves_once words task a b m n at at' own more told rules low less (inr x) (inl late) = absurd (omega arith)
     serves_once words task a b m n at at' own more told rules low less (inr x) (inr y) = kind_once words task a b m n at at' task.kind told own more rules x y
 
+  -- behind an answer that tells no failed append none has failed
+  still_clean : (d : Deed) (history : List Entry) (ds : List Deed) (moves : List Move) (own : List Entry) → d.answer.code < SITE_FAULT
+      → ServesAll begin (has_failed false d.answer) history ds moves own → ServesAll begin false history ds moves own
+  still_clean d history ds moves own low =
+      let none : has_failed false d.answer ≡ false = grind (arith, nat_tests) in
+      subst (λ (b : Bool). ServesAll begin b history ds moves own) none
+
   -- records one after the other
   pub all_once : (before : List Noted) (history : List Entry) (words : ℕ → ℕ) (ds es : List Deed) (a b : List Move) (own more : List Entry)
       → AreReported before ds → AreReported before es → ((front rest : List Entry) → own ≡ front ++ rest → KeepsRules (now begin (history ++ front))) → SameTasks ds es → AreServed ds → AreServed es
-      → ServesAll begin history ds a own → ServesAll begin history es b more → Runs rows words a → Runs rows words b
+      → ServesAll begin false history ds a own → ServesAll begin false history es b more → Runs rows words a → Runs rows words b
       → (map (λ (d : Deed). d.answer) ds ≡ map (λ (d : Deed). d.answer) es) × (own ≡ more) × (a ≡ b)
   all_once before history words [] [] [] [] own more rep re rules same low less x y r q = (refl, x ∙ sym y, refl)
   all_once before history words [] [] (m ∷ a) b own more rep re rules same low less x y r q = absurd x
@@ -273,16 +281,22 @@ module _ (begin : Begin)
   all_once before history words (d ∷ ds) [] a b own more rep re rules same low less x y r q = absurd same
   all_once before history words (d ∷ ds) (e ∷ es) [] b own more rep re rules same low less x y r q = absurd x
   all_once before history words (d ∷ ds) (e ∷ es) (m ∷ a) [] own more rep re rules same low less x y r q = absurd y
-  all_once before history words (d ∷ ds) (e ∷ es) (m ∷ a) (n ∷ b) own more rep re rules same low less (first, rest, is, x, xs) (start, others, are, y, ys) r q =
+  all_once before history words (d ∷ ds) (e ∷ es) (m ∷ a) (n ∷ b) own more rep re rules same low less (first, rest, is, x, counts, xs) (start, others, are, y, recounts, ys) r q =
       let (answer, own_is, move) = serves_once history words d.task d.answer e.answer m n r.0 q.0 first start
-      (λ is. report_once one_message before d e same.0 low.0 less.0 (rep.0 is) (re.0 (sym (ap (λ (t : Record). t.kind) same.0) ∙ is)))
+      (λ is.
+      let again : e.task.kind ≡ Monitor = sym (ap (λ (t : Record). t.kind) same.0) ∙ is in (
+        report_once one_message before d e same.0 low.0 less.0 (rep.0 is) (re.0 again),
+        counted_clean history d.answer.position (counts (told_count before d is low.0 (rep.0 is)))
+            ∙ sym (counted_clean history e.answer.position (recounts (told_count before e again less.0 (re.0 again)))),
+      ))
       (λ front back split. rules front (back ++ rest) (is ∙ ap (λ (l : List Entry). l ++ rest) split ∙ append_assoc front back rest)) low.0 less.0 x
       (subst (λ (t : Record). AloneServes begin history t e.answer start n) (sym same.0) y) in
       let (answers, owns, moves) = all_once (before ++ noted_of d ∷ []) (history ++ first) (word_after words m) ds es a b rest others rep.1
       (subst (λ (x : Noted). AreReported (before ++ x ∷ []) es) (sym (same_noted d e same.0 answer)) re.1)
       (λ front back split. subst (λ (l : List Entry). KeepsRules (now begin l)) (sym (append_assoc history first front))
       (rules (first ++ front) back (is ∙ ap (λ (l : List Entry). first ++ l) split ∙ sym (append_assoc first front back))))
-      same.1 low.1 less.1 xs (subst (λ (l : List Entry). ServesAll begin (history ++ l) es b others) (sym own_is) ys) r.1
+      same.1 low.1 less.1 (still_clean d (history ++ first) ds a rest low.0 xs)
+      (subst (λ (l : List Entry). ServesAll begin false (history ++ l) es b others) (sym own_is) (still_clean e (history ++ start) es b others less.0 ys)) r.1
       (subst (λ (k : Move). Runs rows (word_after words k) b) (sym move) q.1) in (
         ap (λ (z : Answer). z ∷ map (λ (d : Deed). d.answer) ds) answer ∙ ap (λ (l : List Answer). e.answer ∷ l) answers,
         is ∙ ap (λ (l : List Entry). l ++ rest) own_is ∙ ap (λ (l : List Entry). start ++ l) owns ∙ sym are,

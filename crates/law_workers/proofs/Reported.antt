@@ -1,5 +1,10 @@
 -- A monitoring message has one answer of the log, by the answers before it: for `served_once`.
-use Rattle.std.proofs.Common.{◌≡◌, ℕ, ◌<◌, List, Ok, Err, inl, inr, sym, ◌∙◌, ap, subst, arith}
+use Rattle.std.proofs.Common.{◌≡◌, ℕ, ◌<◌, nat_le, ◌&&◌, Bool, true, false, IsTrue, List, length, Ok, Err, inl, inr, sym, ◌∙◌, ap, subst, arith}
+use Rattle.std.proofs.lemmas.Bool.Decides.{nat_tests}
+use Rattle.sdls_base.specs.declared.entry.Entry.{Entry}
+use Rattle.record_io.specs.declared.kinds.RecordKind.{RecordKind}
+use Rattle.record_io.specs.declared.kinds.RecordKind.TheVariants.{Monitor}
+use Rattle.run_promise.specs.Serving.{CountsAll}
 use Rattle.std.specs.Prelude.{Result}
 use Rattle.std.proofs.lemmas.Option.{none-some, same_Some}
 use Rattle.fsr_log.specs.declared.messages.Monitoring.{Monitoring}
@@ -12,7 +17,7 @@ use Rattle.record_io.specs.declared.answers.Answer.{Answer}
 use Rattle.record_io.specs.declared.code.TheConstants.{SITE_FAULT}
 use Rattle.record_io.specs.declared.records.Record.{Record}
 use Rattle.run_promise.specs.Answers.{Told, monitored_told, told_by}
-use Rattle.run_promise.specs.Deed.{Deed}
+use Rattle.run_promise.specs.Deed.{Deed, is_monitored, tells_count}
 use Rattle.run_promise.specs.Reports.{IsReported, noted_of}
 
 pub same_noted : (d e : Deed) → d.task ≡ e.task → d.answer ≡ e.answer → noted_of d ≡ noted_of e
@@ -40,3 +45,20 @@ module _ (one_message : (one other : Monitoring) (octets : List ℕ) → IsMonit
   report_once before d e same low less (inr x) (inl wants) = let c = ap (λ (t : Told). t.code) wants in absurd (omega arith)
   report_once before d e same low less (inr (a, x, told)) (inr (b, y, tells)) =
       told ∙ said_once (report_of before) d.task.octets a b x (subst (λ (t : Record). Answers (report_of before) t.octets b) (sym same) y) ∙ sym tells
+
+-- the answer of the log to a monitoring message tells a count, if memory did not run out
+pub told_count : (before : List Noted) (d : Deed) → d.task.kind ≡ Monitor → d.answer.code < SITE_FAULT → IsReported before d → IsTrue (tells_count d)
+told_count before d kind low (inl wants) = let c = ap (λ (t : Told). t.code) wants in absurd (omega arith)
+told_count before d kind low (inr (said, x, told)) = by_kind d.task.kind kind (nat_le d.answer.code 6) (few said told)
+  where
+    few : (said : Result (List ℕ) ℕ) → told_by d.answer ≡ monitored_told said → nat_le d.answer.code 6 ≡ true
+    few (Ok reply) told = let c : d.answer.code ≡ 5 = ap (λ (t : Told). t.code) told in grind (arith, nat_tests)
+    few (Err offset) told = let c : d.answer.code ≡ 6 = ap (λ (t : Told). t.code) told in grind (arith, nat_tests)
+
+    by_kind : (k : RecordKind) → k ≡ Monitor → (b : Bool) → b ≡ true → IsTrue (is_monitored k && b)
+    by_kind k is b test = subst (λ (k : RecordKind). IsTrue (is_monitored k && b)) (sym is) test
+
+-- where no append has failed, it is that of the history
+pub counted_clean : (history : List Entry) (count : ℕ) → CountsAll false history count → count ≡ length history
+counted_clean history count (inl is) = is
+counted_clean history count (inr (failed, is)) = absurd (let f : false ≡ true = failed in cc)

@@ -1,5 +1,5 @@
 -- Records that one worker served in turn: none, and some behind others.
-use Rattle.std.proofs.Common.{◌≡◌, ◌⊎◌, ℕ, zero, suc, ◌+◌, ◌-◌, ◌^◌, ◌<◌, ◌≤◌, min, List, [], ◌∷◌, ◌++◌, length, take, refl, sym, ◌∙◌, ap, subst, inl, inr, arith, append_assoc, append-nil, length-append}
+use Rattle.std.proofs.Common.{◌≡◌, ◌⊎◌, ℕ, zero, suc, ◌+◌, ◌-◌, ◌^◌, ◌<◌, ◌≤◌, min, Bool, IsTrue, List, [], ◌∷◌, ◌++◌, length, take, refl, sym, ◌∙◌, ap, subst, inl, inr, arith, append_assoc, append-nil, length-append}
 use Rattle.std.proofs.lemmas.Bool.{cases_lt}
 use Rattle.std.proofs.lemmas.List.{take_all}
 use Rattle.sdls_base.specs.Numbers.{times}
@@ -19,7 +19,7 @@ use Rattle.law_workers.proofs.Histories.{row_kept}
 use Rattle.law_workers.proofs.Logs.{stands_both, times_both}
 use Rattle.law_workers.proofs.Working.{grown_entries}
 use Rattle.run_promise.specs.Machine.{Move}
-use Rattle.run_promise.specs.Serving.{ServesAll}
+use Rattle.run_promise.specs.Serving.{ServesAll, failed_after, has_failed}
 use Rattle.law_workers.specs.InTurn.{MadeAllLines, IsClean, IsLevel, AllStand, stood_in, AreOf, IsBacked, ServedBetween, ServedInTurn}
 
 either : (a b : ℕ) → 0 < a + b → (0 < a) ⊎ (0 < b)
@@ -116,21 +116,27 @@ made_rest u v w m n grows below all place low high =
     let s = stands_both place m n in
     elim (either (stands place m) (stands place n) (omega arith)) [ inl here ↦ absurd (let b = below place here in omega arith) | inr there ↦ there ]
 
-pub serves_both : (begin : Begin) (history : List Entry) (ds es : List Deed) (a b : List Move) (own more : List Entry) → ServesAll begin history ds a own
-    → ServesAll begin (history ++ own) es b more → ServesAll begin history (ds ++ es) (a ++ b) (own ++ more)
-serves_both begin history [] es [] b own more h k =
-    subst (λ (l : List Entry). ServesAll begin history es b (l ++ more)) (sym h)
-    (subst (λ (l : List Entry). ServesAll begin l es b more) (append-nil history)
-    (subst (λ (l : List Entry). ServesAll begin (history ++ l) es b more) h k))
-serves_both begin history [] es (m ∷ a) b own more h k = absurd h
-serves_both begin history (d ∷ ds) es [] b own more h k = absurd h
-serves_both begin history (d ∷ ds) es (m ∷ a) b own more (first, rest, is, one, all) k = (
+pub failed_both : (failed : Bool) (ds es : List Deed) → failed_after failed (ds ++ es) ≡ failed_after (failed_after failed ds) es
+failed_both failed [] es = refl
+failed_both failed (d ∷ ds) es = failed_both (has_failed failed d.answer) ds es
+
+pub serves_both : (begin : Begin) (failed : Bool) (history : List Entry) (ds es : List Deed) (a b : List Move) (own more : List Entry)
+    → ServesAll begin failed history ds a own → ServesAll begin (failed_after failed ds) (history ++ own) es b more
+    → ServesAll begin failed history (ds ++ es) (a ++ b) (own ++ more)
+serves_both begin failed history [] es [] b own more h k =
+    subst (λ (l : List Entry). ServesAll begin failed history es b (l ++ more)) (sym h)
+    (subst (λ (l : List Entry). ServesAll begin failed l es b more) (append-nil history)
+    (subst (λ (l : List Entry). ServesAll begin failed (history ++ l) es b more) h k))
+serves_both begin failed history [] es (m ∷ a) b own more h k = absurd h
+serves_both begin failed history (d ∷ ds) es [] b own more h k = absurd h
+serves_both begin failed history (d ∷ ds) es (m ∷ a) b own more (first, rest, is, one, counts, all) k = (
   first,
   rest ++ more,
   ap (λ (l : List Entry). l ++ more) is ∙ append_assoc first rest more,
   one,
-  serves_both begin (history ++ first) ds es a b rest more all
-      (subst (λ (l : List Entry). ServesAll begin l es b more) (ap (λ (l : List Entry). history ++ l) is ∙ sym (append_assoc history first rest)) k),
+  counts,
+  serves_both begin (has_failed failed d.answer) (history ++ first) ds es a b rest more all
+      (subst (λ (l : List Entry). ServesAll begin (failed_after failed (d ∷ ds)) l es b more) (ap (λ (l : List Entry). history ++ l) is ∙ sym (append_assoc history first rest)) k),
 )
 
 -- what is backed of a list that has more
@@ -174,7 +180,13 @@ between_then begin u v w m n s t ds es a b last low high below above x y back = 
         rest,
         more_is ∙ (ap (λ (l : List Entry). l ++ (more ++ rest)) own_is ∙ append_assoc (stood_in u) own (more ++ rest))
             ∙ ap (λ (l : List Entry). stood_in u ++ l) (sym (append_assoc own more rest)),
-        serves_both begin (stood_in u) ds es a b own more one (subst (λ (l : List Entry). ServesAll begin l es b more) own_is two),
+        λ failed tells.
+            let (first, told) = one failed tells in
+            let (second, last_told) = two (failed_after failed ds) told in (
+              serves_both begin failed (stood_in u) ds es a b own more first
+                  (subst (λ (l : List Entry). ServesAll begin (failed_after failed ds) l es b more) own_is second),
+              λ not. subst IsTrue (sym (failed_both failed ds es)) (last_told not),
+            ),
         behind,
       );
 }
@@ -214,6 +226,6 @@ in_turn_nothing begin v = record {
   between = record {
     spent_is = sym (append-nil v.numbers.spent);
     level = λ level. level;
-    served = λ all level backed. ([], [], sym (append-nil (stood_in v)), refl, (λ none. refl, inl refl));
+    served = λ all level backed. ([], [], sym (append-nil (stood_in v)), λ failed tells. (refl, tells), (λ none. refl, inl refl));
   };
 }

@@ -112,9 +112,11 @@ module _ (begin : Begin) (u v w z : View) (low : KnowsMore u v) (high : KnowsMor
     stored = λ e. let a = s.stored e in let h = high.earlier.standing in omega arith;
     behind = λ e. let a = s.behind e in let l = low.epochs in
         let same = front_later d s e in let epoch = ap epoch_after same in omega arith;
-    counted = λ e. let a = s.counted e in let l = low.earlier.standing in let h = high.earlier.standing in
+    counted = λ e. let a = s.counted e in
+        let (r, lower) = grown_entries u v low in
+        let m : length (entries_in v) ≡ length (entries_in u) + length r = ap length lower ∙ length-append (entries_in u) r in
         let n : length (entries_in z) ≡ length (entries_in w) + length (grown_entries w z high).0 = ap length grown ∙ length-append (entries_in w) (grown_entries w z high).0 in
-        (omega arith, omega arith, omega arith);
+        (omega arith, omega arith);
     epoch = λ o. let a = s.epoch o in let same = told_later d s o in let l = low.epochs in let h = high.epochs in (omega arith, omega arith);
     number = λ c k. let a = s.number c k in (a.0, row_later d.answer.key a.0 a.1, le_trans (low.nexts a.0) a.2, let h = high.nexts a.0 in omega arith);
   }

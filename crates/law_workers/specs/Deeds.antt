@@ -33,15 +33,15 @@ course_in begin view = record {
 }
 
 -- where the answer stands, between what was seen before and after; an entry that it tells stands in the book, behind the
--- epoch that was seen before, and a count that it tells is one of entries that stand
+-- epoch that was seen before, and a count that it tells is one of all entries
 pub record StandsWithin (begin : Begin) (old new : View) (deed : Deed) : Type 0 where
   pub entry : IsTrue (tells_entry deed) → (length (entries_in old) < deed.answer.position)
       × (deed.answer.position ≤ length (entries_in new))
   pub stored : IsTrue (tells_entry deed) → deed.answer.position ≤ new.turn.known.standing
   pub behind : IsTrue (tells_entry deed)
       → epoch_seen old.turn ≤ epoch_after (take (deed.answer.position - 1) (entries_in new))
-  pub counted : IsTrue (tells_count deed) → (old.turn.known.standing ≤ deed.answer.position)
-      × (deed.answer.position ≤ new.turn.known.standing) × (deed.answer.position ≤ length (entries_in new))
+  pub counted : IsTrue (tells_count deed) → (length (entries_in old) ≤ deed.answer.position)
+      × (deed.answer.position ≤ length (entries_in new))
   pub epoch : IsTrue (is_ordered begin deed) → (epoch_seen old.turn ≤ epoch_told (entries_in new) deed)
       × (epoch_told (entries_in new) deed ≤ epoch_seen new.turn)
   pub number : deed.answer.code ≡ PROTECTED → IsTrue (is_protected deed.task.kind)

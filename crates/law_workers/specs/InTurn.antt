@@ -1,5 +1,5 @@
 -- One lane alone, between two views of its worker: the records were served one after the other (profile).
-use Rattle.std.specs.Prelude.{◌≡◌, ◌⊎◌, ℕ, ◌+◌, ◌<◌, ◌≤◌, List, [], ◌++◌, length, take}
+use Rattle.std.specs.Prelude.{◌≡◌, ◌⊎◌, ℕ, ◌+◌, ◌<◌, ◌≤◌, Bool, IsTrue, List, [], ◌++◌, length, take}
 use Rattle.sdls_base.specs.Numbers.{times}
 use Rattle.sdls_base.specs.declared.entry.Entry.{Entry}
 use Rattle.counter_table.specs.declared.view.View.{View}
@@ -11,7 +11,7 @@ use Rattle.run_promise.specs.Begin.{Begin}
 use Rattle.law_workers.specs.Views.{IsRow, log_of, entries_in}
 use Rattle.run_promise.specs.Deed.{Deed}
 use Rattle.run_promise.specs.Machine.{Move}
-use Rattle.run_promise.specs.Serving.{ServesAll}
+use Rattle.run_promise.specs.Serving.{ServesAll, failed_after}
 
 -- all lines of the new log behind those of the old one stand at these places
 abbrev pub MadeAllLines : View → View → List ℕ → Type 0
@@ -65,14 +65,16 @@ IsLeftBehind view last rest = (last ≡ [] → rest ≡ []) × ((rest ≡ []) �
 -- Where no other worker made a line meanwhile, the answered records were served in turn from the entries that stood in
 -- the old view, once what was spent and seen is known to be backed; they made all entries that stand in the new view
 -- behind those of the old one, but for what a record without an answer left. Last is empty where each record has its
--- answer.
+-- answer. If not all entries stand, it was so before, or an answer has told it.
 pub record ServedBetween (begin : Begin) (old new : View) (made : List ℕ) (spent : List (ℕ × ℕ)) (deeds : List Deed)
     (moves last : List Move) : Type 0 where
   pub spent_is : new.numbers.spent ≡ old.numbers.spent ++ spent
   pub level : IsLevel old → IsLevel new
   pub served : MadeAllLines old new made → IsLevel old → IsBacked begin new spent
       → (own : List Entry) × (rest : List Entry) × (stood_in new ≡ stood_in old ++ (own ++ rest))
-      × ServesAll begin (stood_in old) deeds moves own × IsLeftBehind new last rest
+      × ((failed : Bool) → (¬ AllStand old → IsTrue failed) → ServesAll begin failed (stood_in old) deeds moves own
+      × (¬ AllStand new → IsTrue (failed_after failed deeds)))
+      × IsLeftBehind new last rest
 
 -- The same of a worker that began with the old view: what it had spent and seen before is backed at the old view where
 -- it is at the new one, since the turn was taken wherever a line was made.

@@ -1,5 +1,5 @@
 -- A monitoring message, which the log answers: its worker only looks into the book (profile).
-use Rattle.std.specs.Prelude.{◌≡◌, ◌⊎◌, ℕ, ◌≤◌, List, length, Result}
+use Rattle.std.specs.Prelude.{◌≡◌, ◌⊎◌, ℕ, List, length, Result}
 use Rattle.counter_table.specs.declared.view.View.{View}
 use Rattle.record_io.specs.declared.answers.Answer.{Answer}
 use Rattle.record_io.specs.declared.records.Record.{Record}
@@ -10,15 +10,14 @@ use Rattle.law_workers.specs.Views.{entries_in, log_of}
 use Rattle.law_workers.specs.Work.{Worked}
 
 -- From the old view to the new one the worker did nothing but look into the book, in which no line stood that it did
--- not know. No more entries stand than there are.
+-- not know.
 pub record Looked (begin : Begin) (old new : View) (tasks : List Record) : Type 0 where
   pub worked : Worked begin old new tasks
   pub numbers : new.numbers ≡ old.numbers
   pub made : new.turn.made ≡ old.turn.made
   pub log : log_of new ≡ log_of old
-  pub stands : new.turn.known.standing ≤ length (entries_in new)
 
--- a reply or a fault, at the count of the entries that stand; or memory ran out
+-- a reply or a fault, at the count of all entries; or memory ran out
 abbrev pub IsReportAt : View → Answer → Type 0
 IsReportAt view answer = ((said : Result (List ℕ) ℕ) × (told_by answer ≡ monitored_told said)
-    × (answer.position ≡ view.turn.known.standing)) ⊎ IsWanting answer
+    × (answer.position ≡ length (entries_in view))) ⊎ IsWanting answer

@@ -1,5 +1,5 @@
 //! Laws of what one lane did alone.
-ghost use Rattle.std.specs.Prelude.{◌≡◌, ℕ, ◌+◌, ◌<◌, ◌≤◌, List, [], ◌∷◌, ◌++◌, length, map, slice_get};
+ghost use Rattle.std.specs.Prelude.{false, ◌≡◌, ℕ, ◌+◌, ◌<◌, ◌≤◌, List, [], ◌∷◌, ◌++◌, length, map, slice_get};
 ghost use Rattle.counter_table.specs.declared.view.View.{View};
 ghost use Rattle.counter_table.specs.Numbers.{amount};
 ghost use Rattle.counter_table.specs.Turn.{stands};
@@ -67,7 +67,7 @@ pub fn served_once()
         → AreReported before deeds → AreReported before others
         → ((front rest : List Entry) → own ≡ front ++ rest → KeepsRules (after begin.start (history ++ front)))
         → SameTasks deeds others → AreServed deeds → AreServed others
-        → ServesAll begin history deeds moves own → ServesAll begin history others more entries
+        → ServesAll begin false history deeds moves own → ServesAll begin false history others more entries
         → Runs rows words moves → Runs rows words more
         → (map (λ (deed : Deed). deed.answer) deeds ≡ map (λ (deed : Deed). deed.answer) others) × (own ≡ entries)
         × (moves ≡ more) }

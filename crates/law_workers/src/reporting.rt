@@ -11,7 +11,7 @@ ghost use Rattle.law_workers.specs.Order.{Handled, Layout};
 ghost use Rattle.law_workers.specs.Reporting.{IsReportAt, Looked};
 ghost use Rattle.law_workers.specs.Words.{MovesWords};
 
-/// Law: a worker that only looked into the book, to count the entries that stand, handled a Monitor record by that,
+/// Law: a worker that only looked into the book, to count the entries, handled a Monitor record by that,
 /// whatever the log said. One lane alone served it, and it moved no word.
 pub fn looking_reports()
     ensures { (begin : Begin) (old new : View) (segment : ℕ) (task : Record) (answer : Answer) → task.kind ≡ Monitor

@@ -1,6 +1,6 @@
 -- A run whose records are of one lane: its words and numbers are those of the machine (profile).
 use Rattle.std.specs.Prelude.{◌≡◌, ◌≢◌, ℕ, ◌+◌, ◌<◌, ◌≤◌, List, [], ◌++◌, length, take, slice_get, slice_index, Some}
-use Rattle.std.specs.Prelude.{None, Contains}
+use Rattle.std.specs.Prelude.{None, Contains, false}
 use Rattle.std.specs.List.{All}
 use Rattle.sdls_base.specs.declared.TheConstants.{MOST_KEYS}
 use Rattle.sdls_base.specs.declared.entry.Entry.{Entry}
@@ -38,5 +38,5 @@ pub record IsExact (call : CallSeen) (account : Account) (plan : PlanLines) (sta
       → (row : ℕ) × (number : ℕ) × (entry.seen ≡ seens.Number number) × Contains (moves ++ beyond) (Drew row number)
   pub last : (row : ℕ) → row < MOST_KEYS → slice_index words row ≡ mark_at state row + adds_all row (moves ++ beyond)
   pub served : (own : List Entry) × (rest : List Entry) × (take ends call.entries ≡ own ++ rest)
-      × ServesAll (begin_of call plan state) [] (deeds_in account) moves own × (length rest ≤ 1)
+      × ServesAll (begin_of call plan state) false [] (deeds_in account) moves own × (length rest ≤ 1)
       × (AnsweredEach account → ¬ Rose call.site.faults account.last → rest ≡ [])

@@ -9,6 +9,7 @@ use Rattle.sdls_outside.specs.Disk.{Leaves}
 use Rattle.sdls_outside.specs.Moments.{EachMoment}
 use Rattle.key_book.specs.KeyBook.{place_of}
 use Rattle.record_io.specs.declared.status.TheConstants as status
+use Rattle.record_io.specs.Answers.{IsAnswer}
 use Rattle.record_io.specs.Places.{records_of}
 use Rattle.record_io.specs.Reading.{HasTaken}
 use Rattle.unit_plan.specs.PlanLines.{PlanLines}
@@ -25,7 +26,7 @@ use Rattle.run_promise.specs.Alone.{OneLane, IsExact}
 use Rattle.run_promise.specs.declared.end.RunEnd.{RunEnd}
 use Rattle.run_promise.specs.declared.end.RunEnd.TheVariants.{Ended, SiteFault, NoMemory, NoState, SessionFull}
 use Rattle.run_promise.specs.Call.{CallSeen, ShowsAtEntry, image_at_entry, sunk_since}
-use Rattle.run_promise.specs.Account.{Account, AreAnswered, SaysSiteFailed, course_of, deeds_in, end_octets}
+use Rattle.run_promise.specs.Account.{Account, AreAnswered, SaysSiteFailed, course_of, deeds_in, end_answer, end_octets}
 use Rattle.run_promise.specs.Causes.{CameBy, TellsEnd, StoodUntilRelease, PutsDue, PutsFront}
 use Rattle.run_promise.specs.Words.{MovedWords}
 use Rattle.run_promise.specs.Exit.{StandsAtExit}
@@ -40,11 +41,12 @@ abbrev pub IsServed : CallSeen → Account → PlanLines → State → List ℕ 
 IsServed call account plan state image sunk = SoundMoment (course_of call account plan state)
     (deeds_in account) (end_octets call account.told) (image_at_entry call) image (sunk_since call sunk)
 
--- The run is sound, and each of its moments is so, or early.
+-- The run is sound, and each of its moments is so, or early. The fields of its End have their widths.
 pub record IsSoundCall (call : CallSeen) (account : Account) (plan : PlanLines) (state : State) : Type 0 where
   pub run : IsSound (course_of call account plan state) account.handled (deeds_in account)
   pub moments : EachMoment call.site.trace call.site_after.trace
       (λ image sunk. IsEarly call account.told image sunk ⊎ IsServed call account plan state image sunk)
+  pub end_widths : IsAnswer (end_answer account.told (length call.entries))
 
 -- the releases that are due behind the entries of the lanes, by these words `next` of the rows
 abbrev pub due_releases : CallSeen → State → ℕ → List ℕ → List Entry

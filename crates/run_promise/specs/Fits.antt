@@ -201,7 +201,7 @@ pub record IsWanting (answer : Answer) : Type 0 where
   pub told : told_by answer ≡ plain NO_MEMORY 0
   pub position_is : answer.position ≡ 0
 
--- A monitoring message has a reply or a fault (`Reports` says which). The answer counts entries, all or a front of them.
+-- A monitoring message has a reply or a fault (`Reports` says which). The answer counts all entries that there are then.
 pub record IsReport (course : Course) (answer : Answer) : Type 0 where
   pub reached : answer.position ≤ length course.entries
   pub said : Result (List ℕ) ℕ

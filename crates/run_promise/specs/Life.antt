@@ -7,7 +7,7 @@ use Rattle.record_io.specs.declared.kinds.RecordKind.{RecordKind}
 use Rattle.record_io.specs.declared.kinds.RecordKind.TheVariants.{Protect, Open, Command, Monitor}
 use Rattle.record_io.specs.declared.answers.Answer.{Answer}
 use Rattle.record_io.specs.declared.code.TheConstants.{END}
-use Rattle.record_io.specs.Answers.{answer_octets}
+use Rattle.record_io.specs.Answers.{IsAnswer, answer_octets}
 use Rattle.record_io.specs.Places.{Place}
 use Rattle.unit_plan.specs.Plan.{plan_of}
 use Rattle.unit_plan.specs.PlanLines.{PlanLines}
@@ -31,9 +31,9 @@ pub record LifeRun : Type 0 where
   pub image : List ℕ
   pub sunk : List ℕ
 
--- the octets of one End, or none
+-- the octets of one End, whose fields have their widths, or none
 abbrev pub AreEnd : List ℕ → Type 0
-AreEnd octets = (octets ≡ []) ⊎ ((end : Answer) × (end.code ≡ END) × (octets ≡ answer_octets end))
+AreEnd octets = (octets ≡ []) ⊎ ((end : Answer) × IsAnswer end × (end.code ≡ END) × (octets ≡ answer_octets end))
 
 -- The image at its start says the plan and shows the state that it began with; behind its answers the octets of one End
 -- are due, or none; the run is sound, and so is the moment at which it ended.

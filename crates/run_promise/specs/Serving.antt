@@ -1,7 +1,7 @@
 -- One lane alone, record by record: what a record makes of the history that those before it left, and how it is
 -- answered (profile).
-use Rattle.std.specs.Prelude.{◌≡◌, ⊤, ◌⊎◌, ℕ, ◌+◌, ◌<◌, ◌≤◌, List, [], ◌∷◌, ◌++◌, length, Option, Some, None}
-use Rattle.std.specs.Prelude.{Result, Ok, Err}
+use Rattle.std.specs.Prelude.{◌≡◌, ⊤, ◌⊎◌, ℕ, ◌+◌, ◌<◌, ◌≤◌, ◌==◌, ◌||◌, Bool, IsTrue, List, [], ◌∷◌, ◌++◌, length}
+use Rattle.std.specs.Prelude.{Option, Some, None, Result, Ok, Err}
 use Rattle.sdls_base.specs.KeyId.{end_of}
 use Rattle.sdls_base.specs.declared.change.Change.{Change}
 use Rattle.sdls_base.specs.declared.entry.Entry.{Entry}
@@ -29,7 +29,7 @@ use Rattle.run_promise.specs.Entries.{frame_entry, record_entry, IsNeedOf, IsSte
 use Rattle.run_promise.specs.Numbers.{mark_of, reserve_of}
 use Rattle.run_promise.specs.ProtectingFrames.{protect_reply}
 use Rattle.run_promise.specs.Begin.{Begin}
-use Rattle.run_promise.specs.Deed.{Deed}
+use Rattle.run_promise.specs.Deed.{Deed, tells_count}
 use Rattle.run_promise.specs.Machine.{Move, Kept, Found, Drew, Raised, Overdrew}
 
 -- the epoch that stands beside an answer of the checks of a frame that is to be protected: 0 where the plan is enough
@@ -142,21 +142,36 @@ module _ (begin : Begin) (history : List Entry) where
       ⊎ (AloneProtected begin history task answer own move ⊎ AloneExhausted begin history task answer own move)
   ServesKind Open task answer own move = AloneOpened begin history task answer own move
   ServesKind Command task answer own move = AloneHandled task answer own move
-  ServesKind Monitor task answer own move = (answer.position ≡ length history) × (own ≡ []) × (move ≡ Kept)
+  ServesKind Monitor task answer own move = (own ≡ []) × (move ≡ Kept)
 
   -- The record has this answer, made these entries and moved a word so. Nothing is said of one for which the site
   -- failed or memory ran out: codes from 31 on.
   abbrev pub AloneServes : Record → Answer → List Entry → Move → Type 0
   AloneServes task answer own move = (SITE_FAULT ≤ answer.code) ⊎ ServesKind task.kind task answer own move
 
--- records served one after the other: each finds the history that those before it left
-abbrev pub ServesAll : Begin → List Entry → List Deed → List Move → List Entry → Type 0
-ServesAll begin history [] [] own = own ≡ []
-ServesAll begin history [] (move ∷ moves) own = ⊥
-ServesAll begin history (deed ∷ deeds) [] own = ⊥
-ServesAll begin history (deed ∷ deeds) (move ∷ moves) own = (first : List Entry) × (rest : List Entry)
+-- an append has failed: before, or as this answer tells
+abbrev pub has_failed : Bool → Answer → Bool
+has_failed before answer = before || (answer.code == SITE_FAULT)
+
+abbrev pub failed_after : Bool → List Deed → Bool
+failed_after before [] = before
+failed_after before (deed ∷ deeds) = failed_after (has_failed before deed.answer) deeds
+
+-- The count of all entries: of those of the history, which stand, and of one more only if an append has failed.
+abbrev pub CountsAll : Bool → List Entry → ℕ → Type 0
+CountsAll failed history count = (count ≡ length history) ⊎ (IsTrue failed × (count ≡ length history + 1))
+
+-- Records served one after the other: each finds the history that those before it left. A count that is told is that of
+-- all entries then.
+abbrev pub ServesAll : Begin → Bool → List Entry → List Deed → List Move → List Entry → Type 0
+ServesAll begin failed history [] [] own = own ≡ []
+ServesAll begin failed history [] (move ∷ moves) own = ⊥
+ServesAll begin failed history (deed ∷ deeds) [] own = ⊥
+ServesAll begin failed history (deed ∷ deeds) (move ∷ moves) own = (first : List Entry) × (rest : List Entry)
     × (own ≡ first ++ rest)
-    × AloneServes begin history deed.task deed.answer first move × ServesAll begin (history ++ first) deeds moves rest
+    × AloneServes begin history deed.task deed.answer first move
+    × (IsTrue (tells_count deed) → CountsAll failed history deed.answer.position)
+    × ServesAll begin (has_failed failed deed.answer) (history ++ first) deeds moves rest
 
 -- the same records, one by one
 abbrev pub SameTasks : List Deed → List Deed → Type 0

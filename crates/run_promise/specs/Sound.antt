@@ -6,7 +6,7 @@ use Rattle.replay_window.specs.declared.TheConstants.{MOST_BACK}
 use Rattle.unit_image.specs.OpeningImage.{LeftByOpening}
 use Rattle.record_io.specs.Places.{Place, records_of}
 use Rattle.record_io.specs.declared.code.TheConstants.{SITE_FAULT}
-use Rattle.record_io.specs.Answers.{answer_octets, answers_octets}
+use Rattle.record_io.specs.Answers.{IsAnswer, answer_octets, answers_octets}
 use Rattle.unit_state.specs.History.{after_first, epoch_after}
 use Rattle.run_promise.specs.Numbers.{mark_of, floor_of}
 use Rattle.run_promise.specs.Run.{NearWord, IsLegalHistory, HasNoEntry, AcceptsAt}
@@ -29,7 +29,7 @@ IsNearBehind entries deed = (place key high number : ℕ) → Accepts deed.answe
 -- The run is sound: its history is legal, each answer fits its record, no number is used or accepted twice under a key,
 -- one accepted below what an entry before its own accepted under its key is less than 64 below, at most one answer says
 -- that the site failed while an entry was stored, the answers stand in order, no entry is of a record whose answer says
--- that it made none, and each monitoring message has the answer of the log.
+-- that it made none, each monitoring message has the answer of the log, and the fields of each answer have their widths.
 pub record IsSound (course : Course) (places : List Place) (deeds : List Deed) : Type 0 where
   pub history : IsLegalHistory course.begin.plan course.begin.start places course.entries
   pub answers : All (λ deed. Fits (NearWord course.begin.start course.entries (records_of places)) course deed.task
@@ -45,6 +45,7 @@ pub record IsSound (course : Course) (places : List Place) (deeds : List Deed) :
   pub order : AllPairs (λ one other. InTurn one other → StandsBehind course.begin course.entries one other) deeds
   pub none_made : All (λ deed. IsUnmade deed.answer.code → HasNoEntry course.entries deed.task.index) deeds
   pub reports : AreReported [] deeds
+  pub widths : All (λ deed. IsAnswer deed.answer) deeds
 
 -- The answer is covered by the state after the first p entries: its own entry, its epoch, its number and what it
 -- accepted are among what that state knows.
