@@ -155,7 +155,10 @@ module _ (begin : Begin) (n : ℕ) (base : View) where
         [],
         [],
         stood_on base (looked (giving_shares n base)) looked_earlier looked_opening same level ∙ sym (append-nil (stood_in base)),
-        refl,
+        λ failed tells. (
+          refl,
+          λ not. tells (λ all. not (all_on base (looked (giving_shares n base)) looked_earlier looked_opening same all)),
+        ),
         (λ none. refl, inl refl),
       );
     };
@@ -198,7 +201,11 @@ module _ (begin : Begin) (n : ℕ) (base : View) where
                 own,
                 rest,
                 stood_on w (looked (meeting (giving_shares n base) w)) grows.earlier grows.opening same_entries level_w ∙ is,
-                served,
+                λ failed tells.
+                    let (one, last_told) = served failed tells in (
+                      one,
+                      λ not. last_told (λ all. not (all_on w (looked (meeting (giving_shares n base) w)) grows.earlier grows.opening same_entries all)),
+                    ),
                 left_joined rest behind,
               );
         });

@@ -10,7 +10,7 @@ ghost use Rattle.record_io.specs.Input.{MOST_OCTETS};
 ghost use Rattle.run_promise.specs.Life.{IsLife, LifeRun};
 ghost use Rattle.pair_audit.specs.Audit.{acceptances_in, uses_in};
 ghost use Rattle.pair_audit.specs.Recording.{RunsCount, recording};
-ghost use Rattle.law_audit.specs.Recorded.{IsSpelled, SankFew, sunk_by};
+ghost use Rattle.law_audit.specs.Recorded.{SankFew, sunk_by};
 ghost use Rattle.audit_run.specs.Ends.{EndsAudit};
 ghost use Rattle.audit_run.specs.Text.{clean_text};
 ghost use Rattle.run_promise.specs.Call.{CallSeen, image_at_entry};
@@ -45,7 +45,7 @@ pub fn sinking_keeps_lives()
 /// 0, or out of memory with status 6, if neither the source nor the site fails.
 pub fn audit_passes_a_life()
     ensures { (image : List ℕ) (runs : List LifeRun) (kept : LifeRun → Bool) (told : Bool) (old new : Trace)
-        (status : ℕ) → IsLife image runs → All IsSpelled runs → All SankFew runs
+        (status : ℕ) → IsLife image runs → All SankFew runs
         → length (recording (sunk_by kept runs)) ≤ MOST_OCTETS
         → EndsAudit (λ input. input ≡ take MOST_OCTETS (recording (sunk_by kept runs))) ⊥ told old new ⊥ status
         → ((answers : List Answer) × RunsCount (sunk_by kept runs) answers × (status ≡ DONE)

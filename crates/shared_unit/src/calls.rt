@@ -15,38 +15,23 @@ use std::sync::Wait;
 use unit_book::BookFault;
 
 impl<O: Site> Unit<O> {
-    /// The count of the run's entries.
+    /// How many entries the run has, a last one whose append failed among them.
     pub fn count<R: Wait>(&self, rt: &R, worker: &mut Worker<O>) -> u64
-        requires ready { IsReady self.now.counters self.now.plan worker.old }
-        ensures ready { IsReady self.now.counters self.now.plan worker.new }
-        ensures numbers { KeepsNumbers worker.old worker.new }
-        ensures counted { (found : BookView) × Visits O.told found found
-            (view worker.old).turn (view worker.new).turn
-            × (result ≡ entry_count (known_of_book found)) }
-    {
-        let held = self.counters.take(rt, worker);
-        let count = held.book.count();
-        self.counters.give(worker, held);
-        count
-    }
-
-    /// How many of them stand: all but a last one whose append failed.
-    pub fn standing<R: Wait>(&self, rt: &R, worker: &mut Worker<O>) -> u64
         requires ready { IsReady self.now.counters self.now.plan worker.old }
         ensures ready { IsReady self.now.counters self.now.plan worker.new }
         ensures numbers { KeepsNumbers worker.old worker.new }
 
         // Who has all shares found the book as it was known.
-        ensures standing { (found : BookView) × Visits O.told found found
+        ensures counted { (found : BookView) × Visits O.told found found
             (view worker.old).turn (view worker.new).turn
-            × (result ≡ found.standing)
+            × (result ≡ entry_count (known_of_book found))
             × ((view worker.old).numbers.shares ≡ ALL_SHARES
             → IsAsKnown (view worker.old).turn (known_of_book found)) }
     {
         let held = self.counters.take(rt, worker);
-        let standing = held.book.standing();
+        let count = held.book.count();
         self.counters.give(worker, held);
-        standing
+        count
     }
 
     /// Hands octets to the site's sink. It makes no entry, and still puts after a fault of the disk.

@@ -106,14 +106,6 @@ impl<O: Site> Shelf<O> {
         self.book.count()
     }
 
-    // How many of them stand.
-    pub(crate) fn standing(&self) -> u64
-        ensures standing { result ≡ self.now.standing }
-        ensures kept { IsKept O.told self.now }
-    {
-        self.book.standing()
-    }
-
     pub(crate) fn row_of(&self, key: KeyId) -> Option<usize>
         ensures { result ≡ place_of self.now.state.keys key }
     {

@@ -91,18 +91,11 @@ impl<O: Site> Book<O> {
         count > self.faults || count == u64::MAX
     }
 
-    /// How many entries the run has.
+    /// How many entries the run has, a last one whose append failed among them.
     pub fn count(&self) -> u64
         ensures { result ≡ length (entries_of self.entry.now.log) }
     {
         self.entries.len() as u64
-    }
-
-    /// How many of them stand: all but a last one whose append failed.
-    pub fn standing(&self) -> u64
-        ensures { result ≡ self.entry.now.standing }
-    {
-        self.standing
     }
 
     /// How many entries count for the epoch, a failed last one left out.

@@ -21,11 +21,18 @@ pub served : (v w : View) (tasks : List Record) (answers : List Answer) (full : 
     → ((begin : Begin) (layout : Layout) (number : ℕ) → BeganWith true begin v.turn.known.opening → LiesIn layout number tasks
     → Handled layout begin v w tasks (deeds_of number tasks answers))
     → ((begin : Begin) → BeganWith true begin v.turn.known.opening → EndsSegment begin v w tasks answers full)
-    → list_any says_fault answers ≡ false → IsWhole MOST_KEYS w
+    → list_any says_fault answers ≡ false → All IsAnswer answers → IsWhole MOST_KEYS w
     → (begin : Begin) → BeganWith true begin v.turn.known.opening
     → HandlesSegment begin v w tasks answers × BeganWith true begin w.turn.known.opening
-served v w tasks answers full ahead lanes handled ends quiet whole begin began = (
-  record { handled = λ layout number lies. handled begin layout number began lies; full = full; ends = ends begin began; quiet = quiet; whole = whole },
+served v w tasks answers full ahead lanes handled ends quiet widths whole begin began = (
+  record {
+    handled = λ layout number lies. handled begin layout number began lies;
+    full = full;
+    ends = ends begin began;
+    quiet = quiet;
+    widths = widths;
+    whole = whole;
+  },
   subst (λ (o : Opening). BeganWith true begin o)
       (sym (handled begin (drill_layout ahead) 0 began (drill_lies ahead tasks lanes)).does.grows.opening) began,
 )

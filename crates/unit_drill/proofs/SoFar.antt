@@ -19,7 +19,7 @@ use Rattle.law_runs.specs.AtEnd.{EndsRun, course_at_end}
 use Rattle.law_runs.specs.Doing.{HasDone, IsBefore, IsFounded, IsSegment}
 use Rattle.law_runs.proofs.Assembled.{sound_run}
 use Rattle.law_runs.proofs.Doing.{ends_run}
-use Rattle.law_runs.proofs.Placed.{records_both, records_length}
+use Rattle.law_runs.proofs.Placed.{answers_all, records_both, records_length}
 use Rattle.law_runs.proofs.Stepping.{goes_on}
 use Rattle.law_workers.specs.Deeds.{Ascend, deeds_of}
 use Rattle.law_workers.specs.Opened.{IsJustOpened}
@@ -29,6 +29,7 @@ use Rattle.law_workers.proofs.Counting.{few_entries}
 use Rattle.law_workers.proofs.Joining.{does_nothing}
 use Rattle.record_io.specs.declared.answers.Answer.{Answer}
 use Rattle.record_io.specs.declared.records.Record.{Record}
+use Rattle.record_io.specs.Answers.{IsAnswer}
 use Rattle.record_io.specs.Places.{Place, records_of}
 use Rattle.run_promise.specs.Account.{deeds_from}
 use Rattle.run_promise.specs.Begin.{Begin}
@@ -117,6 +118,7 @@ pub record RanSoFar (begin : Begin) (first now : View) (bound : ℕ) (places : L
   pub below : All (Below bound) (records_of places)
   pub plain : All IsPlain (records_of places)
   pub quiet : list_any says_fault answers ≡ false
+  pub widths : All IsAnswer answers
 
 -- nothing yet
 pub none_ran : (begin : Begin) (first : View) → IsJustOpened begin first → IsWhole MOST_KEYS first → RanSoFar begin first first 0 [] []
@@ -139,6 +141,7 @@ none_ran begin first opened whole = record {
   below = All-nil (Below 0);
   plain = All-nil IsPlain;
   quiet = refl;
+  widths = All-nil IsAnswer;
 }
 
 -- a segment more
@@ -202,6 +205,7 @@ module _ (begin : Begin) (first now next : View) (bound further segment : ℕ) (
         (further_below bound further (records_of places) wider so_far.below) below);
     plain = subst (λ (ts : List Record). All IsPlain ts) (sym tasks_are) (All-append IsPlain (records_of places) tasks so_far.plain plain);
     quiet = list_any-append says_fault answers more ∙ (ap (λ (b : Bool). b || list_any says_fault more) so_far.quiet ∙ serves.quiet);
+    widths = All-append IsAnswer answers more so_far.widths serves.widths;
   }
 
 -- ---- the whole run
@@ -222,6 +226,7 @@ sound_so begin first now bound places answers founded ran =
     (places_up places ran.up) in
     sound_run begin first now places (deeds_from places answers) e.opened e.does e.whole e.rows e.plan_is e.rules e.left (words_in now) e.words_are [] e.releases_are
     e.pieces e.lined e.once e.ascend now.turn.known.faults e.fewer e.stopped (none_reported [] places answers (places_all IsPlain places ran.plain))
+    (answers_all IsAnswer places answers ran.widths)
 
 pub runs_soundly : (plan : List ℕ) (begin : Begin) (first now : View) (bound : ℕ) (places : List Place) (answers : List Answer)
     → UnitIsOpened plan begin first → RanSoFar begin first now bound places answers → RunsSoundly plan places answers

@@ -1,10 +1,11 @@
 -- What the one worker of each unit of a drill did, by its views: for proofs alone (profile).
 use Rattle.std.specs.Prelude.{◌≡◌, ℕ, zero, suc, ◌+◌, ◌-◌, ◌*◌, ◌≤◌, min, Bool, true, false, List, [], ◌++◌, Ok}
-use Rattle.std.specs.List.{list_any}
+use Rattle.std.specs.List.{All, list_any}
 use Rattle.sdls_base.specs.declared.TheConstants.{MOST_KEYS}
 use Rattle.image_beginning.specs.Beginning.{SaysPlan, image_of_plan}
 use Rattle.unit_image.specs.Image.{held}
 use Rattle.record_io.specs.declared.answers.Answer.{Answer}
+use Rattle.record_io.specs.Answers.{IsAnswer}
 use Rattle.record_io.specs.declared.records.Record.{Record}
 use Rattle.record_io.specs.declared.code.TheConstants as codes_of
 use Rattle.unit_plan.specs.Plan.{plan_of}
@@ -62,6 +63,7 @@ pub record HandlesSegment (begin : Begin) (v w : View) (tasks : List Record) (an
   pub full : Bool
   pub ends : EndsSegment begin v w tasks answers full
   pub quiet : list_any says_fault answers ≡ false
+  pub widths : All IsAnswer answers
   pub whole : IsWhole MOST_KEYS w
 
 -- ---- both units

@@ -14,8 +14,8 @@ use crate::frames::DRILL_LANES;
 use crate::records::{CHUNK, open_task};
 use link_world::{LinkEvent, add_deliveries, is_lost, link_run};
 use record_io::code::PROTECTED;
-use record_io::{Answer, Record};
-use sdls_base::{NoMemory, Octets};
+use record_io::{Answer, Record, ShortOctets};
+use sdls_base::NoMemory;
 use std::alloc::Global;
 
 /// The places that a chunk has for the records of frames that arrive: more than there are of these.
@@ -77,17 +77,17 @@ pub(crate) fn arrived_frames(
 }
 
 /// The octets of the frame with this number in the chunk.
-fn octets_in(alloc: Global, sent: &[Answer], k: u64) -> Result<Octets, NoMemory>
+fn octets_in(alloc: Global, sent: &[Answer], k: u64) -> Result<ShortOctets, NoMemory>
     ensures { IfOk result (λ octets. octets ≡ octets_in (slice_get sent.now k)) }
 {
     match sent.get(k as usize) {
         Some(answer) => Ok(answer.body.clone()?),
-        None => Ok(Octets::new(Vec::new(alloc))),
+        None => Ok(ShortOctets::none(alloc)),
     }
 }
 
 /// A frame that arrived, to be opened as the record at this place.
-fn arrived_task(place: u64, number: u64, octets: Octets) -> Record
+fn arrived_task(place: u64, number: u64, octets: ShortOctets) -> Record
     requires { place < 2 ^ 61 }
     ensures { result ≡ arrived_task place number octets }
 {

@@ -2,7 +2,8 @@
 ghost use Rattle.std.specs.Prelude.{◌≡◌, IfOk};
 ghost use Rattle.unit_drill.specs.Frames.{clear_frame, data_field, field_octet};
 
-use sdls_base::{NoMemory, Octets};
+use record_io::ShortOctets;
+use sdls_base::NoMemory;
 use std::alloc::Global;
 
 /// The lanes, each with a virtual channel of its own.
@@ -35,7 +36,7 @@ pub(crate) fn data_field(number: u64) -> [u8; FIELD_LENGTH]
 
 /// A TC transfer frame in clear (CCSDS 232.0-B-4): version and flags 0, spacecraft 1, the virtual channel that goes
 /// with the lane, 36 as the length field, the sequence number, the data field.
-pub(crate) fn clear_frame(alloc: Global, number: u64) -> Result<Octets, NoMemory>
+pub(crate) fn clear_frame(alloc: Global, number: u64) -> Result<ShortOctets, NoMemory>
     ensures { IfOk result (λ frame. frame ≡ clear_frame number) }
 {
     let channel = (number % DRILL_LANES) as u8;
@@ -43,5 +44,5 @@ pub(crate) fn clear_frame(alloc: Global, number: u64) -> Result<Octets, NoMemory
     let mut frame = Vec::with_capacity(alloc, HEADER_LENGTH + FIELD_LENGTH)?;
     frame.extend_from_slice(&[0, 1, 4 * channel, 36, sequence])?;
     frame.extend_from_slice(&data_field(number))?;
-    Ok(Octets::new(frame))
+    Ok(ShortOctets::new(frame))
 }

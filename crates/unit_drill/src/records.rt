@@ -4,8 +4,8 @@ ghost use Rattle.unit_drill.specs.Frames.{open_task, open_tasks, protect_task, p
 
 use crate::frames::{DRILL_LANES, clear_frame};
 use record_io::code::PROTECTED;
-use record_io::{Answer, Record, RecordKind};
-use sdls_base::{NoMemory, Octets};
+use record_io::{Answer, Record, RecordKind, ShortOctets};
+use sdls_base::NoMemory;
 use std::alloc::Global;
 
 /// The frames of a chunk; the last one may have fewer.
@@ -45,7 +45,7 @@ pub(crate) fn protect_tasks(alloc: Global, first: u64, end: u64) -> Result<Vec<R
 }
 
 /// A protected frame that is to be opened, as the record with this index.
-pub(crate) fn open_task(index: u64, number: u64, octets: Octets) -> Record
+pub(crate) fn open_task(index: u64, number: u64, octets: ShortOctets) -> Record
     ensures { result ≡ open_task index number octets }
 {
     Record {

@@ -12,7 +12,7 @@ ghost use Rattle.unit_drill.specs.UnitRun.{says_fault};
 use crate::image::site_of;
 use frame_workers::{Gate, run_segment};
 use record_io::code::{SITE_FAULT, STOPPED};
-use record_io::{Answer, Record, RecordKind, Spare};
+use record_io::{Answer, Record, RecordKind, Spare, answers_have_widths};
 use sdls_base::NoMemory;
 use sdls_outside::MemSite;
 use shared_unit::{Unit, Worker};
@@ -92,6 +92,7 @@ impl DrillUnit {
         if has_fault(&segment.answers) {
             return Err(NoMemory);
         }
+        answers_have_widths(&segment.answers);
         Ok(segment.answers)
     }
 }

@@ -3,7 +3,7 @@ pub mod Puts
 pub mod Alone
 pub mod Leading
 pub mod Lying
-pub mod Standing
+pub mod Looking
 pub mod Noting
 pub mod Messages
 pub mod Served

@@ -11,7 +11,7 @@ use Rattle.counter_table.specs.declared.view.View.{View}
 use Rattle.counter_table.specs.Whole.{IsWhole}
 use Rattle.record_io.specs.declared.answers.Answer.{Answer}
 use Rattle.record_io.specs.declared.records.Record.{Record}
-use Rattle.record_io.specs.Answers.{answers_octets}
+use Rattle.record_io.specs.Answers.{IsAnswer, answers_octets}
 use Rattle.unit_book.specs.declared.fault.BookFault.{BookFault}
 use Rattle.run_promise.specs.Begin.{Begin}
 use Rattle.sdls_outside.specs.Faults.{Rose}
@@ -79,6 +79,7 @@ module _ (told : Bool) (v mid w : View) (tasks : List Record) (up : Ascend tasks
     → ServedAlone begin v mid (length tasks) (deeds_of number tasks answers))
     (moved : (begin : Begin) (number : ℕ) → BeganWith told begin v.turn.known.opening → MovesWords begin v mid tasks (deeds_of number tasks answers))
     (put : PutsOctets told (answers_octets answers) result mid w) (old new : Report) (noted : NotesAll tasks answers old new) (reported : ReportsAll tasks answers old)
+    (widths : All IsAnswer answers)
     (plain : (task : Record) → slice_get tasks (length answers) ≡ Some task → task.kind ≢ Monitor) where
   own : (begin : Begin) (number : ℕ) → BeganWith told begin v.turn.known.opening
       → Handled (own_layout number tasks) begin v mid tasks (deeds_of number tasks answers)
@@ -101,6 +102,7 @@ module _ (told : Bool) (v mid w : View) (tasks : List Record) (up : Ascend tasks
     handles full ends = record {
       handled = λ layout number lies. handled begin layout number began lies;
       few = few_answers begin v mid tasks answers full ends;
+      widths = widths;
       whole_mid = whole_at mid whole_mid;
       whole = whole_at w whole_w;
       puts = put.leaves.puts begin began_mid;

@@ -10,11 +10,11 @@ use Rattle.run_promise.specs.Fits.{IsWanting}
 use Rattle.run_promise.specs.Reports.{AreReported, noted_of}
 use Rattle.law_workers.specs.Deeds.{deeds_of}
 
--- the answer to a monitoring message, by what the log reports, where so many entries stand; or memory ran out
+-- the answer to a monitoring message, by what the log reports, when the run has so many entries; or memory ran out
 abbrev pub LogAnswers : Report → List ℕ → ℕ → Answer → Type 0
-LogAnswers report octets standing answer = IsWanting answer
+LogAnswers report octets entries answer = IsWanting answer
     ⊎ ((said : Result (List ℕ) ℕ) × Answers report octets said × (told_by answer ≡ monitored_told said)
-    × (answer.position ≡ standing))
+    × (answer.position ≡ entries))
 
 -- the answers to the records were noted behind those before, in their order
 abbrev pub NotesAll : List Record → List Answer → Report → Report → Type 0

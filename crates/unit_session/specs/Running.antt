@@ -9,7 +9,7 @@ use Rattle.counter_table.specs.declared.view.View.{View}
 use Rattle.counter_table.specs.Close.{ClosesCounters}
 use Rattle.counter_table.specs.Whole.{IsWhole}
 use Rattle.record_io.specs.declared.status.TheConstants.{SITE_FAULT}
-use Rattle.record_io.specs.Answers.{answer_octets}
+use Rattle.record_io.specs.Answers.{IsAnswer, answer_octets}
 use Rattle.record_io.specs.Reading.{SourceSeen}
 use Rattle.unit_image.specs.declared.fault.OpenFault.{OpenFault}
 use Rattle.run_promise.specs.Site.{SiteSeen}
@@ -50,3 +50,4 @@ pub record PutsRefusal (told : Bool) (before : ℕ) (fault : OpenFault) (site af
   pub counted : after.put_faults ≡ sites.after_put put site.put_faults
   pub cause : HasCause site.faults after.faults put
   pub status_is : MatchResult put (λ _. status ≡ end_status end) (λ _. status ≡ SITE_FAULT)
+  pub widths : IsAnswer (end_answer end 0)

@@ -1,7 +1,9 @@
 // The end of a run: the release of what was not used, and End.
 ghost use Rattle.std.specs.Prelude.{◌≡◌, ◌↔◌, ◌<◌, ◌≤◌, ℕ, IsTrue, length, slice_index};
 ghost use Rattle.sdls_outside.specs.Faults.{Rose};
+ghost use Rattle.record_io.specs.Answers.{IsAnswer};
 ghost use Rattle.unit_book.specs.Book.{BookView, IsKept};
+ghost use Rattle.run_promise.specs.Log.{entries_of};
 ghost use Rattle.run_promise.specs.Account.{end_answer};
 ghost use Rattle.run_promise.specs.Site.{site_seen};
 ghost use Rattle.law_runs.specs.Ending.{Finishes, IsToldEnd, PutsEnd};
@@ -9,7 +11,6 @@ ghost use Rattle.law_runs.specs.Ending.{Finishes, IsToldEnd, PutsEnd};
 use record_io::status::SITE_FAULT;
 use record_io::{Answer, Outcome, answer_header, code};
 use run_promise::RunEnd;
-use sdls_base::Octets;
 use sdls_outside::Site;
 use std::alloc::Global;
 use unit_book::{Book, BookFault};
@@ -52,16 +53,10 @@ pub(crate) fn told_end(
 
 /// The End answer.
 pub(crate) fn answer_of(alloc: Global, end: RunEnd, entries: u64) -> Answer
-    ensures { result ≡ end_answer end entries }
+    ensures answer { result ≡ end_answer end entries }
+    ensures widths { IsAnswer (end_answer end entries) }
 {
-    Answer {
-        code: code::END,
-        detail: end.status(),
-        key: 0,
-        position: entries,
-        number: end.number(),
-        body: Octets::new(Vec::new(alloc)),
-    }
+    Answer::counting(alloc, code::END, end.status(), end.number(), entries)
 }
 
 /// Puts End, and answers the status. Where a put failed before, nothing is put.
@@ -69,12 +64,13 @@ fn put_end<O: Site>(alloc: Global, book: &mut Book<O>, came: RunEnd, told: RunEn
     requires kept { IsKept O.told book.old }
     ensures kept { IsKept O.told book.new }
     ensures ends { PutsEnd O.told came told book.old book.new result }
+    ensures widths { IsAnswer (end_answer told (length (entries_of book.old.log))) }
 {
+    let header = answer_header(&answer_of(alloc, told, book.count()));
     if came == RunEnd::PutFailed {
         return SITE_FAULT;
     }
-    let answer = answer_of(alloc, told, book.count());
-    match book.put(&answer_header(&answer)) {
+    match book.put(&header) {
         Ok(()) => told.status(),
         Err(_) => SITE_FAULT,
     }

@@ -1,7 +1,8 @@
 // Octets that are put by the one worker of a unit.
-ghost use Rattle.std.specs.Prelude.{◌≡◌, List};
+ghost use Rattle.std.specs.Prelude.{◌≡◌, List, length};
 ghost use Rattle.record_io.specs.declared.records.Record.{Record};
 ghost use Rattle.law_workers.specs.Reporting.{Looked};
+ghost use Rattle.law_workers.specs.Views.{entries_in};
 ghost use Rattle.counter_table.specs.Worker.{view};
 ghost use Rattle.unit_session.specs.Putting.{IsAlone, OfRun, PutsOctets};
 
@@ -27,19 +28,15 @@ pub(crate) fn put_alone<R: Wait, O: Site>(
     unit.put(rt, worker, octets)
 }
 
-/// How many entries stand. Nobody else does anything meanwhile, since the worker has all shares.
-pub(crate) fn standing_alone<R: Wait, O: Site>(
-    rt: &R,
-    unit: &Unit<O>,
-    worker: &mut Worker<O>,
-) -> u64
+/// How many entries the run has. Nobody else does anything meanwhile, since the worker has all shares.
+pub(crate) fn count_alone<R: Wait, O: Site>(rt: &R, unit: &Unit<O>, worker: &mut Worker<O>) -> u64
     requires alone { IsAlone unit.now.counters unit.now.plan worker.old }
     ensures alone { IsAlone unit.now.counters unit.now.plan worker.new }
-    ensures standing { result ≡ (view worker.new).turn.known.standing }
+    ensures counted { result ≡ length (entries_in (view worker.new)) }
     ensures opening { (view worker.new).turn.known.opening ≡ (view worker.old).turn.known.opening }
     ensures looked { (tasks : List Record) → OfRun O.told (view worker.old)
         (λ begin. Looked begin (view worker.old) (view worker.new) tasks) }
 {
     visiting_works::<O>();
-    unit.standing(rt, worker)
+    unit.count(rt, worker)
 }

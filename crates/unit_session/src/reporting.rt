@@ -1,10 +1,10 @@
 // The log of a run: answers that are noted, and monitoring messages that are answered.
-ghost use Rattle.std.specs.Prelude.{◌≡◌, ◌≤◌, length};
+ghost use Rattle.std.specs.Prelude.{◌≤◌, length};
 ghost use Rattle.unit_session.specs.Reporting.{LogAnswers, NotesAll};
 
 use fsr_log::Log;
 use record_io::{Answer, Record, code};
-use sdls_base::{NoMemory, Octets};
+use sdls_base::NoMemory;
 use std::alloc::Global;
 
 /// Notes the answers to records, in their order. It takes no memory.
@@ -18,35 +18,15 @@ pub(crate) fn note_all(log: &mut Log, records: &[Record], answers: &[Answer])
     }
 }
 
-/// An answer without a key and a detail.
-fn answer_with(code: u8, position: u64, number: u64, body: Octets) -> Answer
-    ensures { result ≡ record {
-      code = code;
-      detail = 0;
-      key = 0;
-      position = position;
-      number = number;
-      body = body;
-    } }
+/// The answer of the log to a monitoring message, when the run has so many entries.
+pub(crate) fn log_answer(alloc: Global, log: &Log, message: &[u8], entries: u64) -> Answer
+    ensures { LogAnswers log.now message.now entries result }
 {
-    Answer {
-        code,
-        detail: 0,
-        key: 0,
-        position,
-        number,
-        body,
-    }
-}
-
-/// The answer of the log to a monitoring message, where so many entries stand.
-pub(crate) fn log_answer(alloc: Global, log: &Log, message: &[u8], standing: u64) -> Answer
-    ensures { LogAnswers log.now message.now standing result }
-{
-    let none = Octets::new(Vec::new(alloc));
     match log.answer(alloc, message) {
-        Ok(Ok(reply)) => answer_with(code::MONITORED, standing, 0, reply),
-        Ok(Err(offset)) => { answer_with(code::MONITOR_FAULT, standing, u64::from(offset), none) }
-        Err(NoMemory) => answer_with(code::NO_MEMORY, 0, 0, none),
+        Ok(Ok(reply)) => Answer::numbered(code::MONITORED, 0, 0, entries, reply),
+        Ok(Err(offset)) => {
+            Answer::counting(alloc, code::MONITOR_FAULT, 0, u64::from(offset), entries)
+        }
+        Err(NoMemory) => Answer::counting(alloc, code::NO_MEMORY, 0, 0, 0),
     }
 }

@@ -15,12 +15,12 @@ ghost use Rattle.fsr_log.specs.Report.{report_of};
 ghost use Rattle.unit_session.specs.Serving.{came_after, Comes, end_of_stop, EndsAs, Goes, Leads, served_as};
 ghost use Rattle.unit_session.specs.Serving.{ServesSegment};
 
-use crate::putting::standing_alone;
+use crate::putting::count_alone;
 use crate::reporting::{log_answer, note_all};
 use crate::session::Session;
 use frame_workers::{Gate, run_segment};
 use law_workers::looking_reports;
-use record_io::{Reader, Record, RecordKind, SegmentEnd};
+use record_io::{Reader, Record, RecordKind, SegmentEnd, answers_have_widths};
 use run_promise::RunEnd;
 use sdls_base::NoMemory;
 use sdls_outside::{Site, Source};
@@ -81,10 +81,12 @@ impl<O: Site + Send> Session<O> {
         ensures serves { OfRun O.told (view self.old.worker) (λ begin. ServesSegment begin (task.now ∷ []) result
             (view self.old.worker) (view self.new.worker) self.old.log self.new.log) }
     {
-        let standing = standing_alone(rt, &self.unit, &mut self.worker);
-        let answer = log_answer(alloc, &self.log, task.octets.as_slice(), standing);
+        let entries = count_alone(rt, &self.unit, &mut self.worker);
+        let answer = log_answer(alloc, &self.log, task.octets.as_slice(), entries);
         self.log.note(task.index, task.kind, &answer);
-        let put = self.put_answers(rt, &[answer]);
+        let answers = [answer];
+        answers_have_widths(&answers);
+        let put = self.put_answers(rt, &answers);
         looking_reports();
         stop_after(put, false)
     }
@@ -139,6 +141,7 @@ impl<O: Site + Send> Session<O> {
         };
         note_all(&mut self.log, records, &segment.answers);
         let put = self.put_answers(rt, &segment.answers);
+        answers_have_widths(&segment.answers);
         self.spare.keep_answers(segment.answers);
         stop_after(put, segment.full)
     }

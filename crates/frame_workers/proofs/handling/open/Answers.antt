@@ -29,7 +29,7 @@ returns-clause-handles g c = record {
       let v : View = view c.args.worker.now in let w : View = view c.open_frame-opened.new.worker in let task : Record = c.args.task.now in
       let left : List ℕ = c.open_frame-opened.new.frame in
       let (found, given, visits, told) = c.open_frame-opened.ensures.opened in
-      let same : c.as_mut_slice.result.now ≡ task.octets = c.as_mut_slice.ensures.value ∙ (c.in-Ok.ensures.items ∙ c.as_slice-octets.ensures) in
+      let same : c.as_mut_slice.result.now ≡ task.octets = c.as_mut_slice.ensures.value ∙ (c.in-Ok.ensures.items ∙ c.as_slice-octets.ensures.octets) in
       let opened = subst (λ (l : List ℕ). WithPosition c.open_frame-opened.result (known_of_book given)
       (λ answer. MatchResult answer
       (λ told. OpensWithEntry task.index task.link l (field_in told.0 left) found given told.0 told.1 × LeavesOctets told.0 l left)
@@ -44,7 +44,7 @@ returns-clause-handles g c = record {
       let v : View = view c.args.worker.now in let w : View = view c.open_frame-opened.new.worker in let task : Record = c.args.task.now in
       let left : List ℕ = c.open_frame-opened.new.frame in
       let (found, given, visits, told) = c.open_frame-opened.ensures.opened in
-      let same : c.as_mut_slice.result.now ≡ task.octets = c.as_mut_slice.ensures.value ∙ (c.in-Ok.ensures.items ∙ c.as_slice-octets.ensures) in
+      let same : c.as_mut_slice.result.now ≡ task.octets = c.as_mut_slice.ensures.value ∙ (c.in-Ok.ensures.items ∙ c.as_slice-octets.ensures.octets) in
       let opened = subst (λ (l : List ℕ). WithPosition c.open_frame-opened.result (known_of_book given)
       (λ answer. MatchResult answer
       (λ told. OpensWithEntry task.index task.link l (field_in told.0 left) found given told.0 told.1 × LeavesOctets told.0 l left)

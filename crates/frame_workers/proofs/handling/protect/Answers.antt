@@ -29,7 +29,7 @@ returns-clause-handles g c = record {
       let v : View = view c.args.worker.now in let w : View = view c.protect-protected.new.worker in let task : Record = c.args.task.now in
       let out : List ℕ = c.protect-protected.new.out in
       let step = subst (λ (l : List ℕ). IsProtectStep g.O.Site.told c.args.unit.now.plan task.link l out
-      c.protect-protected.new.kept c.protect-protected.result v w) c.as_slice-clear.ensures c.protect-protected.ensures.step in
+      c.protect-protected.new.kept c.protect-protected.result v w) c.as_slice-clear.ensures.octets c.protect-protected.ensures.step in
       subst (Answered layout begin segment v w task) (sym c.protected_answer.ensures)
       (protecting_answers g.O.Site.told begin layout segment task v w b c.requires.ready.free c.requires.kind
       c.args.unit.now.plan c.protect-protected.new.kept out c.protect-protected.result c.requires.ready.planned step);
@@ -38,7 +38,7 @@ returns-clause-handles g c = record {
       let apart : Layout = record { lane_of = λ i. 0; segment_of = λ i. 0 } in
       let out : List ℕ = c.protect-protected.new.out in
       let step = subst (λ (l : List ℕ). IsProtectStep g.O.Site.told c.args.unit.now.plan task.link l out
-      c.protect-protected.new.kept c.protect-protected.result v w) c.as_slice-clear.ensures c.protect-protected.ensures.step in
+      c.protect-protected.new.kept c.protect-protected.result v w) c.as_slice-clear.ensures.octets c.protect-protected.ensures.step in
       subst (AnsweredExactly begin segment v w task) (sym c.protected_answer.ensures)
       (protects_exactly g.O.Site.told begin apart segment task v w b c.requires.ready.free c.requires.kind
       (covers_taken g.O.Site.told begin v w b c.requires.ready.free c.protect-protected.ensures.covered)

@@ -20,5 +20,6 @@ returns g c = record {
     puts_end = c.put_end-status.ensures.ends;
     site_is = sym c.into_site-site.ensures.site;
     entries_are = c.into_site-site.ensures.entries;
+    widths = c.put_end-status.ensures.widths;
   };
 }

@@ -12,7 +12,7 @@ pub returns-clause-puts : goal.returns-clause-puts
 returns-clause-puts g c =
     let told : RunEnd = c.told_end-told.result in
     let octets : c.answer_header.result ≡ answer_octets (end_answer told 0) =
-    sym (append-nil c.answer_header.result) ∙ subst (λ (a : Answer). c.answer_header.result ++ a.body ≡ answer_octets a) c.answer_of-answer.ensures c.answer_header.ensures.whole in
+    sym (append-nil c.answer_header.result) ∙ subst (λ (a : Answer). c.answer_header.result ++ a.body ≡ answer_octets a) c.answer_of-answer.ensures.answer c.answer_header.ensures.whole in
     record {
       end = told;
       end_is = subst (λ (now : ℕ). IsToldEnd c.args.before now now (refused_end c.args.fault) (Ok tt) told) c.faults-now.ensures
@@ -23,4 +23,5 @@ returns-clause-puts g c =
       counted = c.put-put.ensures.puts;
       cause = c.put-put.ensures.cause;
       status_is = c.status_of.ensures;
+      widths = c.answer_of-answer.ensures.widths;
     }

@@ -51,4 +51,5 @@ returns-in-Err g c =
       counted = put.counted;
       put_cause = put.cause;
       status_is = put.status_is;
+      widths = put.widths;
     }))

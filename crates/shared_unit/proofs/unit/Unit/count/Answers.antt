@@ -18,6 +18,7 @@ returns-clause-counted g c =
       visits g.O.Site.told found found (view c.args.worker.now).turn (view c.take-held.new.worker).turn (view c.give.new.worker).turn
           c.count-count.ensures.kept c.count-count.ensures.kept c.take-held.ensures.follows (goes_itself found) c.take-held.ensures.turn c.give.ensures.turn,
       c.count-count.ensures.count,
+      c.take-held.ensures.as_known,
     )
 
 pub returns-clause-ready : goal.returns-clause-ready

@@ -1,5 +1,6 @@
-use Rattle.std.proofs.Common.{◌≡◌, false, length, ap, arith}
-use Rattle.std.specs.List.{list_any}
+use Rattle.std.proofs.Common.{◌≡◌, false, length, ap, subst, arith}
+use Rattle.std.specs.List.{All, list_any}
+use Rattle.record_io.specs.Answers.{IsAnswer}
 use Rattle.counter_table.specs.Worker.{view}
 use Rattle.unit_drill.specs.UnitRun.{says_fault}
 use Rattle.unit_drill.proofs.Served.{few_answers, served}
@@ -12,6 +13,7 @@ returns-clause-serves g c =
     let quiet : list_any says_fault c.in_ok-segment.segment.answers.items ≡ false = cc in
     served (view c.args.self.now.worker) (view c.run_segment.new.worker) c.args.records.now c.in_ok-segment.segment.answers.items
     c.in_ok-segment.segment.full c.requires.lanes.0 c.requires.lanes.1 c.in_ok-segment.ensures.handled c.in_ok-segment.ensures.full quiet
+    (subst (All IsAnswer) c.deref-2.ensures.value c.answers_have_widths.ensures)
     (c.in_ok-segment.ensures.whole c.requires.may.shares)
 
 pub returns-clause-few : goal.returns-clause-few

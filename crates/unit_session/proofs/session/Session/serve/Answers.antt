@@ -1,7 +1,8 @@
 use Rattle.std.proofs.Common.{◌≤◌, List, length, sym, ◌∙◌, subst, Result}
 use Rattle.fsr_log.specs.Report.{Report}
 use Rattle.record_io.specs.declared.answers.Answer.{Answer}
-use Rattle.record_io.specs.Answers.{answers_octets}
+use Rattle.record_io.specs.Answers.{IsAnswer, answers_octets}
+use Rattle.std.specs.List.{All}
 use Rattle.counter_table.specs.declared.view.View.{View}
 use Rattle.counter_table.specs.Worker.{view}
 use Rattle.unit_book.specs.declared.fault.BookFault.{BookFault}
@@ -46,6 +47,7 @@ returns-clause-opening g c =
     (subst (NotesAll c.args.records.now answers old) (sym c.put_answers-put.ensures.logged)
     (subst (λ (l : List Answer). NotesAll c.args.records.now l old c.note_all.new.log) c.deref.ensures.value c.note_all.ensures))
     (λ notes number is. plain_reported notes number c.args.records.now answers c.requires.plain)
+    (subst (All IsAnswer) c.deref-3.ensures.value c.answers_have_widths.ensures)
     (plain_at c.args.records.now c.requires.plain (length answers))
 
 pub returns-clause-serves : goal.returns-clause-serves
@@ -65,6 +67,7 @@ returns-clause-serves g c = λ begin began.
     (subst (NotesAll c.args.records.now answers old) (sym c.put_answers-put.ensures.logged)
     (subst (λ (l : List Answer). NotesAll c.args.records.now l old c.note_all.new.log) c.deref.ensures.value c.note_all.ensures))
     (λ notes number is. plain_reported notes number c.args.records.now answers c.requires.plain)
+    (subst (All IsAnswer) c.deref-3.ensures.value c.answers_have_widths.ensures)
     (plain_at c.args.records.now c.requires.plain (length answers))
     begin began c.requires.alone.whole (c.in-Ok.ensures.whole c.requires.alone.shares) c.put_answers-put.ensures.alone.whole
     c.in-Ok.segment.full (c.in-Ok.ensures.full begin began))

@@ -1,4 +1,4 @@
--- A look at how many entries stand, by the one worker of a unit: for the clauses of `standing_alone`.
+-- A look at how many entries there are, by the one worker of a unit: for the clauses of `count_alone`.
 use Rattle.std.proofs.Common.{◌≡◌, ℕ, ◌-◌, Bool, false, List, ◌++◌, length, sym, ◌∙◌, ap, subst, arith, append-nil}
 use Rattle.sdls_base.specs.Numbers.{once_below}
 use Rattle.sdls_base.specs.declared.entry.Logged.{Logged}
@@ -13,11 +13,11 @@ use Rattle.record_io.specs.declared.records.Record.{Record}
 use Rattle.unit_book.specs.Book.{BookView}
 use Rattle.run_promise.specs.Log.{entries_of}
 use Rattle.run_promise.specs.Begin.{Begin}
-use Rattle.shared_unit.specs.Told.{known_of_book}
+use Rattle.shared_unit.specs.Told.{entry_count, known_of_book}
 use Rattle.shared_unit.specs.Turn.{Visits}
 use Rattle.law_workers.specs.Began.{BeganWith}
 use Rattle.law_workers.specs.Reporting.{Looked}
-use Rattle.law_workers.specs.Views.{log_of}
+use Rattle.law_workers.specs.Views.{entries_in, log_of}
 use Rattle.law_workers.specs.Work.{Worked}
 use Rattle.law_calls.specs.Visiting.{Visited}
 
@@ -26,8 +26,8 @@ module _ (told : Bool) (v w : View) (found : BookView) (free : v.turn.holds ≡ 
   known_is : w.turn.known ≡ known_of_book found
   known_is = ap (λ (t : Turn). t.known) visits.takes.turn
 
-  pub standing_is : w.turn.known.standing ≡ found.standing
-  standing_is = ap (λ (k : Known). k.standing) known_is
+  pub counted_is : length (entries_in w) ≡ entry_count (known_of_book found)
+  counted_is = ap (λ (k : Known). length (entries_of k.log)) known_is
 
   log_is : log_of w ≡ log_of v
   log_is = ap (λ (k : Known). k.log) known_is ∙ known.log
@@ -55,8 +55,4 @@ module _ (told : Bool) (v w : View) (found : BookView) (free : v.turn.holds ≡ 
     numbers = numbers;
     made = made_is;
     log = log_is;
-    stands =
-        let low = visits.found_kept.stands in
-        let count = standing_is in
-        let size = ap (λ (k : Known). length (entries_of k.log)) known_is in omega arith;
   }
