@@ -4,13 +4,14 @@ use Rattle.std.proofs.lemmas.List.{append-nil}
 use Rattle.std.specs.Fmt.{decimal}
 use Rattle.std.specs.Prelude.{codes}
 use Rattle.ep_codec.specs.Field.{number_at}
-use Rattle.answer_text.specs.declared.codes.Code.{Code}
-use Rattle.answer_text.specs.declared.codes.Code.TheVariants.{End}
+use Rattle.record_io.specs.declared.codes.AnswerCode.{AnswerCode}
+use Rattle.record_io.specs.declared.codes.AnswerCode.TheVariants.{End}
 use Rattle.answer_text.specs.declared.form.Form.{Form}
 use Rattle.answer_text.specs.declared.form.Form.TheVariants.{Words, Json}
 use Rattle.record_io.specs.declared.answers.Answer.{Answer}
 use Rattle.ep_codec.specs.declared.reply_pdu.ReplyPdu.{ReplyPdu}
-use Rattle.answer_text.specs.Part.{Part, member, part_text, parts_text, quoted, spaced}
+use Rattle.answer_text.specs.Part.{Part, member, part_text, parts_text, quoted}
+use Rattle.text_words.specs.Words.{spaced}
 use Rattle.answer_text.specs.Part.Part.{named}
 use Rattle.answer_text.specs.Code.{code_word}
 use Rattle.answer_text.specs.Reply.{reply_name, reply_values}
@@ -26,11 +27,11 @@ pub two_put : (old a b middle new all : List ℕ) → middle ≡ old ++ a → ne
 two_put old a b middle new all first second is =
     second ∙ ap (λ xs. xs ++ b) first ∙ append_assoc old a b ∙ ap (λ xs. old ++ xs) (sym is)
 
-pub front_words : (index : ℕ) (code : Code) → code ≢ End → front_text Words index code ≡ decimal index ++ spaced (code_word code)
+pub front_words : (index : ℕ) (code : AnswerCode) → code ≢ End → front_text Words index code ≡ decimal index ++ spaced (code_word code)
 front_words index End not = absurd (not refl)
 front_words index code not = refl
 
-pub front_object : (index : ℕ) (code : Code) → code ≢ End → front_text Json index code
+pub front_object : (index : ℕ) (code : AnswerCode) → code ≢ End → front_text Json index code
     ≡ codes "{" ++ (member (codes "record") (decimal index) ++ (codes "," ++ member (codes "code") (quoted (code_word code))))
 front_object index End not = absurd (not refl)
 front_object index code not = refl

@@ -17,14 +17,15 @@ use Rattle.ep_codec.specs.declared.reply_pdu.ReplyPdu.{ReplyPdu}
 use Rattle.ep_codec.specs.declared.reply_pdu.ReplyPdu.TheVariants as replies
 use Rattle.replay_window.specs.WindowField.{back_of}
 use Rattle.record_io.specs.declared.answers.Answer.{Answer}
-use Rattle.answer_text.specs.declared.codes.Code.{Code}
-use Rattle.answer_text.specs.declared.codes.Code.TheVariants.{Protected, Accepted, Clear, Done, Refused, Monitored, MonitorFault, Layout, Channel, Spi, Direction, State, Coverage, Mac, Number, Exhausted, SiteFault, Stopped, NoMemory, End}
-use Rattle.answer_text.specs.Code.{code_at, code_word, word_of, layout_details, state_details, refusal_details, end_numbers}
+use Rattle.record_io.specs.declared.codes.AnswerCode.{AnswerCode}
+use Rattle.record_io.specs.declared.codes.AnswerCode.TheVariants.{Protected, Accepted, Clear, Done, Refused, Monitored, MonitorFault, Layout, Channel, Spi, Direction, State, Coverage, Mac, Number, Exhausted, SiteFault, Stopped, NoMemory, End}
+use Rattle.answer_text.specs.Code.{code_word, word_of, layout_details, state_details, refusal_details, end_numbers}
+use Rattle.record_io.specs.Codes.{code_at}
 use Rattle.answer_text.specs.Part.{Part, word_of_code}
 use Rattle.answer_text.specs.Part.Part.{named, number, word}
 use Rattle.answer_text.specs.Reply.{reply_name, reply_values}
-use Rattle.answer_text.specs.declared.monitor.MonitorReply.{MonitorReply}
-use Rattle.answer_text.specs.declared.monitor.MonitorReply.TheVariants as monitoring
+use Rattle.text_words.specs.declared.names.MessageName.{MessageName}
+use Rattle.text_words.specs.declared.names.MessageName.TheVariants as monitoring
 use Rattle.answer_text.specs.declared.monitor.TheConstants.{EVENT}
 use Rattle.ep_codec.specs.Field.{octet_at}
 use Rattle.answer_text.specs.Monitor.{monitor_reply}
@@ -35,7 +36,7 @@ use Rattle.answer_text.specs.Plain.{are_plain_events, are_plain_parts, are_plain
 both : (a b : Bool) → a ≡ true → b ≡ true → (a && b) ≡ true
 both a b left right = rw (left, right) refl
 
-pub plain_code : (code : Code) → IsTrue (is_plain_text (code_word code))
+pub plain_code : (code : AnswerCode) → IsTrue (is_plain_text (code_word code))
 plain_code Protected = refl
 plain_code Accepted = refl
 plain_code Clear = refl
@@ -153,7 +154,7 @@ plain_done answer reply =
     plain_append (drawn answer) (reply_values reply) (plain_drawn_if (answer.key == 0) answer.key answer.number) (plain_reply_values reply) in
     plain_append (reply_name reply) (named (codes "entry") answer.position ∷ behind) (plain_reply_name reply) is_behind
 
-plain_event_word : (code : Option Code) → is_plain_text (word_of_code code) ≡ true
+plain_event_word : (code : Option AnswerCode) → is_plain_text (word_of_code code) ≡ true
 plain_event_word None = refl
 plain_event_word (Some code) = plain_code code
 
@@ -163,7 +164,7 @@ plain_events (suc count) carried =
     both (is_plain_text (word_of_code (code_at (octet_at 8 carried)))) (are_plain_events count (drop 18 carried))
     (plain_event_word (code_at (octet_at 8 carried))) (plain_events count (drop 18 carried))
 
-plain_monitored : (answer : Answer) (reply : MonitorReply) → are_plain_parts (monitored_parts answer reply) ≡ true
+plain_monitored : (answer : Answer) (reply : MessageName) → are_plain_parts (monitored_parts answer reply) ≡ true
 plain_monitored answer monitoring.Ping = refl
 plain_monitored answer monitoring.LogStatus = refl
 plain_monitored answer monitoring.DumpLog =
@@ -214,7 +215,7 @@ every_plain : {X : Type 0} (o : Option X) (P Q : X → Type 0) → ((x : X) → 
 every_plain None P Q all has = has
 every_plain (Some x) P Q all has = (has, all x)
 
-with_plain : (code : Code) (answer : Answer) (P : List Part → Type 0) → HasValues code answer P
+with_plain : (code : AnswerCode) (answer : Answer) (P : List Part → Type 0) → HasValues code answer P
     → HasValues code answer (λ values. P values × IsTrue (are_plain_parts values))
 unfolding HasValues
 with_plain Protected answer P has = (has.0, (has.1, refl))
@@ -277,7 +278,7 @@ match_fact None A C has = has.1
 match_fact (Some x) A C has = has
 
 -- what holds whatever the parts are
-fact_of : (code : Code) (answer : Answer) (C : Type 0) → HasValues code answer (λ _. C) → C
+fact_of : (code : AnswerCode) (answer : Answer) (C : Type 0) → HasValues code answer (λ _. C) → C
 unfolding HasValues
 fact_of Protected answer C has = has.1
 fact_of Accepted answer C has = has.1
@@ -300,7 +301,7 @@ fact_of Stopped answer C has = has.1
 fact_of NoMemory answer C has = has.2
 fact_of End answer C has = match_fact (word_of end_numbers answer.detail) (answer.number ≡ 0) C has.2
 
-pub plain_values : (code : Code) (answer : Answer) (values : List Part) → HasValues code answer (λ found. found ≡ values)
+pub plain_values : (code : AnswerCode) (answer : Answer) (values : List Part) → HasValues code answer (λ found. found ≡ values)
     → IsTrue (are_plain_parts values)
 plain_values code answer values has =
     fact_of code answer (are_plain_parts values ≡ true)

@@ -2,14 +2,15 @@
 use Rattle.std.proofs.Common.{◌≡◌, ◌∷◌, [], ◌++◌, ℕ, List, Option, Some, None}
 use Rattle.std.specs.Prelude.{IsSomeAnd, MatchOption, codes}
 use Rattle.record_io.specs.declared.answers.Answer.{Answer}
-use Rattle.answer_text.specs.declared.codes.Code.{Code}
-use Rattle.answer_text.specs.declared.codes.Code.TheVariants.{Protected, Accepted, Clear, Done, Refused, Monitored, MonitorFault, Layout, Channel, Spi, Direction, State, Coverage, Mac, Number, Exhausted, SiteFault, Stopped, NoMemory, End}
+use Rattle.record_io.specs.declared.codes.AnswerCode.{AnswerCode}
+use Rattle.record_io.specs.declared.codes.AnswerCode.TheVariants.{Protected, Accepted, Clear, Done, Refused, Monitored, MonitorFault, Layout, Channel, Spi, Direction, State, Coverage, Mac, Number, Exhausted, SiteFault, Stopped, NoMemory, End}
 use Rattle.answer_text.specs.declared.error.TextError.{TextError}
 use Rattle.answer_text.specs.declared.error.TextError.TheVariants as errors
 use Rattle.answer_text.specs.declared.form.Form.{Form}
 use Rattle.answer_text.specs.Part.{Part}
 use Rattle.answer_text.specs.Part.Part.{named, number, word}
-use Rattle.answer_text.specs.Code.{code_at, word_of, layout_details, state_details, refusal_details, end_numbers}
+use Rattle.answer_text.specs.Code.{word_of, layout_details, state_details, refusal_details, end_numbers}
+use Rattle.record_io.specs.Codes.{code_at}
 use Rattle.answer_text.specs.Monitor.{monitor_reply}
 use Rattle.answer_text.specs.Line.{HasLine, HasValues, IsOfFormats, LacksLine, line_text, monitored_parts}
 
@@ -23,7 +24,7 @@ match_more None A B P Q none more has = none has
 match_more (Some x) A B P Q none more has = more x has
 
 -- what follows from P holds where P does
-pub values_more : (code : Code) (answer : Answer) (P Q : List Part → Type 0) → ((values : List Part) → P values → Q values)
+pub values_more : (code : AnswerCode) (answer : Answer) (P Q : List Part → Type 0) → ((values : List Part) → P values → Q values)
     → HasValues code answer P → HasValues code answer Q
 unfolding HasValues
 values_more Protected answer P Q more has = (has.0, more _ has.1)

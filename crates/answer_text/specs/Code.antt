@@ -1,40 +1,14 @@
--- The codes of answers, and what their details name (profile).
-use Rattle.std.specs.Prelude.{ℕ, ◌==◌, if◌then◌else◌, codes, List, [], ◌∷◌, Option, Some, None, find}
-use Rattle.record_io.specs.declared.code.TheConstants.{ACCEPTED, CHANNEL, CLEAR, COVERAGE, DIRECTION, DONE, END}
-use Rattle.record_io.specs.declared.code.TheConstants.{EXHAUSTED, LAYOUT, MAC, NO_MEMORY, NUMBER}
-use Rattle.record_io.specs.declared.code.TheConstants.{MONITORED, MONITOR_FAULT}
-use Rattle.record_io.specs.declared.code.TheConstants.{PROTECTED, REFUSED, SITE_FAULT, SPI, STATE, STOPPED}
+-- The words for the codes of answers, and what their details name (profile).
+use Rattle.std.specs.Prelude.{ℕ, ◌==◌, if◌then◌else◌, codes, List, [], ◌∷◌, Option, Some, None}
 use Rattle.record_io.specs.declared.status.TheConstants.{MALFORMED, NO_STATE, SOURCE_FAULT}
 use Rattle.record_io.specs.declared.status.TheConstants as statuses
-use Rattle.answer_text.specs.declared.codes.Code.{Code}
-use Rattle.answer_text.specs.declared.codes.Code.TheVariants.{Protected, Accepted, Clear, Done, Refused, Layout}
-use Rattle.answer_text.specs.declared.codes.Code.TheVariants.{Monitored, MonitorFault}
-use Rattle.answer_text.specs.declared.codes.Code.TheVariants.{Channel, Spi, Direction, State, Coverage, Mac, Number}
-use Rattle.answer_text.specs.declared.codes.Code.TheVariants.{Exhausted, SiteFault, Stopped, NoMemory, End}
+use Rattle.record_io.specs.declared.codes.AnswerCode.{AnswerCode}
+use Rattle.record_io.specs.declared.codes.AnswerCode.TheVariants.{Protected, Accepted, Clear, Done, Refused, Layout}
+use Rattle.record_io.specs.declared.codes.AnswerCode.TheVariants.{Monitored, MonitorFault}
+use Rattle.record_io.specs.declared.codes.AnswerCode.TheVariants.{Channel, Spi, Direction, State, Coverage, Mac, Number}
+use Rattle.record_io.specs.declared.codes.AnswerCode.TheVariants.{Exhausted, SiteFault, Stopped, NoMemory, End}
 
-abbrev pub code_octet : Code → ℕ
-code_octet Protected = PROTECTED
-code_octet Accepted = ACCEPTED
-code_octet Clear = CLEAR
-code_octet Done = DONE
-code_octet Refused = REFUSED
-code_octet Monitored = MONITORED
-code_octet MonitorFault = MONITOR_FAULT
-code_octet Layout = LAYOUT
-code_octet Channel = CHANNEL
-code_octet Spi = SPI
-code_octet Direction = DIRECTION
-code_octet State = STATE
-code_octet Coverage = COVERAGE
-code_octet Mac = MAC
-code_octet Number = NUMBER
-code_octet Exhausted = EXHAUSTED
-code_octet SiteFault = SITE_FAULT
-code_octet Stopped = STOPPED
-code_octet NoMemory = NO_MEMORY
-code_octet End = END
-
-abbrev pub code_word : Code → List ℕ
+abbrev pub code_word : AnswerCode → List ℕ
 code_word Protected = codes "protected"
 code_word Accepted = codes "accepted"
 code_word Clear = codes "clear"
@@ -55,14 +29,6 @@ code_word SiteFault = codes "site-fault"
 code_word Stopped = codes "stopped"
 code_word NoMemory = codes "no-memory"
 code_word End = codes "end"
-
-abbrev pub all_codes : List Code
-all_codes = Protected ∷ Accepted ∷ Clear ∷ Done ∷ Refused ∷ Monitored ∷ MonitorFault ∷ Layout ∷ Channel ∷ Spi
-    ∷ Direction ∷ State ∷ Coverage ∷ Mac ∷ Number ∷ Exhausted ∷ SiteFault ∷ Stopped ∷ NoMemory ∷ End ∷ []
-
--- the code with this octet
-unfoldable pub code_at : ℕ → Option Code
-code_at octet = find (λ code. code_octet code == octet) all_codes
 
 -- the word that a table has for an octet
 abbrev pub word_of : List (ℕ × List ℕ) → ℕ → Option (List ℕ)

@@ -3,6 +3,5 @@ pub mod Part
 pub mod Reply
 pub mod Monitor
 pub mod Line
-pub mod Standing
 pub mod Listing
 pub mod Plain

@@ -6,22 +6,25 @@ use Rattle.ep_codec.specs.declared.reply_pdu.ReplyPdu.{ReplyPdu}
 use Rattle.ep_codec.specs.ReplyPdu.{IsReplyPdu}
 use Rattle.ep_codec.specs.Field.{number_at}
 use Rattle.record_io.specs.declared.status.TheConstants.{SESSION_FULL}
-use Rattle.answer_text.specs.declared.codes.Code.{Code}
-use Rattle.answer_text.specs.declared.codes.Code.TheVariants.{Protected, Accepted, Clear, Done, Refused, Layout}
-use Rattle.answer_text.specs.declared.codes.Code.TheVariants.{Monitored, MonitorFault}
-use Rattle.answer_text.specs.declared.codes.Code.TheVariants.{Channel, Spi, Direction, State, Coverage, Mac, Number}
-use Rattle.answer_text.specs.declared.codes.Code.TheVariants.{Exhausted, SiteFault, Stopped, NoMemory, End}
+use Rattle.record_io.specs.declared.codes.AnswerCode.{AnswerCode}
+use Rattle.record_io.specs.declared.codes.AnswerCode.TheVariants.{Protected, Accepted, Clear, Done, Refused, Layout}
+use Rattle.record_io.specs.declared.codes.AnswerCode.TheVariants.{Monitored, MonitorFault}
+use Rattle.record_io.specs.declared.codes.AnswerCode.TheVariants.{Channel, Spi, Direction, State, Coverage, Mac, Number}
+use Rattle.record_io.specs.declared.codes.AnswerCode.TheVariants.{Exhausted, SiteFault, Stopped, NoMemory, End}
 use Rattle.answer_text.specs.declared.error.TextError.{TextError}
 use Rattle.answer_text.specs.declared.error.TextError.TheVariants as errors
 use Rattle.answer_text.specs.declared.form.Form.{Form}
 use Rattle.answer_text.specs.declared.form.Form.TheVariants as forms
-use Rattle.answer_text.specs.Code.{code_at, code_word, layout_details, state_details, refusal_details, end_numbers}
+use Rattle.answer_text.specs.Code.{code_word, layout_details, state_details, refusal_details, end_numbers}
+use Rattle.record_io.specs.Codes.{code_at}
 use Rattle.answer_text.specs.Code.{word_of}
-use Rattle.answer_text.specs.Part.{Part, member, parts_text, quoted, spaced}
+use Rattle.answer_text.specs.Part.{Part, member, parts_text, quoted}
+use Rattle.text_words.specs.Words.{spaced}
 use Rattle.answer_text.specs.Part.Part.{named, number, word, octets}
 use Rattle.answer_text.specs.Reply.{reply_name, reply_values}
-use Rattle.answer_text.specs.declared.monitor.MonitorReply.{MonitorReply}
-use Rattle.answer_text.specs.Monitor.{monitor_name, monitor_reply, monitor_values}
+use Rattle.text_words.specs.declared.names.MessageName.{MessageName}
+use Rattle.text_words.specs.Names.{message_word}
+use Rattle.answer_text.specs.Monitor.{monitor_reply, monitor_values}
 
 -- a number of a key, and the position by its name
 abbrev pub numbered : Answer → List ℕ → List Part
@@ -68,12 +71,12 @@ pub record IsBodyAlone (answer : Answer) : Type 0 where
   pub no_number : answer.number ≡ 0
 
 -- of a monitoring message that was answered: the message, the count of entries, and what the reply carries
-abbrev pub monitored_parts : Answer → MonitorReply → List Part
-monitored_parts answer reply = word (codes "reply") (monitor_name reply)
+abbrev pub monitored_parts : Answer → MessageName → List Part
+monitored_parts answer reply = word (codes "reply") (message_word reply)
     ∷ (named (codes "entries") answer.position ∷ monitor_values reply (drop 3 answer.body))
 
 -- The answer is one of this code, and P holds of the parts that its line says.
-unfoldable pub HasValues : Code → Answer → (List Part → Type 0) → Type 0
+unfoldable pub HasValues : AnswerCode → Answer → (List Part → Type 0) → Type 0
 HasValues Protected answer P =
     (answer.detail ≡ 0) × P (numbered answer (codes "epoch") ++ octets (codes "frame") answer.body ∷ [])
 HasValues Accepted answer P =
@@ -113,7 +116,7 @@ abbrev pub IsOfFormats : Answer → Type 0
 IsOfFormats answer = MatchOption (code_at answer.code) ⊥ (λ code. HasValues code answer (λ _. ⊤))
 
 -- how a line begins: the number of the record and the code, and of End the code alone
-abbrev pub front_text : Form → ℕ → Code → List ℕ
+abbrev pub front_text : Form → ℕ → AnswerCode → List ℕ
 front_text forms.Words index End = codes "end"
 front_text forms.Words index code = decimal index ++ spaced (code_word code)
 front_text forms.Json index End = codes "{" ++ member (codes "code") (quoted (codes "end"))
@@ -126,7 +129,7 @@ end_text forms.Words = codes "\n"
 end_text forms.Json = codes "}\n"
 
 -- a line in a form: how it begins, its parts, and how it ends
-abbrev pub line_text : Form → ℕ → Code → List Part → List ℕ
+abbrev pub line_text : Form → ℕ → AnswerCode → List Part → List ℕ
 line_text form index code values = front_text form index code ++ (parts_text form values ++ end_text form)
 
 -- The answer is one of the formats, and P holds of its line in this form.
@@ -140,7 +143,7 @@ LacksUnlessNoMemory fact errors.NoMemory = ⊤
 LacksUnlessNoMemory fact errors.NoAnswer = ¬ fact
 
 -- the answer is none of this code, or memory ran out
-abbrev pub LacksValues : Code → Answer → TextError → Type 0
+abbrev pub LacksValues : AnswerCode → Answer → TextError → Type 0
 LacksValues code answer error = LacksUnlessNoMemory (HasValues code answer (λ _. ⊤)) error
 
 -- the answer is none of the formats, or memory ran out

@@ -4,16 +4,16 @@ use Rattle.std.specs.Prelude.{List, [], ◌∷◌, drop, take, length, Option, S
 use Rattle.ep_codec.specs.Field.{octet_at, word_at}
 use Rattle.fsr_log.specs.declared.messages.TheConstants.{PING, LOG_STATUS, DUMP_LOG, ERASE_LOG, SELF_TEST, ALARM_RESET}
 use Rattle.fsr_log.specs.declared.replies.TheConstants.{REPLY, REPORT_WORD}
-use Rattle.fsr_log.specs.Noted.{is_event}
-use Rattle.answer_text.specs.declared.monitor.MonitorReply.{MonitorReply}
-use Rattle.answer_text.specs.declared.monitor.MonitorReply.TheVariants.{Ping, LogStatus, DumpLog, EraseLog, SelfTest}
-use Rattle.answer_text.specs.declared.monitor.MonitorReply.TheVariants.{AlarmReset}
+use Rattle.fsr_log.specs.Kinds.{is_event}
+use Rattle.text_words.specs.declared.names.MessageName.{MessageName}
+use Rattle.text_words.specs.declared.names.MessageName.TheVariants.{Ping, LogStatus, DumpLog, EraseLog, SelfTest}
+use Rattle.text_words.specs.declared.names.MessageName.TheVariants.{AlarmReset}
 use Rattle.answer_text.specs.declared.monitor.TheConstants.{EVENT, MOST}
 use Rattle.answer_text.specs.Part.{Part}
 use Rattle.answer_text.specs.Part.Part.{events, named, octets}
 
 -- the reply with this tag
-abbrev pub reply_at : ℕ → Option MonitorReply
+abbrev pub reply_at : ℕ → Option MessageName
 reply_at tag = if tag == REPLY + PING then Some Ping else (if tag == REPLY + LOG_STATUS then Some LogStatus
     else (if tag == REPLY + DUMP_LOG then Some DumpLog else (if tag == REPLY + ERASE_LOG then Some EraseLog
     else (if tag == REPLY + SELF_TEST then Some SelfTest else (if tag == REPLY + ALARM_RESET then Some AlarmReset
@@ -25,7 +25,7 @@ are_events zero carried = true
 are_events (suc count) carried = is_event (octet_at 8 carried) && are_events count (drop EVENT carried)
 
 -- what such a reply carries: a report word begins with the bits 1 and 100; events and those that fit are 256
-abbrev pub has_form : MonitorReply → List ℕ → Bool
+abbrev pub has_form : MessageName → List ℕ → Bool
 has_form Ping carried = (length carried == 4) && (octet_at 0 carried / 16 == REPORT_WORD / 16)
 has_form LogStatus carried = (length carried == 4) && (word_at 0 carried + word_at 2 carried == MOST)
 has_form DumpLog carried = (length carried == EVENT * (length carried / EVENT))
@@ -35,23 +35,14 @@ has_form SelfTest carried = length carried == 32
 has_form AlarmReset carried = length carried == 0
 
 -- the reply, if what it carries is so
-abbrev pub formed : List ℕ → Option MonitorReply → Option MonitorReply
+abbrev pub formed : List ℕ → Option MessageName → Option MessageName
 formed carried None = None
 formed carried (Some reply) = if has_form reply carried then Some reply else None
 
 -- the reply that octets are: its tag, the length of what it carries in bits, and what it carries
-abbrev pub monitor_reply : List ℕ → Option MonitorReply
+abbrev pub monitor_reply : List ℕ → Option MessageName
 monitor_reply body = if nat_lt (length body) 3 then None else
     (if word_at 1 body == 8 * (length body - 3) then formed (drop 3 body) (reply_at (octet_at 0 body)) else None)
-
--- the word of the message
-abbrev pub monitor_name : MonitorReply → List ℕ
-monitor_name Ping = codes "ping"
-monitor_name LogStatus = codes "log-status"
-monitor_name DumpLog = codes "dump-log"
-monitor_name EraseLog = codes "erase-log"
-monitor_name SelfTest = codes "self-test"
-monitor_name AlarmReset = codes "alarm-reset"
 
 -- the report word bit by bit, and its key and number
 abbrev pub report_parts : ℕ → ℕ → ℕ → List Part
@@ -68,7 +59,7 @@ abbrev pub tested_parts : List ℕ → List ℕ → List Part
 tested_parts enciphered mac = octets (codes "enciphered") enciphered ∷ octets (codes "mac") mac ∷ []
 
 -- what the reply carries
-abbrev pub monitor_values : MonitorReply → List ℕ → List Part
+abbrev pub monitor_values : MessageName → List ℕ → List Part
 monitor_values Ping carried = report_parts (octet_at 0 carried) (word_at 1 carried) (octet_at 3 carried)
 monitor_values LogStatus carried = count_parts (word_at 0 carried) (word_at 2 carried)
 monitor_values DumpLog carried =

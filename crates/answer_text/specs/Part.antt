@@ -3,11 +3,12 @@ use Rattle.std.specs.Prelude.{ℕ, zero, suc, codes, decimal, List, [], ◌∷�
 use Rattle.std.specs.List.{flat_map}
 use Rattle.hex.specs.Hex.{encode_lower}
 use Rattle.sdls_base.specs.declared.states.KeyState.{KeyState}
-use Rattle.text_words.specs.Words.{octets_word, key_state_word}
+use Rattle.text_words.specs.Words.{octets_word, key_state_word, spaced}
 use Rattle.ep_codec.specs.Field.{number_at, octet_at}
 use Rattle.fsr_log.specs.declared.events.Event.{Event}
-use Rattle.answer_text.specs.declared.codes.Code.{Code}
-use Rattle.answer_text.specs.Code.{code_at, code_word}
+use Rattle.record_io.specs.declared.codes.AnswerCode.{AnswerCode}
+use Rattle.answer_text.specs.Code.{code_word}
+use Rattle.record_io.specs.Codes.{code_at}
 use Rattle.answer_text.specs.declared.form.Form.{Form}
 use Rattle.answer_text.specs.declared.form.Form.TheVariants.{Words, Json}
 
@@ -23,16 +24,12 @@ pub data Part : Type 0 where
   rows : List (ℕ × KeyState) → Part
   events : ℕ → List ℕ → Part
 
--- a word behind a space
-abbrev pub spaced : List ℕ → List ℕ
-spaced text = codes " " ++ text
-
 -- a key with its state, in words
 abbrev pub row_words : ℕ × KeyState → List ℕ
 row_words row = spaced (decimal row.0) ++ spaced (key_state_word row.1)
 
 -- the word of a code, if it is one
-abbrev pub word_of_code : Option Code → List ℕ
+abbrev pub word_of_code : Option AnswerCode → List ℕ
 word_of_code None = []
 word_of_code (Some code) = code_word code
 

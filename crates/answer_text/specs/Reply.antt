@@ -6,34 +6,42 @@ use Rattle.ep_codec.specs.declared.reply_pdu.ReplyPdu.TheVariants.{Rekeying, Act
 use Rattle.ep_codec.specs.declared.reply_pdu.ReplyPdu.TheVariants.{Delete, SetWindow, Rekey, Expire, SetNumber, Start}
 use Rattle.ep_codec.specs.declared.reply_pdu.ReplyPdu.TheVariants.{Stop, VerifyGcm, VerifyCmac, Inventory, Compose}
 use Rattle.ep_codec.specs.declared.reply_pdu.ReplyPdu.TheVariants.{ReadNumber, Status}
+use Rattle.ep_codec.specs.declared.procedure.Procedure.{Procedure}
+use Rattle.ep_codec.specs.declared.procedure.Procedure.TheVariants as procedures
+use Rattle.text_words.specs.Names.{procedure_word}
 use Rattle.text_words.specs.Words.{sa_state_word, direction_word, suite_word}
 use Rattle.answer_text.specs.Part.{Part}
 use Rattle.answer_text.specs.Part.Part.{named, number, word, octets, rows}
 
--- the procedure
-abbrev pub procedure : List ℕ → Part
-procedure name = word (codes "reply") name
+-- the procedure whose reply it is
+abbrev pub reply_procedure : ReplyPdu → Procedure
+reply_procedure Rekeying = procedures.Rekeying
+reply_procedure Activate = procedures.Activate
+reply_procedure Deactivate = procedures.Deactivate
+reply_procedure Destroy = procedures.Destroy
+reply_procedure Create = procedures.Create
+reply_procedure Delete = procedures.Delete
+reply_procedure SetWindow = procedures.SetWindow
+reply_procedure Rekey = procedures.Rekey
+reply_procedure Expire = procedures.Expire
+reply_procedure SetNumber = procedures.SetNumber
+reply_procedure Start = procedures.Start
+reply_procedure Stop = procedures.Stop
+reply_procedure (VerifyGcm key vector sealed tag) = procedures.Verify
+reply_procedure (VerifyCmac key count mac) = procedures.Verify
+reply_procedure (Inventory total keys) = procedures.Inventory
+reply_procedure (Compose master vector sealed tag) = procedures.Compose
+reply_procedure (ReadNumber spi count) = procedures.ReadNumber
+reply_procedure (Status spi state direction suite key window) = procedures.Status
+
+-- of an inventory the count of the keys
+abbrev pub total_parts : ReplyPdu → List Part
+total_parts (Inventory total keys) = number (codes "total") total ∷ []
+total_parts reply = []
 
 -- the procedure, and of an inventory the count of the keys
 unfoldable pub reply_name : ReplyPdu → List Part
-reply_name Rekeying = procedure (codes "rekeying") ∷ []
-reply_name Activate = procedure (codes "activate") ∷ []
-reply_name Deactivate = procedure (codes "deactivate") ∷ []
-reply_name Destroy = procedure (codes "destroy") ∷ []
-reply_name Create = procedure (codes "create") ∷ []
-reply_name Delete = procedure (codes "delete") ∷ []
-reply_name SetWindow = procedure (codes "set-window") ∷ []
-reply_name Rekey = procedure (codes "rekey") ∷ []
-reply_name Expire = procedure (codes "expire") ∷ []
-reply_name SetNumber = procedure (codes "set-number") ∷ []
-reply_name Start = procedure (codes "start") ∷ []
-reply_name Stop = procedure (codes "stop") ∷ []
-reply_name (VerifyGcm key vector sealed tag) = procedure (codes "verify") ∷ []
-reply_name (VerifyCmac key count mac) = procedure (codes "verify") ∷ []
-reply_name (Inventory total keys) = procedure (codes "inventory") ∷ number (codes "total") total ∷ []
-reply_name (Compose master vector sealed tag) = procedure (codes "compose") ∷ []
-reply_name (ReadNumber spi count) = procedure (codes "read-number") ∷ []
-reply_name (Status spi state direction suite key window) = procedure (codes "status") ∷ []
+reply_name reply = word (codes "reply") (procedure_word (reply_procedure reply)) ∷ total_parts reply
 
 -- what is sealed, behind its vector and before its tag
 abbrev pub sealed_parts : List ℕ → List ℕ → List ℕ → List Part

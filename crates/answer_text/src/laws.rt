@@ -3,7 +3,7 @@ ghost use Rattle.std.specs.Prelude.{◌≡◌, ℕ, ◌<◌, List, IsTrue};
 ghost use Rattle.std.specs.List.{All};
 ghost use Rattle.hex.specs.Hex.{encode_lower};
 ghost use Rattle.record_io.specs.declared.answers.Answer.{Answer};
-ghost use Rattle.answer_text.specs.declared.codes.Code.{Code};
+ghost use Rattle.record_io.specs.declared.codes.AnswerCode.{AnswerCode};
 ghost use Rattle.answer_text.specs.Code.{code_word};
 ghost use Rattle.answer_text.specs.Part.{Part};
 ghost use Rattle.answer_text.specs.Line.{HasValues};
@@ -13,9 +13,9 @@ ghost use Rattle.answer_text.specs.Plain.{are_plain_parts, is_plain_text};
 /// alone, so that none of its octets needs an escape.
 #[tactic(auto, using(crate::proofs::PlainStrings::plain_values, crate::proofs::PlainStrings::plain_code, crate::proofs::PlainStrings::plain_digits))]
 pub fn strings_need_no_escape()
-    ensures values { (code : Code) (answer : Answer) (values : List Part)
+    ensures values { (code : AnswerCode) (answer : Answer) (values : List Part)
         → HasValues code answer (λ found. found ≡ values) → IsTrue (are_plain_parts values) }
-    ensures code { (code : Code) → IsTrue (is_plain_text (code_word code)) }
+    ensures code { (code : AnswerCode) → IsTrue (is_plain_text (code_word code)) }
     ensures digits { (octets : List ℕ) → All (λ octet. octet < 256) octets
         → IsTrue (is_plain_text (encode_lower octets)) }
 {}

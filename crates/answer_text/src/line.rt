@@ -2,27 +2,27 @@
 ghost use Rattle.std.specs.Prelude.{◌≡◌, ◌++◌, OnOk, IfErr};
 ghost use Rattle.answer_text.specs.Line.{HasLine, LacksLine, end_text, front_text};
 
-use crate::codes::Code;
+use crate::codes::code_word;
 use crate::error::TextError;
 use crate::form::Form;
-use crate::putting::{put_number_member, put_spaced, put_word_member};
+use crate::putting::{put_number_member, put_word_member};
 use crate::values::put_values;
-use record_io::Answer;
+use record_io::{Answer, AnswerCode};
 use sdls_base::NoMemory;
 use std::alloc::Global;
-use text_words::{put_decimal, put_octets};
+use text_words::{put_decimal, put_octets, put_spaced};
 
 /// Puts how a line begins: the number of the record and the code, and of End the code alone.
-fn put_front(text: &mut Vec<u8>, form: Form, index: u64, code: Code) -> Result<(), NoMemory>
+fn put_front(text: &mut Vec<u8>, form: Form, index: u64, code: AnswerCode) -> Result<(), NoMemory>
     ensures { OnOk result (text.new.items ≡ text.old.items ++ front_text form index code) }
 {
     match (form, code) {
-        (Form::Words, Code::End) => put_octets(text, b"end"),
+        (Form::Words, AnswerCode::End) => put_octets(text, b"end"),
         (Form::Words, _) => {
             put_decimal(text, index)?;
-            put_spaced(text, code.word())
+            put_spaced(text, code_word(code))
         }
-        (Form::Json, Code::End) => {
+        (Form::Json, AnswerCode::End) => {
             put_octets(text, b"{")?;
             put_word_member(text, b"code", b"end")
         }
@@ -30,7 +30,7 @@ fn put_front(text: &mut Vec<u8>, form: Form, index: u64, code: Code) -> Result<(
             put_octets(text, b"{")?;
             put_number_member(text, b"record", index)?;
             put_octets(text, b",")?;
-            put_word_member(text, b"code", code.word())
+            put_word_member(text, b"code", code_word(code))
         }
     }
 }
@@ -58,7 +58,7 @@ pub fn put_answer(
     // Only an answer that is none of the formats has no line, but for lack of memory.
     ensures lacks { IfErr result (LacksLine answer.now) }
 {
-    let Some(code) = Code::of(answer.code) else {
+    let Some(code) = AnswerCode::of(answer.code) else {
         return Err(TextError::NoAnswer);
     };
     put_front(text, form, index, code)?;

@@ -7,8 +7,7 @@ ghost use Rattle.answer_text.specs.Listing.{AddsLine, EndsAt, IfEndFault, Place,
 use crate::error::TextError;
 use crate::form::Form;
 use crate::line::put_answer;
-use crate::reading::{NextAnswer, next_answer};
-use record_io::{ANSWER_HEADER, Answer, code};
+use record_io::{ANSWER_HEADER, Answer, NextAnswer, code, next_answer};
 use sdls_base::NoMemory;
 use sdls_outside::Source;
 use std::alloc::Global;
@@ -85,7 +84,7 @@ impl Listing {
     }
 
     /// Puts the line of the next answer behind what there is, or says why there is none; then nothing was put.
-    #[tactic(auto, unfolding(crate::specs::Standing::Stands))]
+    #[tactic(auto, unfolding(record_io::specs::NextAnswer::Stands))]
     pub fn next_line<S: Source>(
         &mut self,
         alloc: Global,

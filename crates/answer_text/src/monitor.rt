@@ -1,38 +1,25 @@
 //! The replies to monitoring messages.
 ghost use Rattle.std.specs.Prelude.{◌≡◌, ◌+◌, ◌*◌, ◌≤◌, ◌<◌, ◌++◌, codes, drop, length, IfSome, IsTrue, OnOk};
-ghost use Rattle.fsr_log.specs.Noted.{is_event};
-ghost use Rattle.answer_text.specs.Code.{code_at};
+ghost use Rattle.record_io.specs.Codes.{code_at};
+ghost use Rattle.text_words.specs.declared.names.MessageName.TheVariants as names;
 ghost use Rattle.answer_text.specs.Part.{Part, event_at, event_members, event_object, event_objects, event_words, events_words};
 ghost use Rattle.answer_text.specs.Part.{further_events};
 ghost use Rattle.answer_text.specs.Part.{part_text, parts_text, word_of_code};
-ghost use Rattle.answer_text.specs.Monitor.{are_events, count_parts, has_form, monitor_name, monitor_reply};
+ghost use Rattle.answer_text.specs.Monitor.{are_events, count_parts, has_form, monitor_reply};
 ghost use Rattle.answer_text.specs.Monitor.{monitor_values, reply_at, report_parts, tested_parts};
 
-use crate::codes::Code;
+use crate::codes::code_word;
 use crate::form::Form;
-use crate::putting::{
-    put_name, put_named, put_named_octets, put_number_member, put_spaced, put_spaced_number,
-    put_word_member,
-};
+use crate::putting::{put_name, put_named, put_named_octets, put_number_member, put_word_member};
 use ep_codec::{number_at, word_at};
 use fsr_log::{
     ALARM_RESET, DUMP_LOG, ERASE_LOG, Event, LOG_STATUS, PING, REPLY, REPORT_WORD, SELF_TEST,
+    is_event,
 };
-use record_io::code::{EXHAUSTED, LAYOUT, NO_MEMORY, NUMBER, REFUSED, SITE_FAULT};
+use record_io::AnswerCode;
 use sdls_base::NoMemory;
 use std::alloc::Global;
-use text_words::put_octets;
-
-/// What a monitoring message asked for.
-#[derive(Clone, Copy, PartialEq, Eq)]
-pub(crate) enum MonitorReply {
-    Ping,
-    LogStatus,
-    DumpLog,
-    EraseLog,
-    SelfTest,
-    AlarmReset,
-}
+use text_words::{MessageName, put_octets, put_spaced, put_spaced_number};
 
 /// The octets of an event in a dump.
 const EVENT: usize = 18;
@@ -53,28 +40,18 @@ const SELF_TEST_REPLY: u8 = REPLY + SELF_TEST;
 const ALARM_RESET_REPLY: u8 = REPLY + ALARM_RESET;
 
 /// The reply with this tag.
-fn reply_at(tag: u8) -> Option<MonitorReply>
+fn reply_at(tag: u8) -> Option<MessageName>
     ensures { result ≡ reply_at tag }
 {
     match tag {
-        PING_REPLY => Some(MonitorReply::Ping),
-        LOG_STATUS_REPLY => Some(MonitorReply::LogStatus),
-        DUMP_LOG_REPLY => Some(MonitorReply::DumpLog),
-        ERASE_LOG_REPLY => Some(MonitorReply::EraseLog),
-        SELF_TEST_REPLY => Some(MonitorReply::SelfTest),
-        ALARM_RESET_REPLY => Some(MonitorReply::AlarmReset),
+        PING_REPLY => Some(MessageName::Ping),
+        LOG_STATUS_REPLY => Some(MessageName::LogStatus),
+        DUMP_LOG_REPLY => Some(MessageName::DumpLog),
+        ERASE_LOG_REPLY => Some(MessageName::EraseLog),
+        SELF_TEST_REPLY => Some(MessageName::SelfTest),
+        ALARM_RESET_REPLY => Some(MessageName::AlarmReset),
         _ => None,
     }
-}
-
-/// If a code is that of an event.
-fn is_event(code: u8) -> bool
-    ensures { result ≡ is_event code }
-{
-    matches!(
-        code,
-        REFUSED | LAYOUT..=NUMBER | EXHAUSTED | SITE_FAULT..=NO_MEMORY
-    )
 }
 
 /// What stands behind an event.
@@ -103,33 +80,33 @@ fn are_events(count: usize, carried: &[u8]) -> bool
 
 /// If what is carried is a dump.
 fn is_dump(carried: &[u8]) -> bool
-    ensures { result ≡ has_form MonitorReply.DumpLog carried.now }
+    ensures { result ≡ has_form names.DumpLog carried.now }
 {
     let count = carried.len() / EVENT;
     carried.len() == EVENT * count && count <= MOST && are_events(count, carried)
 }
 
 /// If such a reply may carry this.
-fn has_form(reply: MonitorReply, carried: &[u8]) -> bool
+fn has_form(reply: MessageName, carried: &[u8]) -> bool
     ensures { result ≡ has_form reply carried.now }
 {
     match reply {
-        MonitorReply::Ping => carried.len() == 4 && carried[0] / 16 == REPORT_WORD / 16,
-        MonitorReply::LogStatus => {
+        MessageName::Ping => carried.len() == 4 && carried[0] / 16 == REPORT_WORD / 16,
+        MessageName::LogStatus => {
             carried.len() == 4
                 && u32::from(word_at(carried, 0)) + u32::from(word_at(carried, 2)) == 256
         }
-        MonitorReply::DumpLog => is_dump(carried),
-        MonitorReply::EraseLog => {
+        MessageName::DumpLog => is_dump(carried),
+        MessageName::EraseLog => {
             carried.len() == 4 && word_at(carried, 0) == 0 && word_at(carried, 2) == 256
         }
-        MonitorReply::SelfTest => carried.len() == 32,
-        MonitorReply::AlarmReset => carried.is_empty(),
+        MessageName::SelfTest => carried.len() == 32,
+        MessageName::AlarmReset => carried.is_empty(),
     }
 }
 
 /// The reply that a body is.
-pub(crate) fn monitor_reply(body: &[u8]) -> Option<MonitorReply>
+pub(crate) fn monitor_reply(body: &[u8]) -> Option<MessageName>
     ensures found { result ≡ monitor_reply body.now }
     ensures formed { IfSome result (λ reply. IsTrue (has_form reply (drop 3 body.now)) × (3 ≤ length body.now)) }
 {
@@ -148,26 +125,12 @@ pub(crate) fn monitor_reply(body: &[u8]) -> Option<MonitorReply>
     }
 }
 
-/// The word of the message.
-pub(crate) fn monitor_name(reply: MonitorReply) -> &'static [u8]
-    ensures { result.now ≡ monitor_name reply }
-{
-    match reply {
-        MonitorReply::Ping => b"ping",
-        MonitorReply::LogStatus => b"log-status",
-        MonitorReply::DumpLog => b"dump-log",
-        MonitorReply::EraseLog => b"erase-log",
-        MonitorReply::SelfTest => b"self-test",
-        MonitorReply::AlarmReset => b"alarm-reset",
-    }
-}
-
 /// The word of a code, if it is one.
 fn event_word(code: u8) -> &'static [u8]
     ensures { result.now ≡ word_of_code (code_at code) }
 {
-    match Code::of(code) {
-        Some(code) => code.word(),
+    match AnswerCode::of(code) {
+        Some(code) => code_word(code),
         None => b"",
     }
 }
@@ -329,32 +292,32 @@ pub(crate) fn put_monitor_values(
     alloc: Global,
     text: &mut Vec<u8>,
     form: Form,
-    reply: MonitorReply,
+    reply: MessageName,
     carried: &[u8],
 ) -> Result<(), NoMemory>
     requires { IsTrue (has_form reply carried.now) }
     ensures { OnOk result (text.new.items ≡ text.old.items ++ parts_text form (monitor_values reply carried.now)) }
 {
     match reply {
-        MonitorReply::Ping => put_report(
+        MessageName::Ping => put_report(
             text,
             form,
             u64::from(carried[0]),
             u64::from(word_at(carried, 1)),
             u64::from(carried[3]),
         ),
-        MonitorReply::LogStatus | MonitorReply::EraseLog => {
+        MessageName::LogStatus | MessageName::EraseLog => {
             put_counts(text, form, word_at(carried, 0), word_at(carried, 2))
         }
-        MonitorReply::DumpLog => {
+        MessageName::DumpLog => {
             let count = carried.len() / EVENT;
             put_named(text, form, b"events", count as u64)?;
             put_dump(text, form, count, carried)
         }
-        MonitorReply::SelfTest => {
+        MessageName::SelfTest => {
             let (enciphered, mac) = carried.split_at(16);
             put_tested(alloc, text, form, enciphered, mac)
         }
-        MonitorReply::AlarmReset => Ok(()),
+        MessageName::AlarmReset => Ok(()),
     }
 }

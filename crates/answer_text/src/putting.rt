@@ -4,39 +4,12 @@
 ghost use Rattle.std.specs.Prelude.{◌≡◌, ◌++◌, codes, decimal, OnOk};
 ghost use Rattle.hex.specs.Hex.{encode_lower};
 ghost use Rattle.text_words.specs.Words.{octets_word};
-ghost use Rattle.answer_text.specs.Part.{Part, drawn_object, member, part_text, quoted, spaced};
+ghost use Rattle.answer_text.specs.Part.{Part, drawn_object, member, part_text, quoted};
 
 use crate::form::Form;
 use sdls_base::NoMemory;
 use std::alloc::Global;
-use text_words::{put_decimal, put_octets};
-
-/// Puts a word behind a space.
-pub(crate) fn put_spaced(text: &mut Vec<u8>, word: &[u8]) -> Result<(), NoMemory>
-    ensures { OnOk result (text.new.items ≡ text.old.items ++ spaced word.now) }
-{
-    put_octets(text, b" ")?;
-    put_octets(text, word)
-}
-
-/// Puts a number behind a space.
-pub(crate) fn put_spaced_number(text: &mut Vec<u8>, number: u64) -> Result<(), NoMemory>
-    ensures { OnOk result (text.new.items ≡ text.old.items ++ spaced (decimal number)) }
-{
-    put_octets(text, b" ")?;
-    put_decimal(text, number)
-}
-
-/// Puts octets as a word behind a space: hexadecimal digits, or - for none.
-fn put_spaced_octets(alloc: Global, text: &mut Vec<u8>, octets: &[u8]) -> Result<(), NoMemory>
-    ensures { OnOk result (text.new.items ≡ text.old.items ++ spaced (octets_word octets.now)) }
-{
-    if octets.is_empty() {
-        return put_spaced(text, b"-");
-    }
-    let digits = hex::encode(alloc, octets)?;
-    put_spaced(text, digits.as_bytes())
-}
+use text_words::{put_decimal, put_octets, put_spaced, put_spaced_number, put_spaced_octets};
 
 /// Puts a text between quotation marks. None that is put has a mark of its own.
 pub(crate) fn put_quoted(text: &mut Vec<u8>, word: &[u8]) -> Result<(), NoMemory>

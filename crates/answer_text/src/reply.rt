@@ -2,22 +2,39 @@
 ghost use Rattle.std.specs.Prelude.{◌≡◌, ◌++◌, ◌∷◌, [], OnOk};
 ghost use Rattle.ep_codec.specs.declared.reply_pdu.ReplyPdu.TheVariants as replies;
 ghost use Rattle.answer_text.specs.Part.{parts_text};
-ghost use Rattle.answer_text.specs.Reply.{procedure, reply_name, reply_values, sealed_parts, window_field_parts};
+ghost use Rattle.answer_text.specs.Reply.{reply_name, reply_procedure, reply_values, sealed_parts, window_field_parts};
 
 use crate::form::Form;
 use crate::putting::{put_named, put_named_octets, put_number, put_word};
 use crate::rows::put_rows;
-use ep_codec::ReplyPdu;
+use ep_codec::{Procedure, ReplyPdu};
 use replay_window::{back_of, width_of};
 use sdls_base::{Direction, KeyId, NoMemory, SaState, Spi, Suite};
 use std::alloc::Global;
-use text_words::{direction_word, sa_state_word, suite_word};
+use text_words::{direction_word, procedure_word, sa_state_word, suite_word};
 
-/// Puts the name of a procedure.
-fn put_procedure(text: &mut Vec<u8>, form: Form, name: &[u8]) -> Result<(), NoMemory>
-    ensures { OnOk result (text.new.items ≡ text.old.items ++ parts_text form (procedure name.now ∷ [])) }
+fn procedure_of(reply: &ReplyPdu) -> Procedure
+    ensures { result ≡ reply_procedure reply.now }
 {
-    put_word(text, form, b"reply", name)
+    match reply {
+        ReplyPdu::Rekeying => Procedure::Rekeying,
+        ReplyPdu::Activate => Procedure::Activate,
+        ReplyPdu::Deactivate => Procedure::Deactivate,
+        ReplyPdu::Destroy => Procedure::Destroy,
+        ReplyPdu::Create => Procedure::Create,
+        ReplyPdu::Delete => Procedure::Delete,
+        ReplyPdu::SetWindow => Procedure::SetWindow,
+        ReplyPdu::Rekey => Procedure::Rekey,
+        ReplyPdu::Expire => Procedure::Expire,
+        ReplyPdu::SetNumber => Procedure::SetNumber,
+        ReplyPdu::Start => Procedure::Start,
+        ReplyPdu::Stop => Procedure::Stop,
+        ReplyPdu::VerifyGcm { .. } | ReplyPdu::VerifyCmac { .. } => Procedure::Verify,
+        ReplyPdu::Inventory { .. } => Procedure::Inventory,
+        ReplyPdu::Compose { .. } => Procedure::Compose,
+        ReplyPdu::ReadNumber { .. } => Procedure::ReadNumber,
+        ReplyPdu::Status { .. } => Procedure::Status,
+    }
 }
 
 /// Puts the procedure, and of an inventory the count of the keys.
@@ -29,29 +46,10 @@ pub(crate) fn put_reply_name(
 ) -> Result<(), NoMemory>
     ensures { OnOk result (text.new.items ≡ text.old.items ++ parts_text form (reply_name reply.now)) }
 {
+    put_word(text, form, b"reply", procedure_word(procedure_of(reply)))?;
     match reply {
-        ReplyPdu::Rekeying => put_procedure(text, form, b"rekeying"),
-        ReplyPdu::Activate => put_procedure(text, form, b"activate"),
-        ReplyPdu::Deactivate => put_procedure(text, form, b"deactivate"),
-        ReplyPdu::Destroy => put_procedure(text, form, b"destroy"),
-        ReplyPdu::Create => put_procedure(text, form, b"create"),
-        ReplyPdu::Delete => put_procedure(text, form, b"delete"),
-        ReplyPdu::SetWindow => put_procedure(text, form, b"set-window"),
-        ReplyPdu::Rekey => put_procedure(text, form, b"rekey"),
-        ReplyPdu::Expire => put_procedure(text, form, b"expire"),
-        ReplyPdu::SetNumber => put_procedure(text, form, b"set-number"),
-        ReplyPdu::Start => put_procedure(text, form, b"start"),
-        ReplyPdu::Stop => put_procedure(text, form, b"stop"),
-        ReplyPdu::VerifyGcm { .. } | ReplyPdu::VerifyCmac { .. } => put_procedure(
-            text, form, b"verify",
-        ),
-        ReplyPdu::Inventory { total, .. } => {
-            put_procedure(text, form, b"inventory")?;
-            put_number(text, form, b"total", u64::from(*total))
-        }
-        ReplyPdu::Compose { .. } => put_procedure(text, form, b"compose"),
-        ReplyPdu::ReadNumber { .. } => put_procedure(text, form, b"read-number"),
-        ReplyPdu::Status { .. } => put_procedure(text, form, b"status"),
+        ReplyPdu::Inventory { total, .. } => put_number(text, form, b"total", u64::from(*total)),
+        _ => Ok(()),
     }
 }
 

@@ -2,24 +2,24 @@
 #![tactic(auto, unfolding(crate::specs::Line::HasValues))]
 
 ghost use Rattle.std.specs.Prelude.{◌≡◌, ◌≤◌, ◌++◌, ◌∷◌, [], ◌↔◌, IsTrue, OnOk, IfErr, drop, length};
-ghost use Rattle.answer_text.specs.declared.codes.Code.TheVariants as codes;
+ghost use Rattle.record_io.specs.declared.codes.AnswerCode.TheVariants as codes;
 ghost use Rattle.answer_text.specs.Part.{Part, parts_text};
 ghost use Rattle.answer_text.specs.Line.{HasValues, IsBare, IsCounting, IsPlain, LacksUnlessNoMemory, LacksValues};
 ghost use Rattle.answer_text.specs.Line.{counting_parts, done_parts, drawn, monitored_parts, numbered, window_parts};
 ghost use Rattle.answer_text.specs.Monitor.{has_form};
 
-use crate::codes::Code;
 use crate::details::{end_number, layout_detail, refusal_detail, state_detail};
 use crate::error::TextError;
 use crate::form::Form;
-use crate::monitor::{MonitorReply, monitor_name, monitor_reply, put_monitor_values};
+use crate::monitor::{monitor_reply, put_monitor_values};
 use crate::putting::{put_drawn, put_named, put_named_octets, put_number, put_word};
 use crate::reply::{put_reply_name, put_reply_values};
 use ep_codec::{PduError, ReplyPdu, number_at, read_reply};
-use record_io::Answer;
 use record_io::status::SESSION_FULL;
+use record_io::{Answer, AnswerCode};
 use sdls_base::NoMemory;
 use std::alloc::Global;
+use text_words::{MessageName, message_word};
 
 fn is_bare(answer: &Answer) -> bool
     ensures { IsTrue result ↔ IsBare answer.now }
@@ -159,13 +159,13 @@ fn put_monitored(
     text: &mut Vec<u8>,
     form: Form,
     answer: &Answer,
-    reply: MonitorReply,
+    reply: MessageName,
 ) -> Result<(), NoMemory>
     requires formed { IsTrue (has_form reply (drop 3 answer.now.body)) }
     requires long { 3 ≤ length answer.now.body }
     ensures { OnOk result (text.new.items ≡ text.old.items ++ parts_text form (monitored_parts answer.now reply)) }
 {
-    put_word(text, form, b"reply", monitor_name(reply))?;
+    put_word(text, form, b"reply", message_word(reply))?;
     put_named(text, form, b"entries", answer.position)?;
     put_monitor_values(alloc, text, form, reply, &answer.body.as_slice()[3..])
 }
@@ -313,7 +313,7 @@ pub(crate) fn put_values(
     alloc: Global,
     text: &mut Vec<u8>,
     form: Form,
-    code: Code,
+    code: AnswerCode,
     answer: &Answer,
 ) -> Result<(), TextError>
     ensures put { OnOk result (HasValues code answer.now
@@ -321,22 +321,22 @@ pub(crate) fn put_values(
     ensures lacks { IfErr result (LacksValues code answer.now) }
 {
     match code {
-        Code::Protected => protected(alloc, text, form, answer),
-        Code::Accepted => accepted(alloc, text, form, answer),
-        Code::Done => done(alloc, text, form, answer),
-        Code::Refused => refused(text, form, answer),
-        Code::Monitored => monitored(alloc, text, form, answer),
-        Code::MonitorFault => counting(text, form, answer, b"offset"),
-        Code::Layout => layout(text, form, answer),
-        Code::State => state(text, form, answer),
-        Code::Number => number(text, form, answer),
-        Code::Exhausted => exhausted(text, form, answer),
-        Code::Clear | Code::Channel => plain(text, form, answer, b"position"),
-        Code::Spi | Code::Direction | Code::Coverage | Code::Mac => plain(
+        AnswerCode::Protected => protected(alloc, text, form, answer),
+        AnswerCode::Accepted => accepted(alloc, text, form, answer),
+        AnswerCode::Done => done(alloc, text, form, answer),
+        AnswerCode::Refused => refused(text, form, answer),
+        AnswerCode::Monitored => monitored(alloc, text, form, answer),
+        AnswerCode::MonitorFault => counting(text, form, answer, b"offset"),
+        AnswerCode::Layout => layout(text, form, answer),
+        AnswerCode::State => state(text, form, answer),
+        AnswerCode::Number => number(text, form, answer),
+        AnswerCode::Exhausted => exhausted(text, form, answer),
+        AnswerCode::Clear | AnswerCode::Channel => plain(text, form, answer, b"position"),
+        AnswerCode::Spi | AnswerCode::Direction | AnswerCode::Coverage | AnswerCode::Mac => plain(
             text, form, answer, b"entry",
         ),
-        Code::SiteFault | Code::Stopped => counting(text, form, answer, b"faults"),
-        Code::NoMemory => no_memory(answer),
-        Code::End => end(text, form, answer),
+        AnswerCode::SiteFault | AnswerCode::Stopped => counting(text, form, answer, b"faults"),
+        AnswerCode::NoMemory => no_memory(answer),
+        AnswerCode::End => end(text, form, answer),
     }
 }

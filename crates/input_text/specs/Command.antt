@@ -7,13 +7,13 @@ use Rattle.ep_codec.specs.Command.{IsInBounds, HasTypes}
 use Rattle.ep_codec.specs.declared.procedure.Procedure.{Procedure}
 use Rattle.ep_codec.specs.declared.procedure.Procedure.TheVariants as procedures
 use Rattle.ep_codec.specs.CommandReading.{command_procedure}
+use Rattle.text_words.specs.Names.{procedure_word}
 use Rattle.text_words.specs.Words.{direction_word, suite_word}
 use Rattle.ep_codec.specs.declared.command.Command.{Command}
 use Rattle.ep_codec.specs.declared.command.Command.TheVariants.{Rekeying, Activate, Deactivate, Verify, Destroy}
 use Rattle.ep_codec.specs.declared.command.Command.TheVariants.{Inventory, Compose, ReadNumber, Create, Delete}
 use Rattle.ep_codec.specs.declared.command.Command.TheVariants.{SetWindow, Rekey, Expire, SetNumber, Start, Stop}
 use Rattle.ep_codec.specs.declared.command.Command.TheVariants.{Status}
-use Rattle.input_text.specs.Name.{name_word}
 
 -- a back window, if there is one
 abbrev pub back_words : ℕ → List (List ℕ)
@@ -48,7 +48,7 @@ value_words (Status spi) = decimal spi ∷ []
 
 -- its name, and its values
 abbrev pub command_words : Command → List (List ℕ)
-command_words command = name_word (command_procedure command) ∷ value_words command
+command_words command = procedure_word (command_procedure command) ∷ value_words command
 
 -- what it carries as octets are octets
 unfoldable pub HasOctets : Command → Type 0

@@ -1,6 +1,5 @@
 pub mod Plain
 pub mod Fields
-pub mod Name
 pub mod Command
 pub mod Monitor
 pub mod Line

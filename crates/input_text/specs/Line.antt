@@ -1,5 +1,6 @@
 -- Recorded input as text, a line an item (profile).
-use Rattle.std.specs.Prelude.{◌≡◌, ⊤, ℕ, ◌^◌, ◌<◌, ◌==◌, ◌&&◌, false, if◌then◌else◌, decimal, codes, List, [], ◌∷◌, ◌++◌}
+use Rattle.std.specs.Prelude.{◌≡◌, ⊤, ℕ, ◌^◌, ◌<◌, ◌==◌, ◌&&◌, false, if◌then◌else◌}
+use Rattle.std.specs.Prelude.{decimal, codes, List, [], ◌∷◌, ◌++◌}
 use Rattle.record_io.specs.Input.{Item}
 use Rattle.record_io.specs.declared.kinds.ItemKind.TheVariants as items
 use Rattle.record_io.specs.declared.kinds.RecordKind.TheVariants as records
@@ -8,6 +9,7 @@ use Rattle.ep_codec.specs.Command.{command_octets}
 use Rattle.input_text.specs.declared.line.Line.{Line}
 use Rattle.input_text.specs.declared.line.Line.TheVariants.{Fence, Protect, Open, Command, Message}
 use Rattle.input_text.specs.declared.line.Line.TheVariants.{Monitor}
+use Rattle.text_words.specs.Names.{item_word}
 use Rattle.text_words.specs.Words.{octets_word}
 use Rattle.input_text.specs.Plain.{line_said}
 use Rattle.input_text.specs.Fields.{AreRecorded}
@@ -24,11 +26,14 @@ at_words lane link = if (lane == 0) && (link == 0) then [] else codes "at" ∷ d
 
 -- the words of a line
 unfoldable pub line_words : Line → List (List ℕ)
-line_words Fence = codes "fence" ∷ []
-line_words (Protect lane link octets) = codes "protect" ∷ decimal lane ∷ decimal link ∷ octets_word octets ∷ []
-line_words (Open lane link octets) = codes "open" ∷ decimal lane ∷ decimal link ∷ octets_word octets ∷ []
-line_words (Command lane command) = codes "command" ∷ decimal lane ∷ command_words command
-line_words (Message lane octets) = codes "command" ∷ decimal lane ∷ codes "octets" ∷ octets_word octets ∷ []
+line_words Fence = item_word items.Fence ∷ []
+line_words (Protect lane link octets) =
+    item_word (items.Recorded records.Protect) ∷ decimal lane ∷ decimal link ∷ octets_word octets ∷ []
+line_words (Open lane link octets) =
+    item_word (items.Recorded records.Open) ∷ decimal lane ∷ decimal link ∷ octets_word octets ∷ []
+line_words (Command lane command) = item_word (items.Recorded records.Command) ∷ decimal lane ∷ command_words command
+line_words (Message lane octets) =
+    item_word (items.Recorded records.Command) ∷ decimal lane ∷ codes "octets" ∷ octets_word octets ∷ []
 line_words (Monitor lane link asked) = at_words lane link ++ asked_words asked
 
 -- a record has such a lane

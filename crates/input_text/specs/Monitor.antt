@@ -1,28 +1,33 @@
 -- Monitoring messages as words (profile).
-use Rattle.std.specs.Prelude.{⊤, ℕ, ◌≤◌, codes, List, [], ◌∷◌, length, Option, Some, None, if◌then◌else◌}
-use Rattle.std.specs.Str.{bytes_eq}
+use Rattle.std.specs.Prelude.{⊤, ℕ, ◌≤◌, List, [], ◌∷◌, length, Option, Some, None}
+use Rattle.std.specs.Option.{option_and_then}
 use Rattle.hex.specs.Hex.{IsBytes, encode_lower}
 use Rattle.fsr_log.specs.declared.messages.Monitoring.{Monitoring}
 use Rattle.fsr_log.specs.declared.messages.Monitoring.TheVariants.{Ping, LogStatus, DumpLog, EraseLog, SelfTest}
 use Rattle.fsr_log.specs.declared.messages.Monitoring.TheVariants.{AlarmReset}
 use Rattle.fsr_log.specs.Message.{HasBlock, monitoring_octets}
+use Rattle.record_io.specs.declared.kinds.ItemKind.TheVariants.{Recorded}
+use Rattle.record_io.specs.declared.kinds.RecordKind.TheVariants as records
 use Rattle.record_io.specs.declared.kinds.TheConstants.{LEAST_MONITOR_OCTETS, MOST_RECORD_OCTETS}
+use Rattle.text_words.specs.declared.names.MessageName.{MessageName}
+use Rattle.text_words.specs.declared.names.MessageName.TheVariants as names
+use Rattle.text_words.specs.Names.{item_word, message_named, message_word}
 use Rattle.input_text.specs.declared.asked.Asked.{Asked}
 use Rattle.input_text.specs.declared.asked.Asked.TheVariants.{Message, Octets}
 
 -- the words of a message
 abbrev pub monitoring_words : Monitoring → List (List ℕ)
-monitoring_words Ping = codes "ping" ∷ []
-monitoring_words LogStatus = codes "log-status" ∷ []
-monitoring_words DumpLog = codes "dump-log" ∷ []
-monitoring_words EraseLog = codes "erase-log" ∷ []
-monitoring_words (SelfTest block) = codes "self-test" ∷ encode_lower block ∷ []
-monitoring_words AlarmReset = codes "alarm-reset" ∷ []
+monitoring_words Ping = message_word names.Ping ∷ []
+monitoring_words LogStatus = message_word names.LogStatus ∷ []
+monitoring_words DumpLog = message_word names.DumpLog ∷ []
+monitoring_words EraseLog = message_word names.EraseLog ∷ []
+monitoring_words (SelfTest block) = message_word names.SelfTest ∷ encode_lower block ∷ []
+monitoring_words AlarmReset = message_word names.AlarmReset ∷ []
 
 -- the words of what a Monitor record asks: a message by its name, or octets
 unfoldable pub asked_words : Asked → List (List ℕ)
 asked_words (Message message) = monitoring_words message
-asked_words (Octets octets) = codes "monitor" ∷ encode_lower octets ∷ []
+asked_words (Octets octets) = item_word (Recorded records.Monitor) ∷ encode_lower octets ∷ []
 
 -- a Monitor record has such octets
 pub record AreAsked (octets : List ℕ) : Type 0 where
@@ -49,15 +54,15 @@ unfoldable pub asked_octets : Asked → List ℕ
 asked_octets (Message message) = monitoring_octets message
 asked_octets (Octets octets) = octets
 
--- the messages without data, each with its name
-abbrev pub names : List (List ℕ × Monitoring)
-names = (codes "ping", Ping) ∷ (codes "log-status", LogStatus) ∷ (codes "dump-log", DumpLog)
-    ∷ (codes "erase-log", EraseLog) ∷ (codes "alarm-reset", AlarmReset) ∷ []
-
-abbrev pub named_in : List (List ℕ × Monitoring) → List ℕ → Option Monitoring
-named_in [] word = None
-named_in (row ∷ rows) word = if bytes_eq word row.0 then Some row.1 else named_in rows word
+-- the message without data that has this name, if it has none
+abbrev pub without_data : MessageName → Option Monitoring
+without_data names.Ping = Some Ping
+without_data names.LogStatus = Some LogStatus
+without_data names.DumpLog = Some DumpLog
+without_data names.EraseLog = Some EraseLog
+without_data names.SelfTest = None
+without_data names.AlarmReset = Some AlarmReset
 
 -- the message without data that a word names
 abbrev pub asked_named : List ℕ → Option Monitoring
-asked_named word = named_in names word
+asked_named word = option_and_then without_data (message_named word)

@@ -1,12 +1,16 @@
 //! Monitoring messages.
 #![tactic(auto, unfolding(crate::specs::Monitor::asked_words, crate::specs::Monitor::IsAsked))]
 
-ghost use Rattle.std.specs.Prelude.{◌≡◌, ℕ, List, [], ◌∷◌, length, codes, Some, IfOk};
+ghost use Rattle.std.specs.Prelude.{◌≡◌, ℕ, List, [], ◌∷◌, length, Some, IfOk};
 ghost use Rattle.hex.specs.Hex.{encode_lower, IsBytes};
 ghost use Rattle.fsr_log.specs.declared.messages.Monitoring.{Monitoring};
 ghost use Rattle.fsr_log.specs.declared.messages.Monitoring.TheVariants as messages;
 ghost use Rattle.fsr_log.specs.declared.messages.TheConstants.{BLOCK};
 ghost use Rattle.fsr_log.specs.Message.{HasBlock};
+ghost use Rattle.record_io.specs.declared.kinds.ItemKind.TheVariants.{Recorded};
+ghost use Rattle.record_io.specs.declared.kinds.RecordKind.TheVariants as records;
+ghost use Rattle.text_words.specs.declared.names.MessageName.TheVariants as names;
+ghost use Rattle.text_words.specs.Names.{item_word, message_word};
 ghost use Rattle.input_text.specs.declared.asked.Asked.{Asked};
 ghost use Rattle.input_text.specs.declared.asked.Asked.TheVariants as asks;
 ghost use Rattle.input_text.specs.Fields.{AnswersField};
@@ -15,9 +19,10 @@ ghost use Rattle.input_text.specs.Monitor.{AreAsked, HasBytes, IsAsked, asked_na
 use crate::fault::{Expected, LineError};
 use crate::fields::Fields;
 use fsr_log::{BLOCK, Monitoring};
-use record_io::{LEAST_MONITOR_OCTETS, MOST_RECORD_OCTETS};
+use record_io::{ItemKind, LEAST_MONITOR_OCTETS, MOST_RECORD_OCTETS, RecordKind};
 use sdls_base::Octets;
 use std::alloc::Global;
+use text_words::{MessageName, item_word, message_named, message_word};
 
 /// What a Monitor record asks.
 #[derive(Drop)]
@@ -33,22 +38,14 @@ pub enum Asked {
 fn named(word: &[u8]) -> Option<Monitoring>
     ensures { result ≡ asked_named word.now }
 {
-    if word == b"ping".as_slice() {
-        return Some(Monitoring::Ping);
+    match message_named(word)? {
+        MessageName::Ping => Some(Monitoring::Ping),
+        MessageName::LogStatus => Some(Monitoring::LogStatus),
+        MessageName::DumpLog => Some(Monitoring::DumpLog),
+        MessageName::EraseLog => Some(Monitoring::EraseLog),
+        MessageName::SelfTest => None,
+        MessageName::AlarmReset => Some(Monitoring::AlarmReset),
     }
-    if word == b"log-status".as_slice() {
-        return Some(Monitoring::LogStatus);
-    }
-    if word == b"dump-log".as_slice() {
-        return Some(Monitoring::DumpLog);
-    }
-    if word == b"erase-log".as_slice() {
-        return Some(Monitoring::EraseLog);
-    }
-    if word == b"alarm-reset".as_slice() {
-        return Some(Monitoring::AlarmReset);
-    }
-    None
 }
 
 /// A message without data, by its name.
@@ -101,18 +98,18 @@ fn by_word(
     expected: Expected,
 ) -> Result<Asked, LineError>
     ensures read { IfOk result (λ asked. (word.now ∷ fields.old ≡ asked_words asked) × IsAsked asked) }
-    ensures octets { (octets : List ℕ) → AreAsked octets → word.now ≡ codes "monitor"
+    ensures octets { (octets : List ℕ) → AreAsked octets → word.now ≡ item_word (Recorded records.Monitor)
         → fields.old ≡ encode_lower octets ∷ [] → AnswersField result (asks.Octets octets) }
-    ensures block { (block : List ℕ) → IsBytes block → length block ≡ BLOCK → word.now ≡ codes "self-test"
+    ensures block { (block : List ℕ) → IsBytes block → length block ≡ BLOCK → word.now ≡ message_word names.SelfTest
         → fields.old ≡ encode_lower block ∷ [] → AnswersField result (asks.Message (messages.SelfTest block)) }
     ensures named { (message : Monitoring) → asked_named word.now ≡ Some message → fields.old ≡ []
         → AnswersField result (asks.Message message) }
 {
-    if word == b"monitor".as_slice() {
+    if word == item_word(ItemKind::Recorded(RecordKind::Monitor)) {
         let octets = octets(alloc, fields)?;
         return Ok(Asked::Octets(octets));
     }
-    if word == b"self-test".as_slice() {
+    if word == message_word(MessageName::SelfTest) {
         let block = block(alloc, fields)?;
         return Ok(Asked::Message(Monitoring::SelfTest(block)));
     }

@@ -10,7 +10,6 @@ mod fields;
 mod item;
 mod line;
 mod lists;
-mod names;
 mod plain;
 mod seen;
 mod values;

@@ -5,6 +5,9 @@ ghost use Rattle.std.specs.Prelude.{◌≡◌, ◌≤◌, ◌<◌, ◌^◌, ℕ,
 ghost use Rattle.std.specs.Prelude.{MatchOption, IsTrue};
 ghost use Rattle.ep_codec.specs.declared.command.Command.{Command};
 ghost use Rattle.input_text.specs.declared.line.Line.TheVariants as lines;
+ghost use Rattle.record_io.specs.declared.kinds.ItemKind.TheVariants.{Recorded};
+ghost use Rattle.record_io.specs.declared.kinds.RecordKind.TheVariants as records;
+ghost use Rattle.text_words.specs.Names.{item_word};
 ghost use Rattle.text_words.specs.Words.{octets_word};
 ghost use Rattle.input_text.specs.Fields.{AnswersField, AreRecorded};
 ghost use Rattle.input_text.specs.Command.{command_words, IsCommand};
@@ -16,12 +19,12 @@ use crate::asked::{Asked, read_asked};
 use crate::commands::command_named;
 use crate::fault::{Expected, LineError, LineFault};
 use crate::fields::Fields;
-use crate::names::named;
 use crate::plain::{is_skipped, plain};
 use ep_codec::Command;
-use record_io::LANES;
+use record_io::{ItemKind, LANES, RecordKind};
 use sdls_base::Octets;
 use std::alloc::Global;
+use text_words::{item_word, procedure_named};
 
 /// What a line says: an item of the recorded input.
 #[derive(Drop)]
@@ -79,7 +82,7 @@ fn named_command(alloc: Global, word: &[u8], fields: &mut Fields<'_>) -> Result<
     ensures only { (command : Command) → IsCommand command → word.now ∷ fields.old ≡ command_words command
         → AnswersField result command }
 {
-    match named(word) {
+    match procedure_named(word) {
         Some(procedure) => command_named(alloc, procedure, fields),
         None => Err(fields.fault(Expected::Procedure)),
     }
@@ -88,7 +91,8 @@ fn named_command(alloc: Global, word: &[u8], fields: &mut Fields<'_>) -> Result<
 /// What stands behind the lane of a `command`.
 fn message(alloc: Global, lane: u8, fields: &mut Fields<'_>) -> Result<Line, LineError>
     requires { IsLane lane }
-    ensures read { IfOk result (λ line. (codes "command" ∷ decimal lane ∷ fields.old ≡ line_words line) × IsLine line) }
+    ensures read { IfOk result (λ line.
+        (item_word (Recorded records.Command) ∷ decimal lane ∷ fields.old ≡ line_words line) × IsLine line) }
     ensures command { (command : Command) → IsCommand command → fields.old ≡ command_words command
         → AnswersField result (lines.Command lane command) }
     ensures message { (octets : List ℕ) → AreRecorded octets → fields.old ≡ codes "octets" ∷ octets_word octets ∷ []
@@ -109,11 +113,13 @@ fn message(alloc: Global, lane: u8, fields: &mut Fields<'_>) -> Result<Line, Lin
 
 /// What stands behind `command`.
 fn command(alloc: Global, fields: &mut Fields<'_>) -> Result<Line, LineError>
-    ensures read { IfOk result (λ line. (codes "command" ∷ fields.old ≡ line_words line) × IsLine line) }
+    ensures read { IfOk result (λ line. (item_word (Recorded records.Command) ∷ fields.old ≡ line_words line)
+        × IsLine line) }
     ensures command { (lane : ℕ) (command : Command) → IsLane lane → IsCommand command
         → fields.old ≡ decimal lane ∷ command_words command → AnswersField result (lines.Command lane command) }
     ensures message { (lane : ℕ) (octets : List ℕ) → IsLane lane → AreRecorded octets
-        → fields.old ≡ decimal lane ∷ codes "octets" ∷ octets_word octets ∷ [] → AnswersField result (lines.Message lane octets) }
+        → fields.old ≡ decimal lane ∷ codes "octets" ∷ octets_word octets ∷ []
+        → AnswersField result (lines.Message lane octets) }
 {
     let lane = lane(fields)?;
     message(alloc, lane, fields)
@@ -193,19 +199,21 @@ fn said(alloc: Global, fields: &mut Fields<'_>) -> Result<Line, LineError>
         → AnswersField result (lines.Monitor lane link asked) }
 {
     match fields.next() {
-        Some(word) if word == b"fence".as_slice() => {
+        Some(word) if word == item_word(ItemKind::Fence) => {
             fields.end(Expected::End)?;
             Ok(Line::Fence)
         }
-        Some(word) if word == b"protect".as_slice() => {
+        Some(word) if word == item_word(ItemKind::Recorded(RecordKind::Protect)) => {
             let (lane, link, octets) = frame(alloc, fields)?;
             Ok(Line::Protect { lane, link, octets })
         }
-        Some(word) if word == b"open".as_slice() => {
+        Some(word) if word == item_word(ItemKind::Recorded(RecordKind::Open)) => {
             let (lane, link, octets) = frame(alloc, fields)?;
             Ok(Line::Open { lane, link, octets })
         }
-        Some(word) if word == b"command".as_slice() => command(alloc, fields),
+        Some(word) if word == item_word(ItemKind::Recorded(RecordKind::Command)) => {
+            command(alloc, fields)
+        }
         Some(word) if word == b"at".as_slice() => at(alloc, fields),
         Some(word) => monitor(alloc, word, fields),
         None => Err(fields.fault(Expected::Kind)),

@@ -27,7 +27,7 @@ use Rattle.input_text.specs.Command.{back_words, command_words, value_words, win
 use Rattle.input_text.specs.Line.{IsLine, line_words}
 use Rattle.unit_plan.specs.Lines.{words_of, lines_of}
 use Rattle.input_text.specs.Plain.{line_said, said_words}
-use Rattle.text_streams.specs.Spelling.{at_text, joined, line_text, spaced}
+use Rattle.text_streams.specs.Spelling.{at_text, joined, line_text, all_spaced}
 use Rattle.text_streams.proofs.PlainWords.{IsPlain, ArePlain, all_said, joined_kept, joined_read, joined_line, decimal_plain, decimals_plain, digits_plain, octets_plain}
 
 key_small : (key : ℕ) → IsTrue (is_key key) → key < 2 ^ 64
@@ -275,7 +275,7 @@ two_spaced lane link behind =
 
 text_if : (here : Bool) (lane link : ℕ) (words : List (List ℕ)) → Begins words
     → joined ((if here then [] else codes "at" ∷ decimal lane ∷ decimal link ∷ []) ++ words)
-    ≡ (if here then [] else codes "at" ++ (spaced (decimal lane ∷ decimal link ∷ []) ++ codes " ")) ++ joined words
+    ≡ (if here then [] else codes "at" ++ (all_spaced (decimal lane ∷ decimal link ∷ []) ++ codes " ")) ++ joined words
 text_if true lane link words has = refl
 text_if false lane link words has =
     rw has.are (ap (λ text. 97 ∷ 116 ∷ 32 ∷ text) (sym (two_spaced (decimal lane) (decimal link) (joined (has.word ∷ has.rest)))))

@@ -10,7 +10,7 @@ use Rattle.hex.specs.Hex.{encode_lower, encode_with, lower_digits}
 use Rattle.unit_plan.specs.Lines.{parts, words_of, lines_of}
 use Rattle.text_words.specs.Words.{octets_word}
 use Rattle.input_text.specs.Plain.{plain_octet, said_words}
-use Rattle.text_streams.specs.Spelling.{joined, spaced}
+use Rattle.text_streams.specs.Spelling.{joined, all_spaced}
 
 -- no octet is the mark
 abbrev pub lacks : ℕ → List ℕ → Bool
@@ -83,20 +83,20 @@ lacks_append mark (x ∷ xs) ys front behind =
     let each = both (x == mark) (lacks mark xs) front in
     from_both (x == mark) (lacks mark (xs ++ ys)) each.0 (lacks_append mark xs ys each.1 behind)
 
-spaced_lacks : (words : List (List ℕ)) → ArePlain words → lacks 10 (spaced words) ≡ true
+spaced_lacks : (words : List (List ℕ)) → ArePlain words → lacks 10 (all_spaced words) ≡ true
 spaced_lacks [] each = refl
-spaced_lacks (word ∷ words) each = lacks_append 10 word (spaced words) each.0.1 (spaced_lacks words each.1)
+spaced_lacks (word ∷ words) each = lacks_append 10 word (all_spaced words) each.0.1 (spaced_lacks words each.1)
 
-spaced_kept : (words : List (List ℕ)) → ArePlain words → IsKept (spaced words)
+spaced_kept : (words : List (List ℕ)) → ArePlain words → IsKept (all_spaced words)
 spaced_kept [] each = refl
 spaced_kept (word ∷ words) each =
-    ap (λ octets. 32 ∷ octets) (map-append plain_octet word (spaced words)
-    ∙ ap (λ front. front ++ map plain_octet (spaced words)) each.0.3 ∙ ap (λ behind. word ++ behind) (spaced_kept words each.1))
+    ap (λ octets. 32 ∷ octets) (map-append plain_octet word (all_spaced words)
+    ∙ ap (λ front. front ++ map plain_octet (all_spaced words)) each.0.3 ∙ ap (λ behind. word ++ behind) (spaced_kept words each.1))
 
 -- they are read as they stand
 pub joined_kept : (word : List ℕ) (words : List (List ℕ)) → IsPlain word → ArePlain words → IsKept (joined (word ∷ words))
 joined_kept word words plain each =
-    map-append plain_octet word (spaced words) ∙ ap (λ front. front ++ map plain_octet (spaced words)) plain.3
+    map-append plain_octet word (all_spaced words) ∙ ap (λ front. front ++ map plain_octet (all_spaced words)) plain.3
     ∙ ap (λ behind. word ++ behind) (spaced_kept words each)
 
 one_said : (b : Bool) (octet : ℕ) (word : List ℕ) (words : List (List ℕ)) → b ≡ false
@@ -116,7 +116,7 @@ pub joined_line : (word : List ℕ) (words : List (List ℕ)) (rest : List ℕ) 
     → lines_of ((joined (word ∷ words) ++ codes "\n") ++ rest) ≡ joined (word ∷ words) ∷ lines_of rest
 joined_line word words rest plain each =
     ap lines_of (append_assoc (joined (word ∷ words)) (codes "\n") rest)
-    ∙ part_then 10 (joined (word ∷ words)) rest [] (lacks_append 10 word (spaced words) plain.1 (spaced_lacks words each))
+    ∙ part_then 10 (joined (word ∷ words)) rest [] (lacks_append 10 word (all_spaced words) plain.1 (spaced_lacks words each))
 
 -- ---- numbers
 

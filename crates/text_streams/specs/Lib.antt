@@ -1,7 +1,6 @@
 pub mod Spelling
 pub mod TextLine
 pub mod AnswerLines
-pub mod NextItem
 pub mod ItemLines
 pub mod Status
 pub mod Recording

@@ -14,12 +14,13 @@ use Rattle.input_text.specs.declared.asked.Asked.{Asked}
 use Rattle.input_text.specs.declared.asked.Asked.TheVariants as asks
 use Rattle.input_text.specs.declared.line.Line.{Line}
 use Rattle.input_text.specs.declared.line.Line.TheVariants as lines
+use Rattle.text_words.specs.Words.{spaced}
 use Rattle.input_text.specs.Plain.{is_skipped}
 use Rattle.input_text.specs.Line.{Says, line_item, line_words}
 
 -- words, a space before each
-abbrev pub spaced : List (List ℕ) → List ℕ
-spaced words = flat_map (λ word. 32 ∷ word) words
+abbrev pub all_spaced : List (List ℕ) → List ℕ
+all_spaced words = flat_map spaced words
 
 -- words, a space between two of them
 abbrev pub joined : List (List ℕ) → List ℕ
@@ -28,7 +29,7 @@ joined words = join_by (λ word. word) (codes " ") words
 -- where a Monitor record stands, in front of its message
 abbrev pub at_text : ℕ → ℕ → List ℕ
 at_text lane link = if (lane == 0) && (link == 0) then []
-    else codes "at" ++ (spaced (decimal lane ∷ decimal link ∷ []) ++ codes " ")
+    else codes "at" ++ (all_spaced (decimal lane ∷ decimal link ∷ []) ++ codes " ")
 
 -- a line with the line feed at its end
 abbrev pub line_text : Line → List ℕ

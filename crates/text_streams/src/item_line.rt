@@ -4,17 +4,20 @@
 ghost use Rattle.std.specs.Prelude.{◌≡◌, ◌++◌, [], ◌∷◌, decimal, OnOk};
 ghost use Rattle.text_words.specs.Words.{octets_word};
 ghost use Rattle.input_text.specs.declared.line.Line.TheVariants as lines;
-ghost use Rattle.input_text.specs.Monitor.{asked_words};
+ghost use Rattle.input_text.specs.Monitor.{asked_words, monitoring_words};
 ghost use Rattle.input_text.specs.Line.{line_words};
-ghost use Rattle.text_streams.specs.Spelling.{at_text, joined, line_text, spaced};
+ghost use Rattle.text_streams.specs.Spelling.{at_text, joined, line_text, all_spaced};
 
 use crate::values::put_command;
-use crate::words::{put_digits, put_number, put_record_octets, put_word};
 use fsr_log::Monitoring;
 use input_text::{Asked, Line};
+use record_io::{ItemKind, RecordKind};
 use sdls_base::NoMemory;
 use std::alloc::Global;
-use text_words::put_octets;
+use text_words::{
+    MessageName, item_word, message_word, put_octets, put_spaced, put_spaced_digits,
+    put_spaced_number, put_spaced_octets,
+};
 
 /// Puts the lane, the link and the octets of a frame.
 fn put_frame(
@@ -25,31 +28,40 @@ fn put_frame(
     octets: &[u8],
 ) -> Result<(), NoMemory>
     ensures { OnOk result (text.new.items
-        ≡ text.old.items ++ spaced (decimal lane ∷ decimal link ∷ octets_word octets.now ∷ [])) }
+        ≡ text.old.items ++ all_spaced (decimal lane ∷ decimal link ∷ octets_word octets.now ∷ [])) }
 {
-    put_number(text, u64::from(lane))?;
-    put_number(text, u64::from(link))?;
-    put_record_octets(alloc, text, octets)
+    put_spaced_number(text, u64::from(lane))?;
+    put_spaced_number(text, u64::from(link))?;
+    put_spaced_octets(alloc, text, octets)
 }
 
 /// Puts the words of a monitoring message.
+fn put_message(alloc: Global, text: &mut Vec<u8>, message: &Monitoring) -> Result<(), NoMemory>
+    ensures { OnOk result (text.new.items ≡ text.old.items ++ joined (monitoring_words message.now)) }
+{
+    match message {
+        Monitoring::Ping => put_octets(text, message_word(MessageName::Ping)),
+        Monitoring::LogStatus => put_octets(text, message_word(MessageName::LogStatus)),
+        Monitoring::DumpLog => put_octets(text, message_word(MessageName::DumpLog)),
+        Monitoring::EraseLog => put_octets(text, message_word(MessageName::EraseLog)),
+        Monitoring::SelfTest(block) => {
+            put_octets(text, message_word(MessageName::SelfTest))?;
+            put_spaced_digits(alloc, text, block)
+        }
+        Monitoring::AlarmReset => put_octets(text, message_word(MessageName::AlarmReset)),
+    }
+}
+
+/// Puts the words of what a Monitor record asks.
 #[tactic(auto, unfolding(input_text::specs::Monitor::asked_words))]
 fn put_asked(alloc: Global, text: &mut Vec<u8>, asked: &Asked) -> Result<(), NoMemory>
     ensures { OnOk result (text.new.items ≡ text.old.items ++ joined (asked_words asked.now)) }
 {
     match asked {
-        Asked::Message(Monitoring::Ping) => put_octets(text, b"ping"),
-        Asked::Message(Monitoring::LogStatus) => put_octets(text, b"log-status"),
-        Asked::Message(Monitoring::DumpLog) => put_octets(text, b"dump-log"),
-        Asked::Message(Monitoring::EraseLog) => put_octets(text, b"erase-log"),
-        Asked::Message(Monitoring::SelfTest(block)) => {
-            put_octets(text, b"self-test")?;
-            put_digits(alloc, text, block)
-        }
-        Asked::Message(Monitoring::AlarmReset) => put_octets(text, b"alarm-reset"),
+        Asked::Message(message) => put_message(alloc, text, message),
         Asked::Octets(octets) => {
-            put_octets(text, b"monitor")?;
-            put_digits(alloc, text, octets.as_slice())
+            put_octets(text, item_word(ItemKind::Recorded(RecordKind::Monitor)))?;
+            put_spaced_digits(alloc, text, octets.as_slice())
         }
     }
 }
@@ -62,8 +74,8 @@ fn put_at(text: &mut Vec<u8>, lane: u8, link: u8) -> Result<(), NoMemory>
         return Ok(());
     }
     put_octets(text, b"at")?;
-    put_number(text, u64::from(lane))?;
-    put_number(text, u64::from(link))?;
+    put_spaced_number(text, u64::from(lane))?;
+    put_spaced_number(text, u64::from(link))?;
     put_octets(text, b" ")
 }
 
@@ -88,25 +100,25 @@ fn put_words(alloc: Global, text: &mut Vec<u8>, line: &Line) -> Result<(), NoMem
     ensures { OnOk result (text.new.items ≡ text.old.items ++ joined (line_words line.now)) }
 {
     match line {
-        Line::Fence => put_octets(text, b"fence"),
+        Line::Fence => put_octets(text, item_word(ItemKind::Fence)),
         Line::Protect { lane, link, octets } => {
-            put_octets(text, b"protect")?;
+            put_octets(text, item_word(ItemKind::Recorded(RecordKind::Protect)))?;
             put_frame(alloc, text, *lane, *link, octets.as_slice())
         }
         Line::Open { lane, link, octets } => {
-            put_octets(text, b"open")?;
+            put_octets(text, item_word(ItemKind::Recorded(RecordKind::Open)))?;
             put_frame(alloc, text, *lane, *link, octets.as_slice())
         }
         Line::Command { lane, command } => {
-            put_octets(text, b"command")?;
-            put_number(text, u64::from(*lane))?;
+            put_octets(text, item_word(ItemKind::Recorded(RecordKind::Command)))?;
+            put_spaced_number(text, u64::from(*lane))?;
             put_command(alloc, text, command)
         }
         Line::Message { lane, octets } => {
-            put_octets(text, b"command")?;
-            put_number(text, u64::from(*lane))?;
-            put_word(text, b"octets")?;
-            put_record_octets(alloc, text, octets.as_slice())
+            put_octets(text, item_word(ItemKind::Recorded(RecordKind::Command)))?;
+            put_spaced_number(text, u64::from(*lane))?;
+            put_spaced(text, b"octets")?;
+            put_spaced_octets(alloc, text, octets.as_slice())
         }
         Line::Monitor { lane, link, asked } => put_monitor(alloc, text, *lane, *link, asked),
     }

@@ -19,7 +19,6 @@ mod laws;
 mod lines;
 mod printing;
 mod putting;
-mod reading;
 mod recording;
 mod records;
 mod run_fault;

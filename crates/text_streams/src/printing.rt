@@ -65,6 +65,7 @@ fn line_of(alloc: Global, recorded: Record) -> Result<Line, NoMemory>
         link,
         octets,
     } = recorded;
+    let octets = Octets::new(octets.into_vec());
     // For contracts alone.
     hold_octets(octets.as_slice());
     match kind {

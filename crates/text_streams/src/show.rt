@@ -3,15 +3,14 @@ ghost use Rattle.std.specs.Prelude.{◌≡◌, ◌≤◌, ◌++◌, IsTrue, OnOk
 ghost use Rattle.sdls_outside.specs.Faults.{Rose};
 ghost use Rattle.record_io.specs.Input.{IsItem};
 ghost use Rattle.text_streams.specs.Spelling.{AddsLine, seen_item};
-ghost use Rattle.text_streams.specs.NextItem.{item_found};
+ghost use Rattle.record_io.specs.NextItem.{item_found};
 ghost use Rattle.text_streams.specs.TextLine.{IsFaultCause};
 ghost use Rattle.text_streams.specs.ItemLines.{FailsNextItem, PutsItem, PutsLines, TakesBeginning, counted};
 
 use crate::ends::End;
 use crate::printing::{put_fence, put_record};
 use crate::putting::put_octets;
-use crate::reading::{Found, NextItem, next_item};
-use record_io::{ItemKind, Record};
+use record_io::{FoundItem, ITEM_HEADER, ItemKind, NextItem, Record, next_item};
 use sdls_base::NoMemory;
 use sdls_outside::{Failed, Site, Source, collect};
 use std::alloc::Global;
@@ -34,7 +33,7 @@ fn take_beginning<S: Source>(source: &mut S) -> Option<End>
 }
 
 /// Adds the line of an item.
-fn put_line(alloc: Global, line: &mut Vec<u8>, found: Found) -> Result<(), NoMemory>
+fn put_line(alloc: Global, line: &mut Vec<u8>, found: FoundItem) -> Result<(), NoMemory>
     ensures { IsItem (item_found found)
         → OnOk result (AddsLine (seen_item (item_found found)) line.old.items line.new.items) }
 {
@@ -55,10 +54,10 @@ fn put_line(alloc: Global, line: &mut Vec<u8>, found: Found) -> Result<(), NoMem
 }
 
 /// How many octets stand before the next item, if so many stand before this one.
-fn offset_behind(offset: u64, found: &Found) -> u64
+fn offset_behind(offset: u64, found: &FoundItem) -> u64
     ensures { result ≡ counted offset (item_found found.now) }
 {
-    let octets = found.octets.as_slice().len().saturating_add(6);
+    let octets = found.octets.as_slice().len().saturating_add(ITEM_HEADER);
     offset.saturating_add(octets as u64)
 }
 

@@ -1,8 +1,8 @@
 use Rattle.std.proofs.Common.{◌≡◌, ◌⊎◌, ◌∷◌, [], ◌++◌, List, Result, Ok, Err, codes, inl, inr}
 use Rattle.std.specs.Prelude.{OnOk}
 use Rattle.record_io.specs.declared.answers.Answer.{Answer}
-use Rattle.answer_text.specs.declared.codes.Code.{Code}
-use Rattle.answer_text.specs.declared.codes.Code.TheVariants.{Clear, Channel}
+use Rattle.record_io.specs.declared.codes.AnswerCode.{AnswerCode}
+use Rattle.record_io.specs.declared.codes.AnswerCode.TheVariants.{Clear, Channel}
 use Rattle.answer_text.specs.Part.{Part, parts_text}
 use Rattle.answer_text.specs.Part.Part.{named}
 use Rattle.answer_text.specs.Line.{HasValues, IsPlain}
@@ -12,7 +12,7 @@ ok_more : {X E : Type 0} (r : Result X E) (P Q : Type 0) → (P → Q) → OnOk 
 ok_more (Ok x) P Q more is = more is
 ok_more (Err e) P Q more is = tt
 
-has_position : (code : Code) (answer : Answer) (P : List Part → Type 0) → (code ≡ Clear) ⊎ (code ≡ Channel)
+has_position : (code : AnswerCode) (answer : Answer) (P : List Part → Type 0) → (code ≡ Clear) ⊎ (code ≡ Channel)
     → IsPlain answer × P (named (codes "position") answer.position ∷ []) → HasValues code answer P
 unfolding HasValues
 has_position code answer P (inl is) has = rw is has

@@ -1,6 +1,6 @@
 use Rattle.std.proofs.Common.{◌≡◌, ◌++◌, ◌∙◌, ap, refl, rules}
-use Rattle.text_streams.specs.declared.reading.NextItem.TheVariants as nexts
-use Rattle.text_streams.specs.NextItem.{item_found}
+use Rattle.record_io.specs.declared.item_cursor.NextItem.TheVariants as nexts
+use Rattle.record_io.specs.NextItem.{item_found}
 use Rattle.text_streams.proofs.ItemProgress.{end_stands, item_stands, line_is, none_stands}
 use Rattle.text_streams.proofs.show.put_next.Goals as goal
 

@@ -1,8 +1,0 @@
-use Rattle.std.proofs.Common.{arith}
-use Rattle.answer_text.proofs.Fronts.{fields_spelled}
-use Rattle.answer_text.proofs.reading.head_of.Goals as goal
-
-pub returns-clause-spelled : goal.returns-clause-spelled
-returns-clause-spelled c =
-    fields_spelled c.args.header.now c.word_at.result c.double_word_at.result c.number_at.result c.number_at-2.result
-    (λ i. omega (arith, c.type_inv.header i)) c.requires c.word_at.ensures c.double_word_at.ensures c.number_at.ensures c.number_at-2.ensures

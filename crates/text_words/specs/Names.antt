@@ -1,0 +1,65 @@
+-- The names of items, procedures and monitoring messages in text (profile).
+use Rattle.std.specs.Prelude.{ℕ, codes, List, [], ◌∷◌, Option}
+use Rattle.std.specs.List.{find}
+use Rattle.std.specs.Str.{bytes_eq}
+use Rattle.ep_codec.specs.declared.procedure.Procedure.{Procedure}
+use Rattle.ep_codec.specs.declared.procedure.Procedure.TheVariants.{Rekeying, Activate, Deactivate, Verify, Destroy}
+use Rattle.ep_codec.specs.declared.procedure.Procedure.TheVariants.{Inventory, Compose, ReadNumber, Create, Delete}
+use Rattle.ep_codec.specs.declared.procedure.Procedure.TheVariants.{SetWindow, Rekey, Expire, SetNumber, Start, Stop}
+use Rattle.ep_codec.specs.declared.procedure.Procedure.TheVariants.{Status}
+use Rattle.record_io.specs.declared.kinds.ItemKind.{ItemKind}
+use Rattle.record_io.specs.declared.kinds.ItemKind.TheVariants.{Fence, Recorded}
+use Rattle.record_io.specs.declared.kinds.RecordKind.TheVariants as records
+use Rattle.text_words.specs.declared.names.MessageName.{MessageName}
+use Rattle.text_words.specs.declared.names.MessageName.TheVariants as messages
+
+-- the word with which the line of an item begins; of a Monitor record, the one before its octets
+abbrev pub item_word : ItemKind → List ℕ
+item_word Fence = codes "fence"
+item_word (Recorded records.Protect) = codes "protect"
+item_word (Recorded records.Open) = codes "open"
+item_word (Recorded records.Command) = codes "command"
+item_word (Recorded records.Monitor) = codes "monitor"
+
+abbrev pub procedure_word : Procedure → List ℕ
+procedure_word Rekeying = codes "rekeying"
+procedure_word Activate = codes "activate"
+procedure_word Deactivate = codes "deactivate"
+procedure_word Verify = codes "verify"
+procedure_word Destroy = codes "destroy"
+procedure_word Inventory = codes "inventory"
+procedure_word Compose = codes "compose"
+procedure_word ReadNumber = codes "read-number"
+procedure_word Create = codes "create"
+procedure_word Delete = codes "delete"
+procedure_word SetWindow = codes "set-window"
+procedure_word Rekey = codes "rekey"
+procedure_word Expire = codes "expire"
+procedure_word SetNumber = codes "set-number"
+procedure_word Start = codes "start"
+procedure_word Stop = codes "stop"
+procedure_word Status = codes "status"
+
+abbrev pub all_procedures : List Procedure
+all_procedures = Rekeying ∷ Activate ∷ Deactivate ∷ Verify ∷ Destroy ∷ Inventory ∷ Compose ∷ ReadNumber ∷ Create
+    ∷ Delete ∷ SetWindow ∷ Rekey ∷ Expire ∷ SetNumber ∷ Start ∷ Stop ∷ Status ∷ []
+
+-- the procedure that has this word
+abbrev pub procedure_named : List ℕ → Option Procedure
+procedure_named word = find (λ procedure. bytes_eq word (procedure_word procedure)) all_procedures
+
+abbrev pub message_word : MessageName → List ℕ
+message_word messages.Ping = codes "ping"
+message_word messages.LogStatus = codes "log-status"
+message_word messages.DumpLog = codes "dump-log"
+message_word messages.EraseLog = codes "erase-log"
+message_word messages.SelfTest = codes "self-test"
+message_word messages.AlarmReset = codes "alarm-reset"
+
+abbrev pub all_messages : List MessageName
+all_messages = messages.Ping ∷ messages.LogStatus ∷ messages.DumpLog ∷ messages.EraseLog ∷ messages.SelfTest
+    ∷ messages.AlarmReset ∷ []
+
+-- the monitoring message that has this word
+abbrev pub message_named : List ℕ → Option MessageName
+message_named word = find (λ name. bytes_eq word (message_word name)) all_messages
