@@ -2,8 +2,8 @@
 use crate::noting::{note, refuse};
 use case_lines::Digits;
 use fsr_log::Log;
-use record_io::{Answer, RecordKind, code};
-use sdls_base::{NoMemory, Octets};
+use record_io::{Answer, RecordKind, ShortOctets, code};
+use sdls_base::NoMemory;
 use std::alloc::{AllocError, Global};
 
 /// The octets of a reply before its data.
@@ -26,15 +26,8 @@ fn write_answer(
 }
 
 /// Notes the reply, as the answer that carries it.
-fn note_reply(log: &mut Log, body: Octets) {
-    let answer = Answer {
-        code: code::MONITORED,
-        detail: 0,
-        key: 0,
-        position: 0,
-        number: 0,
-        body,
-    };
+fn note_reply(log: &mut Log, body: ShortOctets) {
+    let answer = Answer::numbered(code::MONITORED, 0, 0, 0, body);
     log.note(0, RecordKind::Monitor, &answer);
 }
 

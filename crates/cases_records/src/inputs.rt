@@ -2,8 +2,8 @@
 use crate::differences::Differences;
 use crate::sources::source_of;
 use case_lines::{Digits, number, octets};
-use record_io::{Answer, Reader, Record, RecordKind, SegmentEnd, answer_header, code};
-use sdls_base::{NoMemory, Octets};
+use record_io::{Answer, Reader, Record, RecordKind, SegmentEnd, ShortOctets, answer_header, code};
+use sdls_base::NoMemory;
 use sdls_outside::MemSource;
 use std::alloc::{AllocError, Global};
 
@@ -129,7 +129,7 @@ fn answer_with_header(alloc: Global, answer: &mut String) -> Result<(), AllocErr
         key: 0x8001,
         position: 258,
         number: 0xE93D_7E11,
-        body: Octets::new(b"\x00\x2a\x14".to_vec(alloc)?),
+        body: ShortOctets::new(b"\x00\x2a\x14".to_vec(alloc)?),
     });
     write!(answer, "{}", Digits(header.as_slice()))
 }

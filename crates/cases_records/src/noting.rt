@@ -1,8 +1,7 @@
 //! Answers that are noted.
 use case_lines::{number, short};
 use fsr_log::Log;
-use record_io::{Answer, RecordKind};
-use sdls_base::Octets;
+use record_io::{Answer, RecordKind, ShortOctets};
 use std::alloc::Global;
 use std::str::SplitWhitespace;
 
@@ -14,7 +13,7 @@ fn answer_of(alloc: Global, code: u8, detail: u8, key: u16, number: u64) -> Answ
         key,
         position: 0,
         number,
-        body: Octets::new(Vec::new(alloc)),
+        body: ShortOctets::none(alloc),
     }
 }
 

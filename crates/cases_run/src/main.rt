@@ -15,7 +15,8 @@
 //! a length, `lay HEX` lays another in its place, `zeros LENGTH` so many zeros, `lose` drops it; `keep` keeps it,
 //! `back` takes the kept one, and `same` says whether it is that one. `unit_one` takes the image of version 1 of the
 //! gathered plan, and `swap` lets the two banks change places. `sunk` prints the octets that the last site has sunk,
-//! and its faults. `times COUNT STEP` does a step so often.
+//! and its faults. `record` records these octets as one run, and `audited` runs `audit` on what was recorded.
+//! `times COUNT STEP` does a step so often.
 //!
 //! `judge OFFSET LENGTH` sets each of so many octets of the image to 0, 1, 2 and 255 in turn, and asks `stat` each
 //! time. What is due is a rule of the octet's place (`rules.rt`): a refusal with its offset, which leaves the image as

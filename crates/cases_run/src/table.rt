@@ -7,7 +7,7 @@ use crate::judging::judge_octets;
 use case_lines::{Gathered, number_at, words_of};
 use sdls_outside::{Site, Source};
 use sdls_run::{OpenGate, Outcome, run};
-use std::alloc::Global;
+use std::alloc::{AllocError, Global};
 use std::sync::Wait;
 use std::thread::Threads;
 
@@ -28,13 +28,17 @@ fn ran<R: Threads + Wait + Sync, S: Source, O: Site + Send + Drop>(
     (status, entries.len(), site)
 }
 
-/// What was gathered: a plan, an input, and the image.
+/// What a recording for `audit` begins with.
+const RECORDING: &[u8] = b"SDLSAUD1";
+
+/// What was gathered: a plan, an input, the image, and a recording of runs.
 #[derive(Drop)]
 pub struct Table<'a, R> {
     rt: &'a R,
     plan: Gathered,
     input: Input,
     disk: Disk,
+    recording: Vec<u8>,
 }
 
 impl<'a, R> Table<'a, R> {
@@ -45,6 +49,7 @@ impl<'a, R> Table<'a, R> {
             plan: Gathered::new(alloc),
             input: Input::new(alloc),
             disk: Disk::new(alloc),
+            recording: Vec::new(alloc),
         }
     }
 }
@@ -68,6 +73,24 @@ impl<R: Threads + Wait + Sync> Table<'_, R> {
         Ok(())
     }
 
+    /// Records what the last site has sunk as one run, its length before it.
+    fn record(&mut self) -> Result<(), AllocError> {
+        let sunk = self.disk.sunk();
+        if self.recording.is_empty() {
+            self.recording.extend_from_slice(RECORDING)?;
+        }
+        let length = u32::try_from(sunk.len()).unwrap_or(u32::MAX);
+        self.recording.extend_from_slice(&length.to_be_bytes())?;
+        self.recording.extend_from_slice(sunk)
+    }
+
+    /// Audits the recording, and writes what is said of it. The next recording begins anew.
+    fn audit(&mut self, alloc: Global, answer: &mut String) -> anyhow::Result<()> {
+        self.input.set(self.recording.as_slice())?;
+        self.recording.clear();
+        self.command(alloc, "audit", answer)
+    }
+
     /// Takes a step, and writes what it answers.
     fn take(&mut self, alloc: Global, line: &str, answer: &mut String) -> anyhow::Result<()> {
         let (word, rest) = line.split_once(' ').unwrap_or((line, ""));
@@ -89,6 +112,8 @@ impl<R: Threads + Wait + Sync> Table<'_, R> {
                     .take_version_one(alloc, self.plan.as_str().as_bytes());
                 self.plan.clear()
             }
+            "record" => self.record()?,
+            "audited" => self.audit(alloc, answer)?,
             "find" => self.disk.find(alloc, rest, answer)?,
             "judge" => {
                 let image = self.disk.image.as_slice();
