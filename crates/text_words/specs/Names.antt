@@ -1,6 +1,7 @@
 -- The names of items, procedures and monitoring messages in text (profile).
 use Rattle.std.specs.Prelude.{ℕ, codes, List, [], ◌∷◌, Option}
 use Rattle.std.specs.List.{find}
+use Rattle.std.specs.Option.{option_or}
 use Rattle.std.specs.Str.{bytes_eq}
 use Rattle.ep_codec.specs.declared.procedure.Procedure.{Procedure}
 use Rattle.ep_codec.specs.declared.procedure.Procedure.TheVariants.{Rekeying, Activate, Deactivate, Verify, Destroy}
@@ -40,13 +41,22 @@ procedure_word Start = codes "start"
 procedure_word Stop = codes "stop"
 procedure_word Status = codes "status"
 
-abbrev pub all_procedures : List Procedure
-all_procedures = Rekeying ∷ Activate ∷ Deactivate ∷ Verify ∷ Destroy ∷ Inventory ∷ Compose ∷ ReadNumber ∷ Create
-    ∷ Delete ∷ SetWindow ∷ Rekey ∷ Expire ∷ SetNumber ∷ Start ∷ Stop ∷ Status ∷ []
+-- those that manage keys
+abbrev pub key_procedures : List Procedure
+key_procedures = Rekeying ∷ Activate ∷ Deactivate ∷ Verify ∷ Destroy ∷ Inventory ∷ Compose ∷ []
+
+-- those that manage associations
+abbrev pub association_procedures : List Procedure
+association_procedures = ReadNumber ∷ Create ∷ Delete ∷ SetWindow ∷ Rekey ∷ Expire ∷ SetNumber ∷ Start ∷ Stop ∷ Status
+    ∷ []
+
+-- the first of these procedures that has this word
+abbrev pub procedure_among : List Procedure → List ℕ → Option Procedure
+procedure_among procedures word = find (λ procedure. bytes_eq word (procedure_word procedure)) procedures
 
 -- the procedure that has this word
 abbrev pub procedure_named : List ℕ → Option Procedure
-procedure_named word = find (λ procedure. bytes_eq word (procedure_word procedure)) all_procedures
+procedure_named word = option_or (procedure_among key_procedures word) (procedure_among association_procedures word)
 
 abbrev pub message_word : MessageName → List ℕ
 message_word messages.Ping = codes "ping"

@@ -1,6 +1,8 @@
 //! The names of items, procedures and monitoring messages.
 ghost use Rattle.std.specs.Prelude.{◌≡◌};
-ghost use Rattle.text_words.specs.Names.{item_word, message_named, message_word, procedure_named, procedure_word};
+ghost use Rattle.std.specs.Str.{bytes_eq};
+ghost use Rattle.text_words.specs.Names.{association_procedures, item_word, key_procedures, message_named, message_word};
+ghost use Rattle.text_words.specs.Names.{procedure_among, procedure_named, procedure_word};
 
 use ep_codec::Procedure;
 use record_io::{ItemKind, RecordKind};
@@ -15,35 +17,6 @@ pub enum MessageName {
     SelfTest,
     AlarmReset,
 }
-
-const MESSAGES: [MessageName; 6] = [
-    MessageName::Ping,
-    MessageName::LogStatus,
-    MessageName::DumpLog,
-    MessageName::EraseLog,
-    MessageName::SelfTest,
-    MessageName::AlarmReset,
-];
-
-const PROCEDURES: [Procedure; 17] = [
-    Procedure::Rekeying,
-    Procedure::Activate,
-    Procedure::Deactivate,
-    Procedure::Verify,
-    Procedure::Destroy,
-    Procedure::Inventory,
-    Procedure::Compose,
-    Procedure::ReadNumber,
-    Procedure::Create,
-    Procedure::Delete,
-    Procedure::SetWindow,
-    Procedure::Rekey,
-    Procedure::Expire,
-    Procedure::SetNumber,
-    Procedure::Start,
-    Procedure::Stop,
-    Procedure::Status,
-];
 
 /// The word with which the line of an item begins; of a Monitor record, the one before its octets.
 pub fn item_word(kind: ItemKind) -> &'static [u8]
@@ -83,14 +56,86 @@ pub fn procedure_word(procedure: Procedure) -> &'static [u8]
     }
 }
 
+/// Whether this is the name of a procedure.
+fn names_procedure(word: &[u8], procedure: Procedure) -> bool
+    ensures { result ≡ bytes_eq word.now (procedure_word procedure) }
+{
+    word == procedure_word(procedure)
+}
+
+/// The procedure of keys that a word names.
+fn key_procedure(word: &[u8]) -> Option<Procedure>
+    ensures { result ≡ procedure_among key_procedures word.now }
+{
+    if names_procedure(word, Procedure::Rekeying) {
+        return Some(Procedure::Rekeying);
+    }
+    if names_procedure(word, Procedure::Activate) {
+        return Some(Procedure::Activate);
+    }
+    if names_procedure(word, Procedure::Deactivate) {
+        return Some(Procedure::Deactivate);
+    }
+    if names_procedure(word, Procedure::Verify) {
+        return Some(Procedure::Verify);
+    }
+    if names_procedure(word, Procedure::Destroy) {
+        return Some(Procedure::Destroy);
+    }
+    if names_procedure(word, Procedure::Inventory) {
+        return Some(Procedure::Inventory);
+    }
+    if names_procedure(word, Procedure::Compose) {
+        return Some(Procedure::Compose);
+    }
+    None
+}
+
+/// The procedure of associations that a word names.
+fn association_procedure(word: &[u8]) -> Option<Procedure>
+    ensures { result ≡ procedure_among association_procedures word.now }
+{
+    if names_procedure(word, Procedure::ReadNumber) {
+        return Some(Procedure::ReadNumber);
+    }
+    if names_procedure(word, Procedure::Create) {
+        return Some(Procedure::Create);
+    }
+    if names_procedure(word, Procedure::Delete) {
+        return Some(Procedure::Delete);
+    }
+    if names_procedure(word, Procedure::SetWindow) {
+        return Some(Procedure::SetWindow);
+    }
+    if names_procedure(word, Procedure::Rekey) {
+        return Some(Procedure::Rekey);
+    }
+    if names_procedure(word, Procedure::Expire) {
+        return Some(Procedure::Expire);
+    }
+    if names_procedure(word, Procedure::SetNumber) {
+        return Some(Procedure::SetNumber);
+    }
+    if names_procedure(word, Procedure::Start) {
+        return Some(Procedure::Start);
+    }
+    if names_procedure(word, Procedure::Stop) {
+        return Some(Procedure::Stop);
+    }
+    if names_procedure(word, Procedure::Status) {
+        return Some(Procedure::Status);
+    }
+    None
+}
+
 /// The procedure that a word names.
 pub fn procedure_named(word: &[u8]) -> Option<Procedure>
     ensures { result ≡ procedure_named word.now }
 {
-    PROCEDURES
-        .iter()
-        .find(|procedure| word == procedure_word(**procedure))
-        .copied()
+    match key_procedure(word) {
+        Some(procedure) => Some(procedure),
+        None => association_procedure(word),
+    }
 }
 
 /// The name of a monitoring message.
@@ -107,12 +152,34 @@ pub fn message_word(name: MessageName) -> &'static [u8]
     }
 }
 
+/// Whether this is the name of a monitoring message.
+fn names_message(word: &[u8], name: MessageName) -> bool
+    ensures { result ≡ bytes_eq word.now (message_word name) }
+{
+    word == message_word(name)
+}
+
 /// The monitoring message that a word names.
 pub fn message_named(word: &[u8]) -> Option<MessageName>
     ensures { result ≡ message_named word.now }
 {
-    MESSAGES
-        .iter()
-        .find(|name| word == message_word(**name))
-        .copied()
+    if names_message(word, MessageName::Ping) {
+        return Some(MessageName::Ping);
+    }
+    if names_message(word, MessageName::LogStatus) {
+        return Some(MessageName::LogStatus);
+    }
+    if names_message(word, MessageName::DumpLog) {
+        return Some(MessageName::DumpLog);
+    }
+    if names_message(word, MessageName::EraseLog) {
+        return Some(MessageName::EraseLog);
+    }
+    if names_message(word, MessageName::SelfTest) {
+        return Some(MessageName::SelfTest);
+    }
+    if names_message(word, MessageName::AlarmReset) {
+        return Some(MessageName::AlarmReset);
+    }
+    None
 }
