@@ -17,6 +17,10 @@ pub record SourceSeen : Type 0 where
   pub left : List ℕ
   pub faults : ℕ
 
+-- a source of some type, by what the type says of it
+abbrev pub source_seen : {S : Type 0} → Bool → (S → List ℕ) → (S → ℕ) → S → SourceSeen
+source_seen told left faults source = record { told = told; left = left source; faults = faults source }
+
 -- how far a reader has come: how many octets it took, and how many records it read
 pub record Standing : Type 0 where
   pub taken : ℕ

@@ -5,7 +5,7 @@ ghost use Rattle.std.specs.Prelude.{IfErr, IfNone, IfSome, MatchResult, vec_len}
 ghost use Rattle.sdls_outside.specs.Faults.{HasCause};
 ghost use Rattle.record_io.specs.declared.kinds.RecordKind.TheVariants.{Monitor};
 ghost use Rattle.record_io.specs.Input.{Item, MOST_OCTETS};
-ghost use Rattle.record_io.specs.Reading.{SourceSeen, Standing, first_standing, IsReading, ReadsTo, Loses};
+ghost use Rattle.record_io.specs.Reading.{SourceSeen, Standing, first_standing, IsReading, ReadsTo, Loses, source_seen};
 ghost use Rattle.record_io.specs.Reading.{GoesOn, HasFaultCause};
 ghost use Rattle.record_io.specs.Steps.{still_counted, TakesTooFew, Moves, ReadsItem, Wants, IsFaultRead};
 ghost use Rattle.record_io.specs.Steps.{CountsRecords, Segment, due_beginning, EndsBefore};
@@ -295,23 +295,13 @@ impl Reader {
         alloc: Global,
         source: &mut S,
     ) -> Result<(Vec<Record>, SegmentEnd), NoMemory>
-        ensures reads { let before : SourceSeen = record {
-          told = S.told;
-          left = S.left source.old;
-          faults = S.faults
-              source.old;
-        } in
-            let now : SourceSeen = record { told = S.told; left = S.left source.new; faults = S.faults source.new } in
+        ensures reads { let before : SourceSeen = source_seen S.told S.left S.faults source.old in
+            let now : SourceSeen = source_seen S.told S.left S.faults source.new in
             IfOk result (λ segment. (start : SourceSeen) (items : List Item) (read : List ℕ)
             → IsReading start before self.old items read
             → ReadsTo start now self.new items segment.0.items segment.1) }
-        ensures loses { let before : SourceSeen = record {
-          told = S.told;
-          left = S.left source.old;
-          faults = S.faults
-              source.old;
-        } in
-            let now : SourceSeen = record { told = S.told; left = S.left source.new; faults = S.faults source.new } in
+        ensures loses { let before : SourceSeen = source_seen S.told S.left S.faults source.old in
+            let now : SourceSeen = source_seen S.told S.left S.faults source.new in
             OnErr result ((start : SourceSeen) (items : List Item) (read : List ℕ)
             → IsReading start before self.old items read
             → Loses start now items) }

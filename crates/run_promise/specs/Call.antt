@@ -20,6 +20,19 @@ pub record CallSeen : Type 0 where
   pub status : ℕ
   pub entries : List Entry
 
+-- a call, by its source and its site before and after it, its status and its entries
+abbrev pub call_seen : {S O : Type 0} → (S → SourceSeen) → (O → SiteSeen) → Bool → S → S → O → O → ℕ → List Entry
+    → CallSeen
+call_seen source_of site_of told source source_after site site_after status entries = record {
+  source = source_of source;
+  source_after = source_of source_after;
+  told = told;
+  site = site_of site;
+  site_after = site_of site_after;
+  status = status;
+  entries = entries;
+}
+
 -- the image at the call's entry
 abbrev pub image_at_entry : CallSeen → List ℕ
 image_at_entry call = call.site.trace.now.image

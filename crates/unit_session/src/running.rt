@@ -2,7 +2,8 @@
 ghost use Rattle.std.specs.Prelude.{◌≡◌, ◌≤◌, IsTrue, [], MatchResult};
 ghost use Rattle.sdls_outside.specs.Disk.{Leaves};
 ghost use Rattle.counter_table.specs.Worker.{view};
-ghost use Rattle.record_io.specs.Reading.{SourceSeen};
+ghost use Rattle.record_io.specs.Reading.{SourceSeen, source_seen};
+ghost use Rattle.run_promise.specs.Call.{call_seen};
 ghost use Rattle.run_promise.specs.Lives.{EndsAndLives};
 ghost use Rattle.run_promise.specs.Account.{end_status};
 ghost use Rattle.run_promise.specs.Site.{site_seen};
@@ -88,9 +89,9 @@ fn serve_with_log<R: Threads + Wait + Sync, S: Source, O: Site + Send, G: Gate +
     requires none_made { (view worker).turn.made ≡ [] }
     ensures alone { IsAlone result.0.counters result.0.plan result.1 }
     ensures opening { (view result.1).turn.known.opening ≡ (view worker).turn.known.opening }
-    ensures comes { let seen : SourceSeen = record { told = S.told; left = S.left source.old; faults = S.faults source.old }
+    ensures comes { let seen : SourceSeen = source_seen S.told S.left S.faults source.old
         in
-        let after : SourceSeen = record { told = S.told; left = S.left source.new; faults = S.faults source.new } in
+        let after : SourceSeen = source_seen S.told S.left S.faults source.new in
         OfRun O.told (view worker) (λ begin. Comes seen after begin (view worker) (view result.1) result.2) }
 {
     let Ok(log) = Log::new(alloc) else {
@@ -123,9 +124,9 @@ fn serve_unit<R: Threads + Wait + Sync, S: Source, O: Site + Send, G: Gate + Syn
     requires no_log { (view worker).turn.known.log ≡ [] }
     requires none_made { (view worker).turn.made ≡ [] }
     requires before { before ≤ (view worker).turn.known.opening.faults }
-    ensures { let seen : SourceSeen = record { told = S.told; left = S.left source.old; faults = S.faults source.old }
+    ensures { let seen : SourceSeen = source_seen S.told S.left S.faults source.old
         in
-        let after : SourceSeen = record { told = S.told; left = S.left source.new; faults = S.faults source.new } in
+        let after : SourceSeen = source_seen S.told S.left S.faults source.new in
         RunsUnit O.told before seen after (view worker) (site_seen O.trace O.faults O.put_faults result.site)
         result.entries.items result.status }
 {
@@ -144,18 +145,9 @@ pub fn run_recorded<R: Threads + Wait + Sync, S: Source, O: Site + Send, G: Gate
     site: O,
     gate: &G,
 ) -> Outcome<O>
-    ensures { let before : SourceSeen = record { told = S.told; left = S.left source.old; faults = S.faults source.old }
-        in
-        let after : SourceSeen = record { told = S.told; left = S.left source.new; faults = S.faults source.new } in
-        EndsAndLives (record {
-          source = before;
-          source_after = after;
-          told = O.told;
-          site = site_seen O.trace O.faults O.put_faults site;
-          site_after = site_seen O.trace O.faults O.put_faults result.site;
-          status = result.status;
-          entries = result.entries.items;
-        }) }
+    ensures { EndsAndLives (call_seen (source_seen S.told S.left S.faults)
+        (site_seen O.trace O.faults O.put_faults) O.told source.old source.new site result.site result.status
+        result.entries.items) }
 {
     let before = site.faults();
     image_stays::<O>();

@@ -4,7 +4,7 @@ ghost use Rattle.std.specs.List.{All};
 ghost use Rattle.record_io.specs.declared.kinds.TheConstants.{LANES};
 ghost use Rattle.record_io.specs.declared.records.Record.{Record};
 ghost use Rattle.record_io.specs.Input.{Item};
-ghost use Rattle.record_io.specs.Reading.{first_standing, IsReading, SourceSeen};
+ghost use Rattle.record_io.specs.Reading.{first_standing, IsReading, SourceSeen, source_seen};
 ghost use Rattle.counter_table.specs.Worker.{view};
 ghost use Rattle.counter_table.specs.declared.view.View.{View};
 ghost use Rattle.run_promise.specs.Begin.{Begin};
@@ -157,18 +157,13 @@ impl<O: Site + Send> Session<O> {
     ) -> Option<RunEnd>
         requires alone { IsAlone self.old.unit.counters self.old.unit.plan self.old.worker }
         requires reading { let before : SourceSeen =
-            record { told = S.told; left = S.left source.old; faults = S.faults source.old } in
+            source_seen S.told S.left S.faults source.old in
             (start : SourceSeen) × (items : List Item) × (read : List ℕ)
             × IsReading start before reader.old items read }
         ensures alone { IsAlone self.new.unit.counters self.new.unit.plan self.new.worker }
         ensures opening { (view self.new.worker).turn.known.opening ≡ (view self.old.worker).turn.known.opening }
-        ensures leads { let before : SourceSeen = record {
-          told = S.told;
-          left = S.left source.old;
-          faults = S.faults
-              source.old;
-        } in
-            let after : SourceSeen = record { told = S.told; left = S.left source.new; faults = S.faults source.new } in
+        ensures leads { let before : SourceSeen = source_seen S.told S.left S.faults source.old in
+            let after : SourceSeen = source_seen S.told S.left S.faults source.new in
             (start : SourceSeen) (begin : Begin) (first : View)
             → BeganWith O.told begin (view self.old.worker).turn.known.opening
             → Goes start before reader.old begin first (view self.old.worker) self.old.log
@@ -202,13 +197,8 @@ impl<O: Site + Send> Session<O> {
         requires none_noted { self.old.log ≡ report_of [] }
         ensures alone { IsAlone self.new.unit.counters self.new.unit.plan self.new.worker }
         ensures opening { (view self.new.worker).turn.known.opening ≡ (view self.old.worker).turn.known.opening }
-        ensures comes { let before : SourceSeen = record {
-          told = S.told;
-          left = S.left source.old;
-          faults = S.faults
-              source.old;
-        } in
-            let after : SourceSeen = record { told = S.told; left = S.left source.new; faults = S.faults source.new } in
+        ensures comes { let before : SourceSeen = source_seen S.told S.left S.faults source.old in
+            let after : SourceSeen = source_seen S.told S.left S.faults source.new in
             (begin : Begin) → BeganWith O.told begin (view self.old.worker).turn.known.opening
             → Comes before after begin (view self.old.worker) (view self.new.worker) result }
     {
