@@ -1,5 +1,5 @@
 -- A run whose book was opened, served by one worker and closed: for `run_recorded`.
-use Rattle.std.proofs.Common.{◌≡◌, ℕ, ◌+◌, ◌≤◌, Bool, IsTrue, List, Ok, refl, sym, ◌∙◌, ap, subst, inl, inr}
+use Rattle.std.proofs.Common.{◌≡◌, ℕ, ◌≤◌, Bool, IsTrue, List, Ok, refl, sym, ◌∙◌, ap, subst, inl, inr}
 use Rattle.sdls_base.specs.declared.entry.Entry.{Entry}
 use Rattle.sdls_outside.specs.Disk.{Leaves}
 use Rattle.sdls_outside.specs.Moments.{Trace, EachMoment, clock}
@@ -19,7 +19,6 @@ use Rattle.unit_state.specs.Restart.{restarted}
 use Rattle.unit_image.specs.OpeningImage.{Opening}
 use Rattle.unit_image.specs.Shows.{Shows}
 use Rattle.run_promise.specs.Site.{SiteSeen}
-use Rattle.run_promise.specs.Log.{entries_of}
 use Rattle.unit_book.specs.Book.{BookView}
 use Rattle.run_promise.specs.Numbers.{mark_at}
 use Rattle.shared_unit.specs.Sharing.{Begins, BookIsOpened}

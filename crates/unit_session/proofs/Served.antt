@@ -1,5 +1,5 @@
 -- A segment that was handled, and whose answers were put: for the clauses of `serve`.
-use Rattle.std.proofs.Common.{◌≡◌, ◌≢◌, ◌⊎◌, inl, inr, Some, ℕ, ◌+◌, ◌≤◌, Bool, true, false, IsTrue, List, length, Result, Ok, Err, refl, sym, ◌∙◌, ap, subst, arith}
+use Rattle.std.proofs.Common.{All, ◌≡◌, ◌≢◌, ◌⊎◌, inl, inr, Some, ℕ, ◌+◌, ◌≤◌, Bool, true, false, IsTrue, List, length, Result, Ok, Err, refl, sym, ◌∙◌, ap, subst, arith}
 use Rattle.std.specs.List.{slice_get}
 use Rattle.std.proofs.lemmas.Option.{slice_get_within}
 use Rattle.fsr_log.specs.Report.{Report}

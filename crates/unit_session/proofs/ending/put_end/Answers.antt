@@ -17,12 +17,12 @@ rose_of before now (Stopped count) is = absurd is
 rose_of before now SessionFull is = absurd is
 rose_of before now NoMemory is = absurd is
 
-pub returns-clause-ends : goal.returns-clause-ends
-returns-clause-ends g c =
-    let whole : c.answer_header.result ++ (end_answer c.args.told c.count.result).body ≡ answer_octets (end_answer c.args.told c.count.result) =
-    subst (λ (a : Answer). c.answer_header.result ++ a.body ≡ answer_octets a) c.answer_of.ensures.answer c.answer_header.ensures.whole in
-    let octets : c.answer_header.result ≡ answer_octets (end_answer c.args.told (length (entries_of c.args.book.now.log))) =
-    sym (append-nil c.answer_header.result) ∙ whole ∙ ap (λ (n : ℕ). answer_octets (end_answer c.args.told n)) c.count.ensures in
+pub returns-in-Err-clause-ends : goal.returns-in-Err-clause-ends
+returns-in-Err-clause-ends g c =
+    let whole : c.answer_header-header.result ++ (end_answer c.args.told c.count.result).body ≡ answer_octets (end_answer c.args.told c.count.result) =
+    subst (λ (a : Answer). c.answer_header-header.result ++ a.body ≡ answer_octets a) c.answer_of.ensures.answer c.answer_header-header.ensures.whole in
+    let octets : c.answer_header-header.result ≡ answer_octets (end_answer c.args.told (length (entries_of c.args.book.now.log))) =
+    sym (append-nil c.answer_header-header.result) ∙ whole ∙ ap (λ (n : ℕ). answer_octets (end_answer c.args.told n)) c.count.ensures in
     let put_before : c.args.came ≢ ends.PutFailed = search rules in
     inr (
       put_before,
