@@ -6,6 +6,7 @@ use Rattle.sdls_base.specs.declared.TheConstants.{MOST_KEYS}
 use Rattle.counter_table.specs.declared.view.Opening.{Opening}
 use Rattle.counter_table.specs.declared.view.View.{View}
 use Rattle.counter_table.specs.Whole.{IsWhole}
+use Rattle.record_io.specs.Answers.{IsAnswer}
 use Rattle.record_io.specs.declared.answers.Answer.{Answer}
 use Rattle.record_io.specs.declared.records.Record.{Record}
 use Rattle.run_promise.specs.Begin.{Begin}
