@@ -3,12 +3,12 @@ use Rattle.std.proofs.Common.{◌≡◌, ◌≢◌, ℕ, ◌+◌, ◌<◌, ◌++
 use Rattle.std.specs.List.{AllByRecursion}
 use Rattle.std.proofs.lemmas.List.{append-nil}
 use Rattle.record_io.specs.Input.{IsItem, Item, LacksItem, beginning, item_octets, items_octets}
-use Rattle.record_io.specs.Steps.{IsNoHead}
+use Rattle.record_io.specs.Heads.{IsNoHead}
 use Rattle.record_io.proofs.Items.{item_is, lacks_head, lacks_octets, spelled_item}
 use Rattle.text_streams.specs.Spelling.{Spells, SpellsAll, seen_item}
 use Rattle.text_streams.specs.declared.ends.End.{End}
 use Rattle.text_streams.specs.declared.ends.End.TheVariants.{Done, LineFault, LongLine, CutAnswer, NoAnswer, NoItem, SourceFault, OutputFault, NoMemory}
-use Rattle.record_io.specs.declared.item_cursor.ItemHead.{ItemHead}
+use Rattle.record_io.specs.declared.heads.ItemHead.{ItemHead}
 use Rattle.record_io.specs.declared.item_cursor.FoundItem.{FoundItem}
 use Rattle.record_io.specs.declared.item_cursor.NextItem.{NextItem}
 use Rattle.record_io.specs.declared.item_cursor.NextItem.TheVariants as nexts
