@@ -1,7 +1,8 @@
 use Rattle.std.proofs.Common.{◌≡◌, ◌++◌, ◌∙◌, ap, refl, rules}
 use Rattle.record_io.specs.declared.item_cursor.NextItem.TheVariants as nexts
 use Rattle.record_io.specs.NextItem.{item_found}
-use Rattle.text_streams.proofs.ItemProgress.{end_stands, item_stands, line_is, none_stands}
+use Rattle.record_io.proofs.NextItems.{end_stands, item_stands, none_stands}
+use Rattle.text_streams.proofs.ItemProgress.{line_is}
 use Rattle.text_streams.proofs.show.put_next.Goals as goal
 
 pub returns-in-Ok-End-clause-fails : goal.returns-in-Ok-End-clause-fails
