@@ -11,27 +11,36 @@ long octets held least same some = subst (λ (o : List ℕ). least ≤ length o)
 
 pub returns-in-Protect-clause-bounds : goal.returns-in-Protect-clause-bounds
 unfolding IsLine
-returns-in-Protect-clause-bounds c is =
-    ((let laned = is.lane in rw c.in-Protect.is at laned), (let all = c.well_formed in search rules), record {
-      each = rw c.as_slice.ensures at c.hold_octets.ensures;
-      few = short c.args.recorded.octets c.new-octets.result 2048 (c.new-octets.ensures ∙ c.into_vec.ensures.octets) is.short;
-    })
+returns-in-Protect-clause-bounds c is = (
+  (let laned = is.lane in rw c.in-Protect.is at laned),
+  (let all = c.well_formed in search rules),
+  record {
+    each = rw c.as_slice.ensures at c.hold_octets.ensures;
+    few = short c.args.recorded.octets c.new-octets.result 2048 (c.new-octets.ensures ∙ c.into_vec.ensures.octets) is.short;
+  },
+)
 
 pub returns-in-Open-clause-bounds : goal.returns-in-Open-clause-bounds
 unfolding IsLine
-returns-in-Open-clause-bounds c is =
-    ((let laned = is.lane in rw c.in-Open.is at laned), (let all = c.well_formed in search rules), record {
-      each = rw c.as_slice.ensures at c.hold_octets.ensures;
-      few = short c.args.recorded.octets c.new-octets.result 2048 (c.new-octets.ensures ∙ c.into_vec.ensures.octets) is.short;
-    })
+returns-in-Open-clause-bounds c is = (
+  (let laned = is.lane in rw c.in-Open.is at laned),
+  (let all = c.well_formed in search rules),
+  record {
+    each = rw c.as_slice.ensures at c.hold_octets.ensures;
+    few = short c.args.recorded.octets c.new-octets.result 2048 (c.new-octets.ensures ∙ c.into_vec.ensures.octets) is.short;
+  },
+)
 
 pub returns-in-Command-clause-bounds : goal.returns-in-Command-clause-bounds
 unfolding IsLine
 returns-in-Command-clause-bounds c is =
-    c.command_line.ensures.bounds ((let laned = is.lane in rw c.in-Command.is at laned), record {
-      each = rw c.as_slice.ensures at c.hold_octets.ensures;
-      few = short c.args.recorded.octets c.new-octets.result 2048 (c.new-octets.ensures ∙ c.into_vec.ensures.octets) is.short;
-    })
+    c.command_line.ensures.bounds (
+      (let laned = is.lane in rw c.in-Command.is at laned),
+      record {
+        each = rw c.as_slice.ensures at c.hold_octets.ensures;
+        few = short c.args.recorded.octets c.new-octets.result 2048 (c.new-octets.ensures ∙ c.into_vec.ensures.octets) is.short;
+      },
+    )
 
 pub returns-in-Monitor-clause-bounds : goal.returns-in-Monitor-clause-bounds
 unfolding IsLine
