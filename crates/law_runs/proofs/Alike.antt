@@ -137,7 +137,7 @@ not_failed call run other rose = elim run.put [
   ]
 ]
 
-front_is : (xs front rest : List Entry) → xs ≡ front ++ rest → take (length front) xs ≡ front
+pub front_is : (xs front rest : List Entry) → xs ≡ front ++ rest → take (length front) xs ≡ front
 front_is xs front rest is =
     ap (take (length front)) is ∙ take-append-le (length front) front rest (omega arith) ∙ take_all (length front) front (omega arith)
 

@@ -1,6 +1,6 @@
 -- Two runs of one lane over one image that handled the same records: as far as both have answers, these are the same.
-use Rattle.std.proofs.Common.{◌≡◌, Bool, false, ℕ, zero, suc, ◌≤◌, IsTrue, List, [], ◌∷◌, ◌++◌, length, map, take, Ok, refl, sym, ◌∙◌, ap, subst, arith, append_assoc}
-use Rattle.std.proofs.lemmas.List.{take_all}
+use Rattle.std.proofs.Common.{◌≡◌, Bool, false, ℕ, zero, suc, ◌≤◌, IsTrue, List, [], ◌∷◌, ◌++◌, length, map, take, drop, Ok, refl, sym, ◌∙◌, ap, subst, arith, append_assoc}
+use Rattle.std.proofs.lemmas.List.{take_all, take-append-drop}
 use Rattle.sdls_base.specs.declared.TheConstants.{MOST_KEYS}
 use Rattle.sdls_base.specs.declared.entry.Entry.{Entry}
 use Rattle.unit_image.specs.Image.{held}
@@ -26,8 +26,8 @@ use Rattle.run_promise.specs.declared.end.RunEnd.TheVariants as ends
 use Rattle.run_promise.specs.Call.{CallSeen, ShowsAtEntry, image_at_entry}
 use Rattle.run_promise.specs.Account.{Account, AreAnswered, begin_of, course_of, deeds_from, deeds_in, due_octets}
 use Rattle.run_promise.specs.Ends.{IsSoundCall, RunEnds}
-use Rattle.law_runs.specs.Says.{AnswersAlike, IsUnfailed, NoneFails}
-use Rattle.law_runs.proofs.Alike.{are_served, began_alike, entries_alike, rules_front}
+use Rattle.law_runs.specs.Says.{AnswersAlike, FrontsAlike, IsUnfailed, NoneFails}
+use Rattle.law_runs.proofs.Alike.{are_served, began_alike, entries_alike, front_is, rules_front}
 
 -- ---- fronts
 
@@ -84,6 +84,13 @@ front_reported zero before deeds h = tt
 front_reported (suc n) before [] h = tt
 front_reported (suc n) before (deed ∷ deeds) h = (h.0, front_reported n (before ++ noted_of deed ∷ []) deeds h.1)
 
+-- the entries begin with a front of those of the lane
+front_begins : (entries : List Entry) (ends : ℕ) (own front more rest : List Entry) → take ends entries ≡ own ++ rest → own ≡ front ++ more
+    → front ≡ take (length front) entries
+front_begins entries ends own front more rest is split = sym (front_is entries front (more ++ (rest ++ drop ends entries))
+    (sym (take-append-drop ends entries) ∙ ap (λ (l : List Entry). l ++ drop ends entries) (is ∙ ap (λ (l : List Entry). l ++ rest) split)
+    ∙ append_assoc (front ++ more) rest (drop ends entries) ∙ append_assoc front more (rest ++ drop ends entries)))
+
 -- ---- two calls
 
 module _ (call other : CallSeen) (run : RunEnds call) (again : RunEnds other) (plan : PlanLines) (state : State)
@@ -114,7 +121,7 @@ module _ (call other : CallSeen) (run : RunEnds call) (again : RunEnds other) (p
 
     module _ (s : IsSoundCall call run.account plan state) (t : IsSoundCall other again.account plan state) (words others : List ℕ)
         (e : IsExact call run.account plan state words s.run.history.run.ends) (f : IsExact other again.account plan state others t.run.history.run.ends) where
-      same : take n again.account.answers ≡ take n run.account.answers
+      same : FrontsAlike call other run.account again.account plan state n
       same =
           let (own, rest, is, serves, few, none) = e.served in
           let (entries, left, at, reserves, few_left, zero_left) = f.served in
@@ -135,12 +142,20 @@ module _ (call other : CallSeen) (run : RunEnds call) (again : RunEnds other) (p
           again.account.handled again.account.answers t.run.answers refails)
           served reserved
           (front_runs MOST_KEYS (mark_at state) n e.moves e.beyond e.runs) (front_runs MOST_KEYS (mark_at state) n f.moves f.beyond f.runs) in
-          sym (front_answers n again.account.handled again.account.answers (few_answers again.account again.account.came again.answered)) ∙ sym both.0
-          ∙ front_answers n run.account.handled run.account.answers (few_answers run.account run.account.came run.answered)
+          record {
+            answers = sym (front_answers n again.account.handled again.account.answers (few_answers again.account again.account.came again.answered))
+                ∙ sym both.0 ∙ front_answers n run.account.handled run.account.answers (few_answers run.account run.account.came run.answered);
+            own = front;
+            moves = take n e.moves;
+            made = served;
+            begins = front_begins call.entries s.run.history.run.ends own front more rest is split;
+            begins_again = subst (λ (l : List Entry). l ≡ take (length l) other.entries) (sym both.1)
+                (front_begins other.entries t.run.history.run.ends entries back most left at cut);
+          }
 
   pub fronts_alike : (n : ℕ) → n ≤ length run.account.answers → n ≤ length again.account.answers
       → NoneFails (take n run.account.answers) → NoneFails (take n again.account.answers)
-      → take n again.account.answers ≡ take n run.account.answers
+      → FrontsAlike call other run.account again.account plan state n
   fronts_alike n low small fails refails =
       let one_serves = run.sound told plan state shows in
       let other_serves = again.sound tells plan state reshows in
@@ -160,8 +175,8 @@ module _ (call other : CallSeen) (run : RunEnds call) (again : RunEnds other) (p
       × (again.account.told ≡ run.account.told → due_octets other again.account ≡ due_octets call run.account) = λ still restill.
       entries_alike call other run again plan state still restill each reach told tells image shows handled one fails refails once along in
       record {
-        answers = sym reall ∙ fronts_alike (length run.account.answers) (omega arith) (omega arith)
-            (subst NoneFails (sym all) fails) (subst NoneFails (sym reall) refails) ∙ all;
+        answers = sym reall ∙ (fronts_alike (length run.account.answers) (omega arith) (omega arith)
+            (subst NoneFails (sym all) fails) (subst NoneFails (sym reall) refails)).answers ∙ all;
         entries = λ still restill. (entries still restill).0;
         due = λ still restill. (entries still restill).1;
       }

@@ -54,6 +54,16 @@ abbrev pub told_at : InputEnd → RunEnd
 told_at Whole = Ended
 told_at (MalformedAt offset) = Malformed offset
 
+four_is : (end : RunEnd) → end_status end ≡ 4 → (count : ℕ) × (end ≡ SourceFault count)
+four_is Ended h = absurd (omega arith)
+four_is (Malformed offset) h = absurd (omega arith)
+four_is (SourceFault count) h = (count, refl)
+four_is (SiteFault count) h = absurd (omega arith)
+four_is NoMemory h = absurd (omega arith)
+four_is (NoState offset) h = absurd (omega arith)
+four_is SessionFull h = absurd (omega arith)
+four_is PutFailed h = absurd (omega arith)
+
 five_is : (end : RunEnd) → end_status end ≡ 5 → ((count : ℕ) × (end ≡ SiteFault count)) ⊎ (end ≡ PutFailed)
 five_is Ended h = absurd (omega arith)
 five_is (Malformed offset) h = absurd (omega arith)
@@ -203,6 +213,14 @@ module _ (call : CallSeen) (run : RunEnds call) where
       let (offset, came) = three_is run.account.came (sym is ∙ three_status) in
       let answered = answered_of (Malformed offset) came in
       (MalformedAt offset, same ∙ came, (cause_of (Malformed offset) came).1, answered.0, answered.1)
+
+  -- With status 4 each record that was read was answered, and the end that is told is the count of the source's faults.
+  pub source_failed : call.status ≡ 4 → (run.account.told ≡ SourceFault call.source_after.faults)
+      × (length run.account.answers ≡ length run.account.handled)
+  source_failed four =
+      let (same, is) = what_came (λ five. absurd (omega arith)) (λ eight. absurd (omega arith)) in
+      let (count, came) = four_is run.account.came (sym is ∙ four) in
+      (same ∙ came ∙ ap SourceFault (cause_of (SourceFault count) came).1, (answered_of (SourceFault count) came).1)
 
   pub full_told : call.status ≡ 8 → EndsWithFullHistory call run
   full_told eight = elim run.put [

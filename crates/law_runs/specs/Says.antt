@@ -1,5 +1,5 @@
 -- What the statuses of a run say.
-use Rattle.std.specs.Prelude.{◌≡◌, ◌⊎◌, ℕ, ◌+◌, ◌*◌, ◌<◌, IsTrue, ◌++◌, length, ◌≢◌, List}
+use Rattle.std.specs.Prelude.{◌≡◌, ◌⊎◌, ℕ, ◌+◌, ◌*◌, ◌<◌, IsTrue, [], ◌++◌, length, take, ◌≢◌, List, false}
 use Rattle.sdls_base.specs.declared.TheConstants.{MOST_KEYS}
 use Rattle.sdls_outside.specs.Faults.{Rose}
 use Rattle.record_io.specs.declared.status.TheConstants as status
@@ -10,7 +10,10 @@ use Rattle.unit_state.specs.declared.state.State.{State}
 use Rattle.run_promise.specs.declared.limits.TheConstants.{MOST_ENTRIES}
 use Rattle.run_promise.specs.declared.end.RunEnd.TheVariants.{Ended, Malformed, SourceFault, SessionFull}
 use Rattle.run_promise.specs.Call.{CallSeen, ShowsAtEntry, image_at_entry}
-use Rattle.run_promise.specs.Account.{AnsweredEach, HandledAll, SaysSiteFailed, due_octets, Account}
+use Rattle.run_promise.specs.Account.{AnsweredEach, HandledAll, SaysSiteFailed, begin_of, deeds_in, due_octets, Account}
+use Rattle.run_promise.specs.Machine.{Move}
+use Rattle.run_promise.specs.Serving.{ServesAll}
+use Rattle.sdls_base.specs.declared.entry.Entry.{Entry}
 use Rattle.run_promise.specs.Ends.{RunEnds}
 use Rattle.std.specs.List.{All}
 use Rattle.record_io.specs.declared.answers.Answer.{Answer}
@@ -74,10 +77,31 @@ pub record AnswersAlike (call other : CallSeen) (account again : Account) : Type
   pub due : IsUnfailed call → IsUnfailed other → again.told ≡ account.told
       → due_octets other again ≡ due_octets call account
 
--- Both calls have status 0; or both have status 3, and in neither the site failed, also not at a release.
-abbrev pub EndWell : CallSeen → CallSeen → Type 0
-EndWell call other = ((call.status ≡ status.DONE) × (other.status ≡ status.DONE))
-    ⊎ ((call.status ≡ status.MALFORMED) × (other.status ≡ status.MALFORMED) × IsUnfailed call × IsUnfailed other)
+-- The sources of both calls failed, with one count of faults, behind the same records; the site did not fail.
+pub record FailAlike (call other : CallSeen) (account again : Account) : Type 0 where
+  pub status_is : call.status ≡ status.SOURCE_FAULT
+  pub same_status : other.status ≡ status.SOURCE_FAULT
+  pub count : other.source_after.faults ≡ call.source_after.faults
+  pub handled : again.handled ≡ account.handled
+  pub still : IsUnfailed call
+  pub still_again : IsUnfailed other
+
+-- Both calls have status 0; or both have status 3, and in neither the site failed, also not at a release; or both
+-- sources failed alike.
+abbrev pub EndAlike : CallSeen → CallSeen → Account → Account → Type 0
+EndAlike call other account again = ((call.status ≡ status.DONE) × (other.status ≡ status.DONE))
+    ⊎ (((call.status ≡ status.MALFORMED) × (other.status ≡ status.MALFORMED) × IsUnfailed call × IsUnfailed other)
+    ⊎ FailAlike call other account again)
+
+-- The first n records of two calls have the same answers, and made the same entries: with these both histories begin.
+pub record FrontsAlike (call other : CallSeen) (account again : Account) (plan : PlanLines) (state : State)
+    (n : ℕ) : Type 0 where
+  pub answers : take n again.answers ≡ take n account.answers
+  pub own : List Entry
+  pub moves : List Move
+  pub made : ServesAll (begin_of call plan state) false [] (take n (deeds_in account)) moves own
+  pub begins : own ≡ take (length own) call.entries
+  pub begins_again : own ≡ take (length own) other.entries
 
 -- Two calls did the same: their answers and their entries are the same, and so are the octets that are due, with End's.
 pub record RunsAlike (call other : CallSeen) (account again : Account) : Type 0 where

@@ -5,7 +5,8 @@ ghost use Rattle.unit_state.specs.declared.state.State.{State};
 ghost use Rattle.record_io.specs.declared.status.TheConstants.{DONE, MALFORMED};
 ghost use Rattle.unit_plan.specs.PlanLines.{PlanLines};
 ghost use Rattle.run_promise.specs.Alone.{OneLane};
-ghost use Rattle.law_runs.specs.Says.{AnswersAlike, EndWell, NoneFails, NoneWants, RunsAlike};
+ghost use Rattle.law_runs.specs.Says.{AnswersAlike, EndAlike, FrontsAlike, NoneFails, NoneWants};
+ghost use Rattle.law_runs.specs.Says.{RunsAlike};
 ghost use Rattle.run_promise.specs.Call.{CallSeen, image_at_entry, ShowsAtEntry};
 ghost use Rattle.run_promise.specs.Account.{AnsweredEach};
 ghost use Rattle.run_promise.specs.Ends.{RunEnds};
@@ -41,8 +42,9 @@ pub fn one_lane_answers_alike()
 }
 
 /// Law: two calls over one image that handled the same records, all of one lane, give the same answers as far as both
-/// have answers and none of these tells a fault of the site or lack of memory: whatever the statuses, and also where a
-/// full history, or a put that failed, left records without answers.
+/// have answers and none of these tells a fault of the site or lack of memory. So far they made the same entries, with
+/// which both histories begin. So it is whatever the statuses, and also where the disk failed later, or a full history,
+/// or a put that failed, left records without answers.
 pub fn one_lane_fronts_alike()
     ensures { (call other : CallSeen) (run : RunEnds call) (again : RunEnds other) (plan : PlanLines) (state : State)
         → IsTrue call.told → IsTrue other.told
@@ -50,18 +52,18 @@ pub fn one_lane_fronts_alike()
         → again.account.handled ≡ run.account.handled → OneLane (records_of run.account.handled)
         → (n : ℕ) → n ≤ length run.account.answers → n ≤ length again.account.answers
         → NoneFails (take n run.account.answers) → NoneFails (take n again.account.answers)
-        → take n again.account.answers ≡ take n run.account.answers }
+        → FrontsAlike call other run.account again.account plan state n }
 {
     served_once();
     rules_stay_along();
 }
 
-/// Law: two calls over one image with one input, all of one lane, both with status 0, or both with status 3 and without
-/// a fault of the site, and none wanting memory for a record, have the same answers and the same entries, and put the
-/// same octets.
+/// Law: two calls over one image with one input, all of one lane, have the same answers and the same entries, and the
+/// same octets are due, if memory sufficed for each record. Both have status 0, or both have status 3 and the site did
+/// not fail, or both have status 4 with one count of faults of the source behind the same records.
 pub fn one_lane_runs_alike()
     ensures { (call other : CallSeen) (run : RunEnds call) (again : RunEnds other) (plan : PlanLines) (state : State)
-        → EndWell call other → IsTrue call.source.told → IsTrue other.source.told
+        → EndAlike call other run.account again.account → IsTrue call.source.told → IsTrue other.source.told
         → IsTrue call.told
         → IsTrue other.told → other.source.left ≡ call.source.left → image_at_entry other ≡ image_at_entry call
         → ShowsAtEntry call plan state → OneLane (records_of run.account.handled)
