@@ -7,7 +7,7 @@ ghost use Rattle.sdls_outside.specs.Output.{OnlySinks, Sinks};
 ghost use Rattle.record_io.specs.declared.answers.Answer.{Answer};
 ghost use Rattle.record_io.specs.declared.status.TheConstants.{DONE, NO_MEMORY};
 ghost use Rattle.record_io.specs.Input.{MOST_OCTETS};
-ghost use Rattle.run_promise.specs.Life.{IsLife, LifeRun};
+ghost use Rattle.run_promise.specs.Life.{IsBeginning, IsLife, LifeRun};
 ghost use Rattle.pair_audit.specs.Audit.{acceptances_in, uses_in};
 ghost use Rattle.pair_audit.specs.Recording.{RunsCount, recording};
 ghost use Rattle.law_audit.specs.Recorded.{SankFew, sunk_by};
@@ -16,9 +16,12 @@ ghost use Rattle.audit_run.specs.Text.{clean_text};
 ghost use Rattle.run_promise.specs.Call.{CallSeen, image_at_entry};
 ghost use Rattle.run_promise.specs.Lives.{KeepsLivesReading};
 ghost use Rattle.sdls_plain.specs.Stat.{EndsStat};
+ghost use Rattle.sdls_run.specs.Called.{AreLife, MayLeave, PastCall};
 
 use law_audit::recorded_life_is_clean;
-use law_runs::{no_records_are_sound, reading_keeps_lives, sound_reading_keeps_lives};
+use law_runs::{
+    no_records_are_sound, reading_keeps_lives, sound_reading_keeps_lives, used_once_in_a_life,
+};
 
 /// Law: a call that ends as `stat` does, and makes no entry, continues each life that left the image at its entry.
 pub fn stat_keeps_lives()
@@ -30,8 +33,8 @@ pub fn stat_keeps_lives()
     reading_keeps_lives();
 }
 
-/// Law: a call that makes no entry, and does nothing to an image that stands but to write output, continues each life that
-/// left the image at its entry.
+/// Law: a call that makes no entry, and does nothing to an image that stands but to write output, continues each life
+/// that left the image at its entry.
 pub fn sinking_keeps_lives()
     ensures { (call : CallSeen) → call.entries ≡ []
         → (IsTrue call.told → image_at_entry call ≢ [] → OnlySinks call.site.trace call.site_after.trace)
@@ -39,6 +42,16 @@ pub fn sinking_keeps_lives()
 {
     no_records_are_sound();
     sound_reading_keeps_lives();
+}
+
+/// Law: calls of the program one after the other, with whatever words, are a life of the unit. The first was entered
+/// with an image with which a life may begin, each other with what those before it may leave, after a crash at any
+/// moment. Their answers are those of the life, each of whose runs is sound, and the image is the one that it left.
+pub fn calls_are_a_life()
+    ensures { (first image : List ℕ) (calls : List PastCall) → IsBeginning first → MayLeave first calls image
+        → AreLife first calls image }
+{
+    used_once_in_a_life();
 }
 
 /// Law: of the runs of a life that were kept, an audit of what they sank ends with the line that all is well and status

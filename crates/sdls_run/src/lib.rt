@@ -25,7 +25,7 @@ pub use law_runs::{
     one_lane_fronts_alike, one_lane_runs_alike, refused_stays, status_five_has_a_fault,
     status_tells_what_came, unhindered_run_completes, used_once_in_a_life, zero_says_all,
 };
-pub use laws::audit_passes_a_life;
+pub use laws::{audit_passes_a_life, calls_are_a_life};
 pub use record_io::{Outcome, status};
 pub use sdls_plain::{InitEnd, run_plain};
 pub use top::run;
