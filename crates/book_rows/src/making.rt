@@ -16,8 +16,8 @@ use sdls_base::ChannelList;
 use std::alloc::Global;
 use unit_state::State;
 
-/// The book of these rows.
-fn keys_of(alloc: Global, rows: Vec<KeyRow>) -> Result<KeyBook, RowsFault>
+/// The book of these rows, in their order. `Unfit` comes only if they break a rule of a book. Takes memory for it.
+pub fn keys_of(alloc: Global, rows: Vec<KeyRow>) -> Result<KeyBook, RowsFault>
     ensures { MakesOf result IsKeyBook rows.items }
 {
     key_book::rows_may_follow();
@@ -59,18 +59,18 @@ fn all_hold_keys(keys: &KeyBook, rows: &[SaRow]) -> bool
     true
 }
 
-/// The state of these rows, in their order, with the channels and the device field of a plan. `Unfit` comes only if
-/// they break a rule of a state. Takes memory for both books.
+/// The state of this book of keys and of these rows of associations, in their order, with the channels and the device
+/// field of a plan. `Unfit` comes only if they break a rule of a state. Takes memory for the book of associations.
 pub fn state_of_rows(
     alloc: Global,
-    keys: Vec<KeyRow>,
+    keys: KeyBook,
     associations: Vec<SaRow>,
     channels: ChannelList,
     device: [u8; 4],
 ) -> Result<State, RowsFault>
-    ensures { MakesOf result KeepsRules (state_of keys.items associations.items channels device) }
+    ensures { MakesOf result KeepsRules (state_of keys associations.items channels device) }
 {
-    let keys = keys_of(alloc, keys)?;
+    let _rules = keys.rows();
     let associations = associations_of(alloc, associations)?;
     if !all_hold_keys(&keys, associations.rows()) {
         return Err(RowsFault::Unfit);

@@ -278,10 +278,16 @@ content_from version state content size octets room keys sas key_counted sa_coun
 
 -- ---- the rows of a state that has the content
 
+pub same_keys : (rows others : List KeyRow) (octets : List ℕ) → AreKeyRows rows octets → AreKeyRows others octets → rows ≡ others
+same_keys rows others octets are also =
+    same_rows key_octets IsKey 96 (omega arith) key_sized same_key rows others are.each also.each (sym are.spelled ∙ also.spelled)
+
+pub keys_are : (version : Version) (state : State) (content : List ℕ) → IsContent version state content → AreKeyRows state.keys (keys_in content)
+keys_are version state content is = record { each = is.rows.keys; spelled = (content_says version state content is).keys }
+
 pub keys_read : (version : Version) (state : State) (content : List ℕ) → IsContent version state content
     → (rows : List KeyRow) → AreKeyRows rows (keys_in content) → rows ≡ state.keys
-keys_read version state content is rows are =
-    same_rows key_octets IsKey 96 (omega arith) key_sized same_key rows state.keys are.each is.rows.keys (sym are.spelled ∙ (content_says version state content is).keys)
+keys_read version state content is rows are = same_keys rows state.keys (keys_in content) are (keys_are version state content is)
 
 pub sas_are : (version : Version) (state : State) (content : List ℕ) → IsContent version state content
     → AreSaRows state.keys state.associations (associations_in version content)
@@ -301,7 +307,7 @@ sas_read version state content is rows are =
 pub one_state : (version : Version) (one other : State) (content : List ℕ) → IsContent version one content → IsContent version other content
     → one.channels ≡ other.channels → one.device ≡ other.device → one ≡ other
 one_state version one other content is also channels device =
-    let keys = keys_read version other content also one.keys (record { each = is.rows.keys; spelled = (content_says version one content is).keys }) in
+    let keys = keys_read version other content also one.keys (keys_are version one content is) in
     let rows = subst (λ (keys : List KeyRow). AreSaRows keys one.associations (associations_in version content)) keys (sas_are version one content is) in
     let associations = sas_read version other content also one.associations rows in
     λ i. state_of (keys i) (associations i) (channels i) (device i)
@@ -345,11 +351,12 @@ read_content version keys associations channels device content size octets room 
 
 -- ---- what is made of rows
 
-pub made : (result : Result State RowsFault) (value : State) (Good : State → Type 0) → MakesOf result KeepsRules value → (KeepsRules value → Good value) → IfOk result Good
-made (Ok x) value Good is good = subst Good (sym is.0) (good is.1)
-made (Err fault) value Good is good = tt
+pub made : {X : Type 0} (Keeps Good : X → Type 0) (result : Result X RowsFault) (value : X) → MakesOf result Keeps value
+    → (Keeps value → Good value) → IfOk result Good
+made Keeps Good (Ok x) value is good = subst Good (sym is.0) (good is.1)
+made Keeps Good (Err fault) value is good = tt
 
-pub not_made : (result : Result State RowsFault) (value : State) (Bad : Type 0) → MakesOf result KeepsRules value → (¬ KeepsRules value → Bad)
-    → IfErr result (λ fault. HasRowsCause fault Bad)
-not_made (Ok x) value Bad is bad = tt
-not_made (Err fault) value Bad is bad = whole_cause fault bad is
+pub not_made : {X : Type 0} (Keeps : X → Type 0) (result : Result X RowsFault) (value : X) (Bad : Type 0) → MakesOf result Keeps value
+    → (¬ Keeps value → Bad) → IfErr result (λ fault. HasRowsCause fault Bad)
+not_made Keeps (Ok x) value Bad is bad = tt
+not_made Keeps (Err fault) value Bad is bad = whole_cause fault bad is

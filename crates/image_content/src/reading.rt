@@ -9,7 +9,7 @@ ghost use Rattle.image_content.specs.Reading.{AreZero, key_count, sa_count, HasR
 ghost use Rattle.image_content.specs.Reading.{IsContent};
 
 use crate::layout::{KEYS_AT, associations_at, counts_end};
-use crate::reading_rows::{are_zeros, key_rows, sa_rows};
+use crate::reading_rows::{are_zeros, read_keys, sa_rows};
 use book_record::{KEY_ROW_LENGTH, SA_ROW_LENGTH};
 use book_rows::{RowsFault, state_of_rows};
 use sdls_base::{ChannelList, Version};
@@ -109,7 +109,7 @@ pub fn read_content(
     if !has_room(version, content) {
         return Err(RowsFault::Unfit);
     }
-    let keys = key_rows(alloc, keys_in(content))?;
-    let associations = sa_rows(alloc, keys.as_slice(), associations_in(version, content))?;
+    let keys = read_keys(alloc, keys_in(content))?;
+    let associations = sa_rows(alloc, &keys, associations_in(version, content))?;
     state_of_rows(alloc, keys, associations, channels, device)
 }

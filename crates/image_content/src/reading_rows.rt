@@ -1,9 +1,9 @@
 //! The rows of a content, read.
 
 ghost use Rattle.std.specs.Prelude.{◌≡◌, ◌↔◌, ◌*◌, ℕ, List, IsTrue, length, replicate, IfOk, IfErr};
-ghost use Rattle.std.specs.Option.{option_map, option_map_or};
+ghost use Rattle.std.specs.Option.{option_map_or};
 ghost use Rattle.key_book.specs.declared.key_row.KeyRow.{KeyRow};
-ghost use Rattle.key_book.specs.KeyBook.{row_of};
+ghost use Rattle.key_book.specs.KeyBook.{IsKeyBook, row_of};
 ghost use Rattle.sa_book.specs.declared.sa_row.SaRow.{SaRow};
 ghost use Rattle.replay_window.specs.Window.{new_window};
 ghost use Rattle.unit_state.specs.Restart.{restarted_high};
@@ -16,8 +16,8 @@ ghost use Rattle.image_content.specs.Reading.{IsRestartedRow, AreKeyRows, AreSaR
 use book_record::{
     KEY_ROW_LENGTH, KeyParts, RecordError, SA_ROW_LENGTH, SaParts, read_key_row, read_sa_row,
 };
-use book_rows::RowsFault;
-use key_book::{KeyOctets, KeyRow};
+use book_rows::{RowsFault, keys_of};
+use key_book::{KeyBook, KeyOctets, KeyRow};
 use replay_window::Window;
 use sa_book::SaRow;
 use sdls_base::{Direction, KeyId, NewSa};
@@ -60,23 +60,17 @@ fn key_row(alloc: Global, octets: &[u8]) -> Result<KeyRow, RowsFault>
     }
 }
 
-fn find(keys: &[KeyRow], id: KeyId) -> Option<&KeyRow>
-    ensures { option_map (λ row. row.now) result ≡ row_of keys.now id }
-{
-    keys.iter().find(|row| row.id == id)
-}
-
-fn floor_of(keys: &[KeyRow], id: KeyId) -> u64
+fn floor_of(keys: &KeyBook, id: KeyId) -> u64
     ensures { result ≡ option_map_or (λ row. row.floor) (row_of keys.now id) 0 }
 {
-    match find(keys, id) {
-        Some(row) => row.floor,
+    match keys.receive_floor(id) {
+        Some(floor) => floor,
         None => 0,
     }
 }
 
 /// The highest number that a restart gives an association.
-fn high_of(keys: &[KeyRow], parts: &SaParts) -> u64
+fn high_of(keys: &KeyBook, parts: &SaParts) -> u64
     ensures { result ≡ restarted_high keys.now parts.now.sa.direction parts.now.key 0 }
 {
     match (parts.sa.direction, parts.key) {
@@ -109,7 +103,7 @@ fn sa_row_of(parts: SaParts, high: u64) -> SaRow
 }
 
 /// The row of an association that these octets are, as a restart leaves it.
-fn sa_row(alloc: Global, keys: &[KeyRow], octets: &[u8]) -> Result<SaRow, RowsFault>
+fn sa_row(alloc: Global, keys: &KeyBook, octets: &[u8]) -> Result<SaRow, RowsFault>
     requires { length octets.now ≡ SA_ROW_LENGTH }
     ensures found { IfOk result (λ row. IsRestartedRow keys.now row octets.now) }
     ensures fault { IfErr result (λ fault. HasRowsCause fault
@@ -128,7 +122,7 @@ fn sa_row(alloc: Global, keys: &[KeyRow], octets: &[u8]) -> Result<SaRow, RowsFa
 }
 
 /// The rows of keys that these octets are, one behind the other.
-pub(crate) fn key_rows(alloc: Global, octets: &[u8]) -> Result<Vec<KeyRow>, RowsFault>
+fn key_rows(alloc: Global, octets: &[u8]) -> Result<Vec<KeyRow>, RowsFault>
     requires { (count : ℕ) × (length octets.now ≡ KEY_ROW_LENGTH * count) }
     ensures found { IfOk result (λ rows. AreKeyRows rows.items octets.now) }
     ensures fault { IfErr result (λ fault. HasRowsCause fault
@@ -144,12 +138,19 @@ pub(crate) fn key_rows(alloc: Global, octets: &[u8]) -> Result<Vec<KeyRow>, Rows
     Ok(rows)
 }
 
+/// The book of the keys whose rows these octets are, one behind the other.
+pub(crate) fn read_keys(alloc: Global, octets: &[u8]) -> Result<KeyBook, RowsFault>
+    requires { (count : ℕ) × (length octets.now ≡ KEY_ROW_LENGTH * count) }
+    ensures found { IfOk result (λ keys. AreKeyRows keys octets.now) }
+    ensures fault { IfErr result (λ fault. HasRowsCause fault
+        ((rows : List KeyRow) → IsKeyBook rows → ¬ AreKeyRows rows octets.now)) }
+{
+    let rows = key_rows(alloc, octets)?;
+    keys_of(alloc, rows)
+}
+
 /// The rows of associations that these octets are, one behind the other, as a restart leaves them.
-pub(crate) fn sa_rows(
-    alloc: Global,
-    keys: &[KeyRow],
-    octets: &[u8],
-) -> Result<Vec<SaRow>, RowsFault>
+pub(crate) fn sa_rows(alloc: Global, keys: &KeyBook, octets: &[u8]) -> Result<Vec<SaRow>, RowsFault>
     requires { (count : ℕ) × (length octets.now ≡ SA_ROW_LENGTH * count) }
     ensures found { IfOk result (λ rows. AreSaRows keys.now rows.items octets.now) }
     ensures fault { IfErr result (λ fault. HasRowsCause fault
