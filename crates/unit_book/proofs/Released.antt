@@ -1,17 +1,26 @@
 -- Releases, one key after another.
-use Rattle.std.proofs.Common.{◌≡◌, ℕ, zero, suc, ◌+◌, ◌<◌, ◌≤◌, List, [], ◌∷◌, ◌++◌, length, get_or, drop, Option, Some, None, Result, Ok, Err, refl, sym, ◌∙◌, ap, subst, arith}
+use Rattle.std.proofs.Common.{◌≡◌, ℕ, zero, suc, ◌+◌, ◌<◌, ◌≤◌, min, Bool, true, false, cond, List, [], ◌∷◌, ◌++◌, length, get_or, drop, Option, Some, None, Result, Ok, Err, refl, sym, ◌∙◌, ap, subst, arith}
 use Rattle.std.specs.Prelude.{MatchOption, MatchResult}
-use Rattle.std.specs.List.{slice_get}
-use Rattle.std.specs.Option.{option_map_or, option_and_then}
+use Rattle.std.specs.List.{find, slice_get, All}
+use Rattle.std.specs.Option.{option_map, option_map_or, option_and_then}
 use Rattle.std.proofs.lemmas.List.{append_assoc, drop_more}
+use Rattle.std.proofs.lemmas.List.Elements.{All-head, All-tail}
+use Rattle.std.proofs.lemmas.Option.{none-some, same_Some}
+use Rattle.sdls_base.proofs.Searches.{find-map, left_out}
+use Rattle.sdls_base.specs.declared.change.Change.TheVariants.{Marks}
 use Rattle.sdls_base.specs.declared.entry.Entry.{Entry}
+use Rattle.sdls_base.specs.declared.entry.Seen.TheVariants.{Word}
 use Rattle.key_book.specs.declared.key_row.KeyRow.{KeyRow}
+use Rattle.sa_book.specs.declared.sa_row.SaRow.{SaRow}
+use Rattle.sa_book.specs.Numbers.{with_floor, lowered}
+use Rattle.sa_book.specs.SaRefusal.{receives_with, receiver_with}
 use Rattle.unit_state.specs.declared.state.State.{State}
 use Rattle.unit_state.specs.Applied.{applied}
 use Rattle.unit_book.specs.declared.fault.BookFault.{BookFault}
 use Rattle.unit_book.specs.Book.{BookView, Made, Refuses}
-use Rattle.run_promise.specs.Numbers.{release_of, release_at, releases}
+use Rattle.run_promise.specs.Numbers.{released_floor, is_released, release_of, release_at, releases}
 use Rattle.unit_book.specs.Numbers.{EnteredInTurn, Releases}
+use Rattle.unit_book.specs.Receivers.{TellsReceivers}
 
 -- the releases before a place are made, and those from it on are what is left
 pub record SoFar (words : List ℕ) (place : ℕ) (old mid : BookView) : Type 0 where
@@ -123,3 +132,49 @@ releases_done words place old mid low so_far = record {
   are_made = so_far.are_made;
   ends = refl;
 }
+
+-- ---- a release leaves each association its key
+
+-- what each element fails nothing is found by
+pub none_found : {X : Type 0} (p : X → Bool) (xs : List X) → All (λ x. p x ≡ false) xs → find p xs ≡ None
+none_found p [] all = refl
+none_found p (x ∷ xs) all =
+    left_out (p x) (Some x) (find p xs) (All-head (λ x. p x ≡ false) x xs all) ∙ none_found p xs (All-tail (λ x. p x ≡ false) x xs all)
+
+row_receives : (b : Bool) (row : SaRow) (floor id : ℕ) → receives_with id (cond b (with_floor row floor) row) ≡ receives_with id row
+row_receives true row floor id = refl
+row_receives false row floor id = refl
+
+none_lowered : (rows : List SaRow) (key floor id : ℕ) → receiver_with rows id ≡ None → receiver_with (lowered rows key floor) id ≡ None
+none_lowered rows key floor id none =
+    let f : SaRow → SaRow = λ row. cond (receives_with key row) (with_floor row floor) row in
+    find-map (receives_with id) f rows (λ row. row_receives (receives_with key row) row floor id) ∙ ap (option_map f) none
+
+told_by : (state : State) (word : ℕ) (held : KeyRow) (b : Bool) (entry : Entry) (places : List Bool)
+    → cond b None (Some (record { index = None; seen = Word word; change = Marks held.id (min held.mark word) (released_floor state held) })) ≡ Some entry
+    → TellsReceivers state.associations places → TellsReceivers (applied state entry.change).associations places
+told_by state word held true entry places is tells = absurd (none-some entry is)
+told_by state word held false entry places is tells =
+    subst (λ (e : Entry). TellsReceivers (applied state e.change).associations places) (same_Some _ entry is)
+    (λ key not. none_lowered state.associations held.id (released_floor state held) key (tells key not))
+
+told_at : (state : State) (word : ℕ) (o : Option KeyRow) (entry : Entry) (places : List Bool) → option_and_then (release_of state word) o ≡ Some entry
+    → TellsReceivers state.associations places → TellsReceivers (applied state entry.change).associations places
+told_at state word None entry places is tells = absurd (none-some entry is)
+told_at state word (Some held) entry places is tells = told_by state word held (is_released state held word) entry places is tells
+
+told_then : (place word : ℕ) (mid new : BookView) (result : Result (Unit {0}) BookFault) (places : List Bool) (release : Option Entry)
+    → release_at mid.state place word ≡ release → IsRelease release mid new result → result ≡ Ok tt
+    → TellsReceivers mid.state.associations places → TellsReceivers new.state.associations places
+told_then place word mid new result places None is release ok tells =
+    subst (λ (b : BookView). TellsReceivers b.state.associations places) (sym release.1) tells
+told_then place word mid new (Err fault) places (Some entry) is release ok tells = absurd cc
+told_then place word mid new (Ok done) places (Some entry) is (position, made) ok tells =
+    subst (λ (state : State). TellsReceivers state.associations places) (sym (state_after entry mid new position made))
+    (told_at mid.state word (slice_get mid.state.keys place) entry places is tells)
+
+pub still_tells : (place word : ℕ) (mid new : BookView) (result : Result (Unit {0}) BookFault) (places : List Bool)
+    → IsRelease (release_at mid.state place word) mid new result → result ≡ Ok tt
+    → TellsReceivers mid.state.associations places → TellsReceivers new.state.associations places
+still_tells place word mid new result places release ok tells =
+    told_then place word mid new result places (release_at mid.state place word) refl release ok tells

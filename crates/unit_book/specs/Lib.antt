@@ -5,4 +5,5 @@ pub mod GoesOn
 pub mod Epoch
 pub mod Needs
 pub mod Numbers
+pub mod Receivers
 pub mod Records

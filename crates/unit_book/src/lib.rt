@@ -20,6 +20,7 @@ mod laws;
 mod log;
 mod next;
 mod opening_image;
+mod receivers;
 mod releasing;
 mod reserving;
 mod showing;

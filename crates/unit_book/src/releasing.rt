@@ -2,26 +2,22 @@
 ghost use Rattle.std.specs.Prelude.{◌≡◌, ℕ, ◌<◌, ◌≤◌, Ok, MatchOption, MatchResult, IfErr, Some, length, slice_get};
 ghost use Rattle.std.specs.Prelude.{slice_index};
 ghost use Rattle.std.specs.Option.{option_map};
-ghost use Rattle.sa_book.specs.SaRefusal.{receives_with, receiver_with};
+ghost use Rattle.sa_book.specs.SaRefusal.{receiver_with};
 ghost use Rattle.unit_book.specs.Book.{IsKept, Made, Refuses};
 ghost use Rattle.unit_book.specs.GoesOn.{GoesOn, TellsRise};
 ghost use Rattle.run_promise.specs.Numbers.{released_floor, release_of, release_at};
 ghost use Rattle.unit_book.specs.Numbers.{Releases};
+ghost use Rattle.unit_book.specs.Receivers.{TellsReceivers};
 
 use crate::book::Book;
 use crate::fault::BookFault;
 use crate::next::Next;
+use crate::receivers::{Receivers, receives_with};
 use key_book::KeyRow;
 use sa_book::SaRow;
-use sdls_base::{Change, Direction, Entry, KeyId, Seen};
+use sdls_base::{Change, Entry, KeyId, Seen};
 use sdls_outside::Site;
 use unit_state::State;
-
-fn is_receiver(row: &SaRow, key: KeyId) -> bool
-    ensures { result ≡ receives_with key row.now }
-{
-    row.direction == Direction::Receive && row.key == Some(key)
-}
 
 /// The association that receives with a key.
 fn receiver(state: &State, key: KeyId) -> Option<&SaRow>
@@ -31,13 +27,17 @@ fn receiver(state: &State, key: KeyId) -> Option<&SaRow>
         .associations
         .rows()
         .iter()
-        .find(|row| is_receiver(row, key))
+        .find(|row| receives_with(row, key))
 }
 
 /// The floor that a release of the key leaves.
-fn released_floor(state: &State, held: &KeyRow) -> u64
+fn released_floor(state: &State, receivers: &Receivers, held: &KeyRow) -> u64
+    requires { TellsReceivers state.now.associations receivers.now.places }
     ensures { result ≡ released_floor state.now held.now }
 {
+    if !receivers.may_have(held.id) {
+        return held.floor;
+    }
     match receiver(state, held.id) {
         Some(row) => row.window.high,
         None => held.floor,
@@ -45,11 +45,12 @@ fn released_floor(state: &State, held: &KeyRow) -> u64
 }
 
 /// The entry that releases a key whose word `next` stands so, or `None` where nothing would move.
-fn release_entry(state: &State, word: u64, held: &KeyRow) -> Option<Entry>
+fn release_entry(state: &State, receivers: &Receivers, word: u64, held: &KeyRow) -> Option<Entry>
+    requires { TellsReceivers state.now.associations receivers.now.places }
     ensures { result ≡ release_of state.now word held.now }
 {
     let mark = held.mark.min(word);
-    let floor = released_floor(state, held);
+    let floor = released_floor(state, receivers, held);
     if mark == held.mark && floor == held.floor {
         return None;
     }
@@ -65,19 +66,26 @@ fn release_entry(state: &State, word: u64, held: &KeyRow) -> Option<Entry>
 }
 
 /// The entry that releases the key at a place, or `None` where nothing would move.
-fn release_entry_at(state: &State, place: usize, word: u64) -> Option<Entry>
-    requires { place < length state.now.keys }
+fn release_entry_at(state: &State, receivers: &Receivers, place: usize, word: u64) -> Option<Entry>
+    requires there { place < length state.now.keys }
+    requires receivers { TellsReceivers state.now.associations receivers.now.places }
     ensures { result ≡ release_at state.now place word }
 {
-    release_entry(state, word, &state.keys.rows()[place])
+    release_entry(state, receivers, word, &state.keys.rows()[place])
 }
 
 impl<O: Site> Book<O> {
     /// Releases the key at a place.
-    fn release_at(&mut self, place: usize, word: u64) -> Result<(), BookFault>
+    fn release_at(
+        &mut self,
+        receivers: &Receivers,
+        place: usize,
+        word: u64,
+    ) -> Result<(), BookFault>
         requires kept { IsKept O.told self.old }
         requires there { place < length self.old.state.keys }
         requires some { 1 ≤ word }
+        requires receivers { TellsReceivers self.old.state.associations receivers.now.places }
         ensures kept { IsKept O.told self.new }
         ensures made { MatchOption (release_at self.old.state place word) ((result ≡ Ok tt) × (self.new ≡ self.old))
             (λ entry. MatchResult result (λ _. (position : ℕ) × Made entry self.old self.new position)
@@ -88,7 +96,7 @@ impl<O: Site> Book<O> {
         ensures puts { self.new.site.put_faults ≡ self.old.site.put_faults }
         ensures later { self.old.site.faults ≤ self.new.site.faults }
     {
-        let Some(entry) = release_entry_at(&self.state, place, word) else {
+        let Some(entry) = release_entry_at(&self.state, receivers, place, word) else {
             return Ok(());
         };
         self.may_enter()?;
@@ -114,8 +122,9 @@ impl<O: Site> Book<O> {
         ensures puts { self.new.site.put_faults ≡ self.old.site.put_faults }
         ensures later { self.old.site.faults ≤ self.new.site.faults }
     {
+        let receivers = Receivers::of(self.state.associations.rows());
         for place in 0..self.state.keys.rows().len() {
-            match self.release_at(place, next[place]) {
+            match self.release_at(&receivers, place, next[place]) {
                 Ok(()) => {}
                 Err(fault) => return Err(fault),
             }

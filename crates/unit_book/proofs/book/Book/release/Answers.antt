@@ -1,7 +1,9 @@
-use Rattle.std.proofs.Common.{◌≡◌, ◌<◌, ◌≤◌, length, refl, arith, ap, ◌∙◌}
+use Rattle.std.proofs.Common.{◌≡◌, ◌<◌, ◌≤◌, List, length, get_or, refl, arith, ap, subst, ◌∙◌}
+use Rattle.sa_book.specs.declared.sa_row.SaRow.{SaRow}
 use Rattle.unit_book.specs.Book.{BookView}
 use Rattle.unit_book.proofs.GoingOn.{goes_same, goes_then}
-use Rattle.unit_book.proofs.Released.{none_so_far, so_far_more, releases_refused, releases_done}
+use Rattle.unit_book.specs.Receivers.{TellsReceivers}
+use Rattle.unit_book.proofs.Released.{none_so_far, so_far_more, releases_refused, releases_done, still_tells}
 use Rattle.unit_book.proofs.book.Book.release.Goals as goal
 
 pub loop-place-init : goal.loop-place-init
@@ -9,6 +11,8 @@ loop-place-init g c = record {
   kept = c.requires.kept;
   keys = refl;
   so_far = none_so_far c.args.next.now c.args.self.now;
+  receivers = subst (λ (rows : List SaRow). TellsReceivers rows c.of-receivers.result.places)
+      (c.rows.ensures.rows ∙ ap (λ (b : BookView). b.state.associations) c.self.view_is) c.of-receivers.ensures;
   goes_on = goes_same c.args.self.now;
   puts = refl;
   later = omega arith;
@@ -27,6 +31,8 @@ loop-place-preserved g c =
       keys = c.release_at.ensures.keys ∙ c.loop-place.invariant.keys;
       so_far = so_far_more c.args.next.now c.loop-place.place 0 c.args.self.now c.loop-place.self c.release_at.new.self
           c.release_at.result (omega arith) c.loop-place.invariant.so_far c.release_at.ensures.made c.in-Ok.is;
+      receivers = still_tells c.loop-place.place (get_or c.args.next.now c.loop-place.place 0) c.loop-place.self c.release_at.new.self
+          c.release_at.result c.of-receivers.result.places c.release_at.ensures.made c.in-Ok.is c.loop-place.invariant.receivers;
       goes_on = goes_then c.args.self.now c.loop-place.self c.release_at.new.self c.loop-place.invariant.goes_on c.release_at.ensures.goes_on;
       puts = c.release_at.ensures.puts ∙ c.loop-place.invariant.puts;
       later = omega arith;
