@@ -23,6 +23,7 @@ pub mod Appends
 pub mod Appended
 pub mod Again
 pub mod Reading
+pub mod Runs
 pub mod Verdicts
 pub mod Beginning
 pub mod InitialImage

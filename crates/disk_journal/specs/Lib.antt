@@ -2,6 +2,7 @@ pub mod Gates
 pub mod Banks
 pub mod Header
 pub mod Image
+pub mod Runs
 pub mod Fault
 pub mod Forms
 pub mod Changes

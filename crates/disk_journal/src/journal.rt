@@ -15,17 +15,19 @@ ghost use Rattle.disk_journal.specs.Fault.{image_fault};
 ghost use Rattle.disk_journal.specs.Forms.{Becomes, Settles};
 ghost use Rattle.disk_journal.specs.Journal.{JournalView, IsJournalOf, IsOpen, IsClosed, IsSettled, HasFault, HasSiteFault};
 ghost use Rattle.disk_journal.specs.Rest.{IsRest};
+ghost use Rattle.disk_journal.specs.Runs.{Has, IsRunOf};
 
 use crate::fault::JournalFault;
 use crate::layout::{
-    BANKS_AT, Bank, CONTENT_AT, FIRST_GENERATION, HeaderForm, Layout, next_generation,
+    BANKS_AT, Bank, CONTENT_AT, FIRST_GENERATION, HeaderForm, Layout, RUN, next_generation,
 };
 use crate::migrating::migrate_banks;
 use crate::opening_image::{Verdict, inspect_synced};
+use crate::record_run::RecordRun;
 use crate::settling::{clear_old_banks, clear_spare, close_gate, close_migration, close_slot};
 use crate::storing::store_record;
 use crate::turning::turn_banks;
-use image_parts::{HEADER_LENGTH, MOST_SLOTS, PLAN_ROOM};
+use image_parts::{HEADER_LENGTH, MOST_SLOTS, PLAN_ROOM, SLOT_LENGTH};
 use sdls_base::{BODY_LENGTH, CONTENT_LENGTH_TWO, Version};
 use sdls_outside::{Failed, Site};
 use std::marker::Model;
@@ -209,6 +211,51 @@ impl Journal {
             Ok(()) => Ok(body),
             Err(Failed) => Err(JournalFault::SiteFault(site.faults())),
         }
+    }
+
+    /// Reads the slots of the records from `index` on, as many as there are and have room in the run.
+    fn read_run<O: Site>(&self, site: &mut O, run: &mut RecordRun, index: u32) -> Result<(), Failed>
+        requires below { index < self.now.used }
+        requires opened { IsTrue O.told → IsOpen (O.trace site.old) self.now }
+        ensures has { OnOk result (Has run.new index) }
+        ensures run { IsTrue O.told → OnOk result (IsRunOf (O.trace site.old).now.image run.new) }
+        ensures same { IsTrue O.told → O.trace site.new ≡ O.trace site.old }
+        ensures cause { HasCause (O.faults site.old) (O.faults site.new) result }
+        ensures puts { O.put_faults site.new ≡ O.put_faults site.old }
+    {
+        let count = RUN.min(self.used - index);
+        let slots = &mut run.slots[..SLOT_LENGTH as usize * count as usize];
+        site.read_at(self.record_offset(index), slots)?;
+        run.first = index;
+        run.end = index + count;
+        Ok(())
+    }
+
+    /// Reads the body of a record as `body` does. If the record is not in the run, the slots from it on are read into
+    /// the run, so that the site is not called for each of them.
+    pub fn body_in<O: Site>(
+        &self,
+        site: &mut O,
+        run: &mut RecordRun,
+        index: u32,
+    ) -> Result<[u8; BODY_LENGTH], JournalFault>
+        requires below { index < self.now.used }
+        requires opened { IsTrue O.told → IsOpen (O.trace site.old) self.now }
+        requires run { IsTrue O.told → IsRunOf (O.trace site.old).now.image run.old }
+        ensures body { IsTrue O.told → IfOk result (λ body. slice_get (records (O.trace site.old).now.image) index
+            ≡ Some body) }
+        ensures run { IsTrue O.told → OnOk result (IsRunOf (O.trace site.old).now.image run.new) }
+        ensures same { IsTrue O.told → O.trace site.new ≡ O.trace site.old }
+        ensures fault { HasSiteFault (O.faults site.old) (O.faults site.new) result }
+        ensures puts { O.put_faults site.new ≡ O.put_faults site.old }
+    {
+        if !run.has(index) {
+            match self.read_run(site, run, index) {
+                Ok(()) => {}
+                Err(Failed) => return Err(JournalFault::SiteFault(site.faults())),
+            }
+        }
+        Ok(run.body(index))
     }
 
     /// Where the record with this index begins.

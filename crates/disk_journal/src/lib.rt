@@ -20,6 +20,7 @@ mod laws;
 mod layout;
 mod migrating;
 mod opening_image;
+mod record_run;
 mod settling;
 mod storing;
 mod turning;
@@ -37,4 +38,5 @@ pub use layout::{
     BANKS_AT, Bank, CONTENT_AT, FIRST_GENERATION, GENERATION_AT, GENERATION_LENGTH, HeaderForm,
     Layout, MAGIC_ONE, MAGIC_TWO, MIGRATED_AT,
 };
+pub use record_run::RecordRun;
 pub use sdls_base::BODY_LENGTH;

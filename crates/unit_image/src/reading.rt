@@ -10,13 +10,14 @@ ghost use Rattle.book_rows.specs.Rows.{HasRowsCause};
 ghost use Rattle.sdls_base.specs.Version.{content_length_of};
 ghost use Rattle.disk_journal.specs.Image.{records, held, record_at};
 ghost use Rattle.disk_journal.specs.Journal.{IsOpen};
+ghost use Rattle.disk_journal.specs.Runs.{IsRunOf};
 ghost use Rattle.unit_image.specs.Shows.{SaysBarePlan, IsContentUnder, SaysNone};
 ghost use Rattle.unit_image.specs.OpeningImage.{as_open_fault, IsNoContent, IsTextCause};
 
 use crate::fault::OpenFault;
 use book_record::{RecordError, read_record};
 use book_rows::RowsFault;
-use disk_journal::{Journal, JournalFault};
+use disk_journal::{Journal, JournalFault, RecordRun};
 use image_content::read_content;
 use image_parts::{PLAN_AT, PLAN_ROOM, SLOT_COUNT_AT};
 use sdls_base::{BODY_LENGTH, CONTENT_LENGTH_TWO, Change, ChannelList, NoMemory, Version};
@@ -171,14 +172,17 @@ fn take_record<O: Site>(
     alloc: Global,
     journal: &Journal,
     site: &mut O,
+    run: &mut RecordRun,
     index: u32,
     state: &mut State,
 ) -> Result<(), OpenFault>
     requires below { index < journal.now.used }
     requires opened { IsTrue O.told → IsOpen (O.trace site.old) journal.now }
+    requires run { IsTrue O.told → IsRunOf (O.trace site.old).now.image run.old }
     requires rules { KeepsRules state.old }
     ensures taken { IsTrue O.told → OnOk result
         (TakesRecord (records (O.trace site.old).now.image) index state.old state.new) }
+    ensures run { IsTrue O.told → OnOk result (IsRunOf (O.trace site.old).now.image run.new) }
     ensures rules { KeepsRules state.new }
     ensures same { IsTrue O.told → O.trace site.new ≡ O.trace site.old }
     ensures puts { O.put_faults site.new ≡ O.put_faults site.old }
@@ -186,7 +190,7 @@ fn take_record<O: Site>(
         → IsNoChangeAt (records (O.trace site.old).now.image) index state.old
         × (offset ≡ record_at (O.trace site.old).now.image index)) result }
 {
-    let body = match journal.body(site, index) {
+    let body = match journal.body_in(site, run, index) {
         Ok(body) => body,
         Err(fault) => return Err(open_fault(fault)),
     };
@@ -218,8 +222,9 @@ pub(crate) fn take_records<O: Site>(
         → (place : ℕ) × IsBadRecord state.old (held (O.trace site.old).now.image).records place
         × (offset ≡ record_at (O.trace site.old).now.image place)) result }
 {
+    let mut run = RecordRun::new();
     for index in 0..journal.used() {
-        take_record(alloc, journal, site, index, state)?;
+        take_record(alloc, journal, site, &mut run, index, state)?;
     }
     Ok(())
 }
