@@ -23,7 +23,7 @@ use Rattle.unit_plan.specs.PlanLines.{PlanLines}
 use Rattle.unit_state.specs.declared.state.State.{State}
 use Rattle.unit_state.specs.State.{KeepsRules}
 use Rattle.unit_state.specs.History.{after, after_first}
-use Rattle.run_promise.specs.Answers.{codes_of}
+use Rattle.run_promise.specs.Answers.{SaysSiteFailed, codes_of}
 use Rattle.run_promise.specs.Fits.{Course, Fits}
 use Rattle.run_promise.specs.Numbers.{releases, mark_at}
 use Rattle.run_promise.specs.Run.{IsLegalHistory, NearWord}
@@ -39,7 +39,7 @@ use Rattle.run_promise.specs.Alone.{OneLane, IsExact}
 use Rattle.run_promise.specs.declared.end.RunEnd.{RunEnd}
 use Rattle.run_promise.specs.declared.end.RunEnd.TheVariants.{Ended, SiteFault}
 use Rattle.run_promise.specs.Call.{CallSeen, ShowsAtEntry, image_at_entry}
-use Rattle.run_promise.specs.Account.{Account, SaysSiteFailed, begin_of, course_of, deeds_from, deeds_in, due_octets, end_answer, end_octets, end_status}
+use Rattle.run_promise.specs.Account.{Account, begin_of, course_of, deeds_from, deeds_in, due_octets, end_answer, end_octets, end_status}
 use Rattle.run_promise.specs.Causes.{TellsEnd}
 use Rattle.run_promise.specs.Ends.{IsReleased, IsSoundCall, RunEnds, due_releases}
 use Rattle.law_runs.specs.Says.{IsUnfailed, NoneFails, NoneWants}

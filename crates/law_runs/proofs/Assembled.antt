@@ -1,5 +1,5 @@
 -- The run is sound: what its worker did, with the releases behind it.
-use Rattle.std.proofs.Common.{◌≡◌, ℕ, ◌+◌, ◌<◌, ◌≤◌, List, [], ◌++◌, length, refl, ap, arith, take, ◌-◌}
+use Rattle.std.proofs.Common.{◌≡◌, ℕ, ◌+◌, ◌<◌, ◌≤◌, List, [], ◌++◌, length, refl, ap, arith, ◌-◌}
 use Rattle.std.specs.List.{All, AllPairs, slice_index_or}
 use Rattle.sdls_base.specs.declared.TheConstants.{MOST_KEYS}
 use Rattle.sdls_base.specs.declared.entry.Entry.{Entry}
@@ -42,6 +42,8 @@ behind_ended begin old new es rest a b is s t h = record {
   counted = h.counted;
   counted_before = h.counted_before;
   counts = h.counts;
+  stopped = h.stopped;
+  failed = h.failed;
   epochs = λ x y.
       let k = h.epochs x y in
       let l = told_kept a.task.kind _ _ a.answer.position es rest (λ e. let w = (s.entry e).1 in let n : length (entries_in new) ≡ length es = ap length is in omega arith) x in

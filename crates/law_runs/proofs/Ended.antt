@@ -25,7 +25,7 @@ use Rattle.run_promise.specs.declared.end.RunEnd.{RunEnd}
 use Rattle.run_promise.specs.declared.end.RunEnd.TheVariants as ends
 use Rattle.run_promise.specs.Call.{CallSeen, ShowsAtEntry, sunk_since}
 use Rattle.run_promise.specs.Site.{SiteSeen}
-use Rattle.run_promise.specs.Account.{Account, SaysSiteFailed, answers_of_first, course_of, deeds_from, due_octets, end_answer, end_octets, end_status}
+use Rattle.run_promise.specs.Account.{Account, answers_of_first, course_of, deeds_from, due_octets, end_answer, end_octets, end_status}
 use Rattle.run_promise.specs.Causes.{CameBy, EndsWithRelease, IsToldFirst, PutsDue, PutsFront, StoodUntilRelease, TellsEnd}
 use Rattle.law_runs.specs.Doing.{IsFounded, octets_put}
 use Rattle.law_runs.specs.Coming.{HasBroken, HasPut, StopsAtFullHistory, PutsBy, EndsReading}
@@ -40,7 +40,7 @@ use Rattle.law_runs.proofs.Placed.{IsBefore, answers_all, places_ascend}
 use Rattle.law_runs.specs.AtEnd.{EndsRun, course_at_end, StaysCovered}
 use Rattle.law_runs.specs.Release.{AreReleases}
 use Rattle.law_runs.specs.Settled.{AreSettled}
-use Rattle.run_promise.specs.Answers.{IsUnmade}
+use Rattle.run_promise.specs.Answers.{IsUnmade, SaysSiteFailed}
 use Rattle.run_promise.specs.Sound.{IsNearBehind, IsSound, deeds_octets}
 use Rattle.law_runs.proofs.Stepping.{octets_of}
 use Rattle.run_promise.specs.Alone.{OneLane, IsExact}

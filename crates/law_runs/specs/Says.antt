@@ -10,7 +10,8 @@ use Rattle.unit_state.specs.declared.state.State.{State}
 use Rattle.run_promise.specs.declared.limits.TheConstants.{MOST_ENTRIES}
 use Rattle.run_promise.specs.declared.end.RunEnd.TheVariants.{Ended, Malformed, SourceFault, SessionFull}
 use Rattle.run_promise.specs.Call.{CallSeen, ShowsAtEntry, image_at_entry}
-use Rattle.run_promise.specs.Account.{AnsweredEach, HandledAll, SaysSiteFailed, begin_of, deeds_in, due_octets, Account}
+use Rattle.run_promise.specs.Answers.{SaysSiteFailed}
+use Rattle.run_promise.specs.Account.{AnsweredEach, HandledAll, begin_of, deeds_in, due_octets, Account}
 use Rattle.run_promise.specs.Machine.{Move}
 use Rattle.run_promise.specs.Serving.{ServesAll}
 use Rattle.sdls_base.specs.declared.entry.Entry.{Entry}

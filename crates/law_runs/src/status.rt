@@ -9,7 +9,8 @@ ghost use Rattle.unit_plan.specs.PlanLines.{PlanLines};
 ghost use Rattle.unit_image.specs.Shows.{ShowsNone};
 ghost use Rattle.run_promise.specs.declared.end.RunEnd.TheVariants as ends;
 ghost use Rattle.run_promise.specs.Call.{CallSeen, image_at_entry};
-ghost use Rattle.run_promise.specs.Account.{SaysSiteFailed, due_octets, end_status};
+ghost use Rattle.run_promise.specs.Account.{due_octets, end_status};
+ghost use Rattle.run_promise.specs.Answers.{SaysSiteFailed};
 ghost use Rattle.run_promise.specs.Ends.{RunEnds};
 ghost use Rattle.law_runs.specs.Says.{DidAll, GoesToItsEnd, EndsWithFullHistory, IsLeftRefused, IsUnhindered};
 

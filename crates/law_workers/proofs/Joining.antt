@@ -2,7 +2,7 @@
 use Rattle.std.proofs.Common.{◌≡◌, ◌⊎◌, ℕ, ◌+◌, ◌<◌, ◌≤◌, List, [], ◌∷◌, ◌++◌, length, take, Some, Bool, false, true, refl, sym, ◌∙◌, ap, subst, inl, inr, arith, le_trans, append_assoc, append-nil, if◌then◌else◌, ◌||◌, max, IsTrue, ◌&&◌, nat_le, ◌-◌}
 use Rattle.std.specs.List.{slice_index_or}
 use Rattle.std.proofs.lemmas.Bool.{cases_lt}
-use Rattle.std.proofs.lemmas.List.{take-append-le}
+use Rattle.std.proofs.lemmas.List.{take-append-le, take_all}
 use Rattle.sdls_base.specs.Numbers.{times}
 use Rattle.sdls_base.specs.declared.entry.Logged.{Logged}
 use Rattle.counter_table.specs.declared.view.Opening.{Opening}
@@ -15,16 +15,18 @@ use Rattle.counter_table.specs.Turn.{stands, epoch_seen}
 use Rattle.record_io.specs.declared.records.Record.{Record}
 use Rattle.run_promise.specs.Log.{entries_of}
 use Rattle.run_promise.specs.Answers.{Uses}
+use Rattle.run_promise.specs.Fits.{Fits}
 use Rattle.run_promise.specs.Begin.{Begin}
-use Rattle.law_workers.specs.Views.{Gains, no_gains, both_gains, log_of, entries_in, IsRow, KnowsMore, Gained, keeping, starting, meeting, Meets}
+use Rattle.law_workers.specs.Views.{Gains, no_gains, both_gains, log_of, entries_in, IsBetween, IsRow, KnowsMore, Gained, keeping, starting, meeting, Meets}
 use Rattle.law_workers.specs.Work.{Works, Worked}
 use Rattle.run_promise.specs.Deed.{Deed, StandsBehind, InTurn, is_protected, tells_entry, tells_epoch}
-use Rattle.law_workers.specs.Deeds.{StandsWithin, Agree, MadeLast, IsSpent, Answers, Does, AtOnce, AllBoth}
+use Rattle.law_workers.specs.Deeds.{StandsWithin, Agree, MadeLast, IsSpent, Answers, Does, AtOnce, AllBoth, course_in}
 use Rattle.law_workers.proofs.Logs.{stands_both, times_both, piece_count_both, last_once, entries_low}
+use Rattle.law_workers.proofs.Faults.{fault_rose, fault_tells}
 use Rattle.law_workers.proofs.Working.{widen_works, widen_answers, merge_works, merge_answers, merge_unmade, widen_unmade, row_later, told_later, closed}
 use Rattle.record_io.specs.declared.kinds.RecordKind.{RecordKind}
 use Rattle.record_io.specs.declared.kinds.RecordKind.TheVariants.{Protect, Open, Command, Monitor}
-use Rattle.record_io.specs.declared.code.TheConstants.{EXHAUSTED}
+use Rattle.record_io.specs.declared.code.TheConstants.{EXHAUSTED, SITE_FAULT}
 use Rattle.frame_checks.specs.ProtectingFrames.{has_channel}
 use Rattle.unit_state.specs.History.{epoch_after}
 
@@ -196,12 +198,35 @@ module _ (begin : Begin) (u v w : View) (ts us : List Record) (ds es : List Deed
       d.answer.position (epoch_after (take d.answer.position (entries_in v))) told in
       let high = (s.epoch ordered).1 in omega arith
 
-  behind : (d e : Deed) → StandsWithin begin u v d → StandsWithin begin v w e → StandsBehind begin (entries_in w) d e
-  behind d e s t = record {
+  -- a last entry that was made behind the earlier ones
+  made_behind : MadeLast w b.gains → length (entries_in v) < length (entries_in w)
+  made_behind q =
+      let (from, to) = b.works.made q.place q.is_made in
+      let rest : List Logged = b.grows.earlier.log.0 in
+      let log_is : log_of w ≡ log_of v ++ rest = b.grows.earlier.log.1 in
+      let here : take (length (log_of v)) (log_of w) ≡ log_of v =
+      ap (take (length (log_of v))) log_is ∙ (take-append-le (length (log_of v)) (log_of v) rest (omega arith) ∙ take_all (length (log_of v)) (log_of v) (omega arith)) in
+      let size : length (entries_of (take (length (log_of v)) (log_of w))) ≡ length (entries_in v) = ap (λ (l : List Logged). length (entries_of l)) here in
+      let below = entries_low (log_of w) (length (log_of v)) q.place from in
+      let last = q.last.0 in omega arith
+
+  behind : (d e : Deed) → StandsWithin begin u v d → StandsWithin begin v w e → Fits (IsBetween begin u v) (course_in begin v) d.task d.answer
+      → Fits (IsBetween begin v w) (course_in begin w) e.task e.answer → (e.answer.code ≡ SITE_FAULT → MadeLast w b.gains)
+      → StandsBehind begin (entries_in w) d e
+  behind d e s t fit later last = record {
     entries = λ p q. let x = s.entry p in let y = t.entry q in omega arith;
     counted = λ p q. let x = s.entry p in let y = t.counted q in omega arith;
     counted_before = λ p q. let x = s.counted p in let y = t.entry q in omega arith;
     counts = λ p q. let x = s.counted p in let y = t.counted q in omega arith;
+    stopped = λ p q.
+        let (code, tells) = fault_tells (IsBetween begin u v) (course_in begin v) d.task d.answer fit p in
+        let risen = fault_rose (IsBetween begin u v) (course_in begin v) d.task d.answer fit p in
+        let same = closed begin u u v w (grows_itself u) b.grows risen in
+        let at : d.answer.position ≡ length (entries_in v) = tells.position_is in let y = t.counted q in omega arith;
+    failed = λ p q.
+        let (code, tells) = fault_tells (IsBetween begin v w) (course_in begin w) e.task e.answer later (inl q) in
+        let at : e.answer.position ≡ length (entries_in w) = tells.position_is in
+        let more = made_behind (last q) in let x = s.counted p in omega arith;
     epochs = λ p q. let x = s.epoch p in let y = t.epoch q in let same = told_later begin u u v w (grows_itself u) b.grows d s p in omega arith;
     epochs_before = λ p q. let low = seen_before d s p in let high = t.behind q in omega arith;
     numbers = λ lane c c' k k' keys.
@@ -222,20 +247,7 @@ module _ (begin : Begin) (u v w : View) (ts us : List Record) (ds es : List Deed
 
   apart_faults : MadeLast v a.gains → MadeLast w b.gains → ⊥
   apart_faults p q =
-      let (from, to) = b.works.made q.place q.is_made in
-      let same = closed begin u u v w (grows_itself u) b.grows p.risen in
-      let rest : List Logged = b.grows.earlier.log.0 in
-      let log_is : log_of w ≡ log_of v ++ rest = b.grows.earlier.log.1 in
-      let here : take (length (log_of v)) (log_of w) ≡ log_of v =
-      ap (take (length (log_of v))) log_is ∙ (take-append-le (length (log_of v)) (log_of v) rest (omega arith) ∙ take_whole (log_of v)) in
-      let size : length (entries_of (take (length (log_of v)) (log_of w))) ≡ length (entries_in v) = ap (λ (l : List Logged). length (entries_of l)) here in
-      let below = entries_low (log_of w) (length (log_of v)) q.place from in
-      let last = q.last.0 in
-      omega arith
-    where
-      take_whole : {X : Type 0} (l : List X) → take (length l) l ≡ l
-      take_whole [] = refl
-      take_whole (x ∷ l) = ap (λ z. x ∷ z) (take_whole l)
+      let same = closed begin u u v w (grows_itself u) b.grows p.risen in let more = made_behind q in omega arith
 
   -- what was done one after the other
   pub does_then : Does begin u w (ts ++ us) (ds ++ es)
@@ -247,7 +259,7 @@ module _ (begin : Begin) (u v w : View) (ts us : List Record) (ds es : List Deed
       let cross : AllBoth (Agree begin (entries_in w)) ds es = λ i d l j e m. record {
         pairs = λ ne k n. apart_pairs (slice_index_or ds i d) (slice_index_or es j e) k n (a.answers.used i d l) (b.answers.used j e m);
         faults = λ ne p q. apart_faults (a.answers.failed i d l p) (b.answers.failed j e m q);
-        order = λ lt turn. behind _ _ (a.answers.stand i d l) (b.answers.stand j e m);
+        order = λ lt turn. behind _ _ (a.answers.stand i d l) (b.answers.stand j e m) (a.answers.fit i d l) (b.answers.fit j e m) (b.answers.failed j e m);
       } in
       record {
         gains = both_gains a.gains b.gains;

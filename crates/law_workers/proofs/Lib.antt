@@ -1,6 +1,7 @@
 pub mod Histories
 pub mod Fitting
 pub mod Logs
+pub mod Faults
 pub mod Working
 pub mod Joining
 pub mod Ordering

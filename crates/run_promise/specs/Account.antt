@@ -3,7 +3,7 @@ use Rattle.std.specs.Prelude.{◌≡◌, ◌⊎◌, ℕ, ◌<◌, ◌≤◌, nat
 use Rattle.std.specs.Prelude.{take}
 use Rattle.sdls_base.specs.declared.TheConstants.{MOST_KEYS}
 use Rattle.record_io.specs.declared.answers.Answer.{Answer}
-use Rattle.record_io.specs.declared.code.TheConstants.{END, SITE_FAULT, STOPPED}
+use Rattle.record_io.specs.declared.code.TheConstants.{END}
 use Rattle.record_io.specs.declared.kinds.RecordKind.TheVariants.{Monitor}
 use Rattle.record_io.specs.declared.status.TheConstants as status
 use Rattle.record_io.specs.Answers.{answer_octets, answers_octets}
@@ -66,10 +66,6 @@ end_octets call told = answer_octets (end_answer told (length call.entries))
 -- the octets that are due: those of the answers and of End
 abbrev pub due_octets : CallSeen → Account → List ℕ
 due_octets call account = answers_octets account.answers ++ end_octets call account.told
-
--- the answer says that the site has failed
-abbrev pub SaysSiteFailed : Answer → Type 0
-SaysSiteFailed answer = (answer.code ≡ SITE_FAULT) ⊎ (answer.code ≡ STOPPED)
 
 -- ---- records and answers
 

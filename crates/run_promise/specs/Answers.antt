@@ -103,6 +103,10 @@ Uses answer key number = ((answer.code ≡ PROTECTED) ⊎ ((answer.code ≡ DONE
 abbrev pub Accepts : Answer → ℕ → ℕ → Type 0
 Accepts answer key number = (answer.code ≡ ACCEPTED) × (answer.key ≡ key) × (answer.number ≡ number)
 
+-- the answer says that the site has failed
+abbrev pub SaysSiteFailed : Answer → Type 0
+SaysSiteFailed answer = (answer.code ≡ SITE_FAULT) ⊎ (answer.code ≡ STOPPED)
+
 -- The code says that the record made no entry: the site had failed before, or memory ran out.
 abbrev pub IsUnmade : ℕ → Type 0
 IsUnmade code = (code ≡ STOPPED) ⊎ (code ≡ NO_MEMORY)

@@ -7,8 +7,10 @@ use Rattle.record_io.specs.declared.answers.Answer.{Answer}
 use Rattle.record_io.specs.declared.kinds.RecordKind.{RecordKind}
 use Rattle.record_io.specs.declared.kinds.RecordKind.TheVariants.{Protect, Open, Command, Monitor}
 use Rattle.record_io.specs.declared.code.TheConstants.{PROTECTED, ACCEPTED, MONITOR_FAULT, NUMBER, EXHAUSTED}
+use Rattle.record_io.specs.declared.code.TheConstants.{SITE_FAULT}
 use Rattle.unit_state.specs.History.{epoch_after}
 use Rattle.frame_checks.specs.ProtectingFrames.{has_channel}
+use Rattle.run_promise.specs.Answers.{SaysSiteFailed}
 use Rattle.run_promise.specs.Begin.{Begin}
 
 -- an answered record, and the number of its segment
@@ -64,13 +66,16 @@ abbrev pub is_ordered : Begin → Deed → Bool
 is_ordered begin deed = tells_entry deed || tells_epoch begin deed
 
 -- The later answer stands behind the earlier one: its entry, or the entries that it counts, its epoch, its number. A
--- frame that is protected first is answered by a state from before the entry of the later one.
+-- frame that is protected first is answered by a state from before the entry of the later one. Behind an entry whose
+-- append failed none is made: a count has that one, and one that was told before it is less.
 pub record StandsBehind (begin : Begin) (history : List Entry) (one other : Deed) : Type 0 where
   pub entries : IsTrue (tells_entry one) → IsTrue (tells_entry other) → one.answer.position < other.answer.position
   pub counted : IsTrue (tells_entry one) → IsTrue (tells_count other) → one.answer.position ≤ other.answer.position
   pub counted_before : IsTrue (tells_count one) → IsTrue (tells_entry other)
       → one.answer.position < other.answer.position
   pub counts : IsTrue (tells_count one) → IsTrue (tells_count other) → one.answer.position ≤ other.answer.position
+  pub stopped : SaysSiteFailed one.answer → IsTrue (tells_count other) → one.answer.position ≡ other.answer.position
+  pub failed : IsTrue (tells_count one) → other.answer.code ≡ SITE_FAULT → one.answer.position < other.answer.position
   pub epochs : IsTrue (is_ordered begin one) → IsTrue (is_ordered begin other)
       → epoch_told history one ≤ epoch_told history other
   pub epochs_before : IsTrue (tells_epoch begin one) → IsTrue (tells_entry other)

@@ -17,7 +17,7 @@ use Rattle.unit_state.specs.declared.state.State.{State}
 use Rattle.unit_state.specs.History.{after_first}
 use Rattle.unit_image.specs.Shows.{ShowsNone}
 use Rattle.run_promise.specs.Numbers.{releases}
-use Rattle.run_promise.specs.Answers.{Uses}
+use Rattle.run_promise.specs.Answers.{SaysSiteFailed, Uses}
 use Rattle.run_promise.specs.Run.{NearWord}
 use Rattle.run_promise.specs.declared.limits.TheConstants.{MOST_ENTRIES}
 use Rattle.run_promise.specs.Reports.{AreReported}
@@ -26,7 +26,7 @@ use Rattle.run_promise.specs.Alone.{OneLane, IsExact}
 use Rattle.run_promise.specs.declared.end.RunEnd.{RunEnd}
 use Rattle.run_promise.specs.declared.end.RunEnd.TheVariants.{Ended, SiteFault, NoMemory, NoState, SessionFull}
 use Rattle.run_promise.specs.Call.{CallSeen, ShowsAtEntry, image_at_entry, sunk_since}
-use Rattle.run_promise.specs.Account.{Account, AreAnswered, SaysSiteFailed, course_of, deeds_in, end_answer, end_octets}
+use Rattle.run_promise.specs.Account.{Account, AreAnswered, course_of, deeds_in, end_answer, end_octets}
 use Rattle.run_promise.specs.Causes.{CameBy, TellsEnd, StoodUntilRelease, PutsDue, PutsFront}
 use Rattle.run_promise.specs.Words.{MovedWords}
 use Rattle.run_promise.specs.Exit.{StandsAtExit}
