@@ -72,7 +72,7 @@ use Rattle.record_io.specs.declared.answers.Answer.{Answer}
 use Rattle.run_promise.specs.Numbers.{releases}
 use Rattle.run_promise.specs.Begin.{Begin}
 use Rattle.law_workers.specs.Views.{IsBetween, entries_in, log_of}
-use Rattle.run_promise.specs.Deed.{Deed, InTurn, StandsBehind}
+use Rattle.run_promise.specs.Deed.{Deed, InTurn, StandsBehind, tells_count}
 use Rattle.law_workers.specs.Deeds.{course_in}
 use Rattle.sdls_outside.proofs.Moments.{between-old}
 use Rattle.law_workers.proofs.Counting.{pieces_both}
@@ -706,6 +706,9 @@ module _ (told : Bool) (site after : SiteSeen) (source source_after : SourceSeen
       (λ row. slice_index words row) e.words_are (take entries_added.count (releases book.state 0 words)) e.releases_are k x low key number row uses
       (ap (λ (st : State). place_of st.keys key) (sym at_close) ∙ is)
 
+  uncounted_so : All (λ (deed : Deed). IsTrue (tells_count deed) → deed.answer.position ≤ length (entries_in now)) (deeds_from (places_of ran.come.of) ran.come.answers)
+  uncounted_so k d low tells = ((ran.come.done.does.answers.stand k d low).counted tells).1
+
   moved_so : IsTrue told → MovedWords call account book.start (length (entries_in now)) words
   moved_so is_told =
       moved_call call account (begin_by told book.plan book.start) first now words
@@ -723,6 +726,7 @@ module _ (told : Bool) (site after : SiteSeen) (source source_after : SourceSeen
         refused = λ few. inl (rose_to_end rose);
         full = λ is_ended full. absurd ((full_answer is_ended full).1 (let a = ran.same_faults in let r = rose in omega arith));
         filled = filled;
+        uncounted = uncounted_so;
         moved = moved_so is_told;
         near = near_so is_told;
         above = above_so is_told;
@@ -747,6 +751,7 @@ module _ (told : Bool) (site after : SiteSeen) (source source_after : SourceSeen
                 let d = length-take entries_added.count (releases book.state 0 words) in
                 omega arith;
             filled = filled;
+            uncounted = uncounted_so;
             moved = moved_so is_told;
             near = near_so is_told;
             above = above_so is_told;

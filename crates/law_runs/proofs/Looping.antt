@@ -33,9 +33,9 @@ use Rattle.law_workers.specs.Views.{IsBetween, entries_in, log_of}
 use Rattle.law_workers.specs.Deeds.{Ascend, course_in, deeds_of}
 use Rattle.law_workers.specs.Order.{Layout, LiesIn, Handled, Lined, TakeTurns}
 use Rattle.law_workers.proofs.Counting.{pieces_both}
-use Rattle.law_workers.proofs.Joining.{does_nothing, grows_further}
-use Rattle.law_workers.proofs.Words.{words_nothing}
-use Rattle.law_workers.specs.Words.{MovesWords}
+use Rattle.law_workers.proofs.Joining.{does_nothing}
+use Rattle.law_workers.proofs.Counted.{counted_nothing}
+use Rattle.law_workers.specs.Words.{MovesCounted}
 use Rattle.run_promise.specs.Alone.{OneLane}
 use Rattle.law_workers.specs.Alone.{ServedAlone}
 use Rattle.run_promise.specs.Log.{pieces_of}
@@ -416,12 +416,12 @@ module _ (start now : SourceSeen) (begin : Begin) (first v : View) (failed_befor
         (subst (λ (rs : List Record). OneLane rs → ServedAlone begin v mid (length rs) (deeds_of r.number rs next)) r.records_are
         (λ one. h.exactly one r.number)))
 
-    pub moved_now : MovesWords begin first w (records_of (places_of (items ++ r.more))) (deeds_from (places_of (items ++ r.more)) (answers ++ next))
-    moved_now = subst (λ (ps : List Place). MovesWords begin first w (records_of ps) (deeds_from ps (answers ++ next))) (sym all_places)
+    pub moved_now : MovesCounted begin first w (records_of (places_of (items ++ r.more))) (deeds_from (places_of (items ++ r.more)) (answers ++ next))
+    moved_now = subst (λ (ps : List Place). MovesCounted begin first w (records_of ps) (deeds_from ps (answers ++ next))) (sym all_places)
         (words_segment begin first v mid w (places_of items) (places_from (counted first_count items) r.more) answers next
-        r.number records r.records_are r.of way.each way.done.does.grows way.moved
-        (grows_further v mid w (own_does begin first v mid w (places_of items) (places_from (counted first_count items) r.more) answers next
-        r.number way.done way.each whole_v segment handled h.puts).grows h.puts.does.grows)
+        r.number records r.records_are segment way.each way.done.does way.moved
+        (own_does begin first v mid w (places_of items) (places_from (counted first_count items) r.more) answers next
+        r.number way.done way.each whole_v segment handled h.puts)
         (h.moved r.number) h.puts.does h.same_numbers)
 
     reported_on : AreReported [] (deeds_from (places_of (items ++ r.more)) (answers ++ next))
@@ -658,7 +658,7 @@ begins_way start begin first failed stored none none_made = record {
     put = record { octets = λ is_told. ap pieces_of none; none_failed = refl };
     settled = λ is_told founded. tt;
     exactly = λ one. alone_nothing begin first;
-    moved = words_nothing begin first [];
+    moved = counted_nothing begin first [];
     reports = tt;
     widths = All-nil IsAnswer;
   };

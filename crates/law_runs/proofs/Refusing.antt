@@ -321,10 +321,12 @@ module _ (told : Bool) (site back after : SiteSeen) (source : SourceSeen) (fault
             filled = λ is. refl;
             refused = λ few. let due = ap length (none_due state rules left 0 MOST_KEYS) in absurd (omega arith);
             full = λ is_ended full. absurd (not_ended fault is_ended);
+            uncounted = λ k d low. absurd (omega arith);
             moved = record {
               move_of = λ index. Kept;
               told = λ k d low. absurd (omega arith);
               between = λ index. tt;
+              entries = λ p entry index few there of. absurd (omega arith);
               reserves = λ p entry few there none. absurd (omega arith);
               word = λ row low.
                   let a : slice_index (marks_from state 0 MOST_KEYS) row ≡ mark_at state (0 + row) = marks_found state 0 MOST_KEYS row low in

@@ -89,7 +89,7 @@ no_lines begin v w puts =
 
 -- ---- numbers of records
 
-indexed_low : (n i : ℕ) (places : List Place) → All (λ (place : Place). n ≤ place.task.index) places → 0 < indexed i (records_of places) → n ≤ i
+pub indexed_low : (n i : ℕ) (places : List Place) → All (λ (place : Place). n ≤ place.task.index) places → 0 < indexed i (records_of places) → n ≤ i
 indexed_low n i [] all some = absurd (omega arith)
 indexed_low n i (place ∷ places) all some = go (eqb place.task.index i) refl some (indexed_low n i places (λ k d low. all (suc k) d (omega arith)))
   where
@@ -97,7 +97,7 @@ indexed_low n i (place ∷ places) all some = go (eqb place.task.index i) refl s
     go true is h rest = let same : place.task.index ≡ i = grind (arith, nat_tests) in let a : n ≤ place.task.index = all zero place (omega arith) in omega arith
     go false is h rest = rest (omega arith)
 
-indexed_high : (n i : ℕ) (places : List Place) → All (λ (place : Place). place.task.index < n) places → 0 < indexed i (records_of places) → i < n
+pub indexed_high : (n i : ℕ) (places : List Place) → All (λ (place : Place). place.task.index < n) places → 0 < indexed i (records_of places) → i < n
 indexed_high n i [] all some = absurd (omega arith)
 indexed_high n i (place ∷ places) all some = go (eqb place.task.index i) refl some (indexed_high n i places (λ k d low. all (suc k) d (omega arith)))
   where

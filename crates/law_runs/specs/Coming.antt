@@ -19,7 +19,7 @@ use Rattle.run_promise.specs.Fits.{MayAppend}
 use Rattle.run_promise.specs.Begin.{Begin}
 use Rattle.law_workers.specs.Views.{IsBetween, entries_in}
 use Rattle.law_workers.specs.Deeds.{course_in}
-use Rattle.law_workers.specs.Words.{MovesWords}
+use Rattle.law_workers.specs.Words.{MovesCounted}
 use Rattle.run_promise.specs.declared.end.RunEnd.{RunEnd}
 use Rattle.run_promise.specs.declared.end.RunEnd.TheVariants as ends
 use Rattle.run_promise.specs.Account.{AreAnswered, answers_of_first, deeds_from}
@@ -48,7 +48,7 @@ pub record IsServed (begin : Begin) (first now : View) (failed_before failed sto
   pub put : HasPut begin now failed_before failed answers
   pub settled : IsTrue begin.told → IsFounded begin first → HasSettled begin now stored (places_of items) answers
   pub exactly : MovedAlone begin first now (places_of items) answers
-  pub moved : MovesWords begin first now (records_of (places_of items)) (deeds_from (places_of items) answers)
+  pub moved : MovesCounted begin first now (records_of (places_of items)) (deeds_from (places_of items) answers)
   pub reports : AreReported [] (deeds_from (places_of items) answers)
   pub widths : All IsAnswer answers
 
@@ -128,7 +128,7 @@ pub record HasCome (start source : SourceSeen) (begin : Begin) (first now : View
   pub put : PutsBy begin now failed_before failed answers came
   pub settled : IsTrue begin.told → IsFounded begin first → HasSettled begin now stored (places_of of) answers
   pub exactly : MovedAlone begin first now (places_of of) answers
-  pub moved : MovesWords begin first now (records_of (places_of of)) (deeds_from (places_of of) answers)
+  pub moved : MovesCounted begin first now (records_of (places_of of)) (deeds_from (places_of of) answers)
   pub reports : AreReported [] (deeds_from (places_of of) answers)
   pub widths : All IsAnswer answers
   pub full : came ≡ ends.SessionFull → StopsAtFullHistory begin first now (places_of of) answers

@@ -18,7 +18,7 @@ use Rattle.law_workers.specs.Deeds.{course_in, deeds_of}
 use Rattle.law_workers.specs.Order.{Layout, LiesIn, Handled}
 use Rattle.run_promise.specs.Alone.{OneLane}
 use Rattle.law_workers.specs.Alone.{ServedAlone}
-use Rattle.law_workers.specs.Words.{MovesWords}
+use Rattle.law_workers.specs.Words.{MovesCounted}
 use Rattle.law_runs.specs.Doing.{AreSettledInside, PutsPieces, SettlesWork, octets_put}
 
 -- From the first view to the second the worker handled the records; from there to the last it put the answers, or a
@@ -39,7 +39,7 @@ pub record HandlesAndPuts (begin : Begin) (v mid w : View) (records : List Recor
   pub exactly : OneLane records → (number : ℕ) → ServedAlone begin v mid (length records)
       (deeds_of number records answers)
   pub same_numbers : w.numbers ≡ mid.numbers
-  pub moved : (number : ℕ) → MovesWords begin v mid records (deeds_of number records answers)
+  pub moved : (number : ℕ) → MovesCounted begin v mid records (deeds_of number records answers)
 
 -- so many puts had failed before, and have now: none since, and the octets were added to those put before
 pub record PutsWell (begin : Begin) (mid w : View) (answers : List Answer) (failed_before failed : ℕ) : Type 0 where

@@ -14,6 +14,7 @@ pub mod Machines
 pub mod Turns
 pub mod Alone
 pub mod Words
+pub mod Counted
 pub mod Reported
 pub mod Once
 pub mod Looking

@@ -28,7 +28,7 @@ use Rattle.law_workers.specs.Order.{Handled, Layout, Lined, TakeTurns}
 use Rattle.law_workers.specs.Exact.{Exact, words_in}
 use Rattle.law_workers.specs.InTurn.{AllStand, IsLevel, ServedBetween, stood_in}
 use Rattle.law_workers.specs.Alone.{ServedAlone}
-use Rattle.law_workers.specs.Words.{MovesWords, TellsOne}
+use Rattle.law_workers.specs.Words.{MovesCounted, TellsOne}
 use Rattle.law_workers.specs.Reporting.{IsReportAt, Looked}
 use Rattle.law_workers.proofs.Machines.{exact_move, move_moves}
 use Rattle.law_workers.proofs.Turns.{all_on, all_stood, level_on, stood_on}
@@ -233,15 +233,19 @@ module _ (begin : Begin) (old new : View) (segment : ℕ) (task : Record) (answe
         (sym (move_moves begin old new [] deed Kept told (λ place h. absurd (omega arith)) added grown (λ still. tt) tt)) between;
   }
 
-  pub moves_words : MovesWords begin old new (task ∷ []) (deed ∷ [])
-  moves_words = record {
-    moves = (task.index, Kept) ∷ [];
-    few = λ index. omega arith;
-    told = one_only (TellsOne begin.start (entries_in new) ((task.index, Kept) ∷ [])) deed (Kept, (zero, omega arith, refl), told);
-    between = one_only (λ (own : ℕ × Move). LiesBetween begin.rows (words_in old) (words_in new) own.1) (task.index, Kept) tt;
-    added = λ row. added row;
-    made = [];
-    made_is = looked.made ∙ sym (append-nil old.turn.made);
-    within = λ place h. absurd (omega arith);
+  pub moves_counted : MovesCounted begin old new (task ∷ []) (deed ∷ [])
+  moves_counted = record {
+    moved = record {
+      moves = (task.index, Kept) ∷ [];
+      few = λ index. omega arith;
+      told = one_only (TellsOne begin.start (entries_in new) ((task.index, Kept) ∷ [])) deed (Kept, (zero, omega arith, refl), told);
+      between = one_only (λ (own : ℕ × Move). LiesBetween begin.rows (words_in old) (words_in new) own.1) (task.index, Kept) tt;
+      added = λ row. added row;
+      made = [];
+      made_is = looked.made ∙ sym (append-nil old.turn.made);
+      within = λ place h. absurd (omega arith);
+      reserves = λ place h. absurd (omega arith);
+    };
+    entries = λ place h. absurd (omega arith);
     reserves = λ place h. absurd (omega arith);
   }

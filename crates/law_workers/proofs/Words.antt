@@ -59,18 +59,18 @@ drawn_right : (a b : List (ℕ × Move)) (line : Option Logged) → IsDrawnBy b 
 drawn_right a b line drawn entry is none =
     let (index, row, number, seen, there) = drawn entry is none in (index, row, number, seen, Contains-append_right a b (index, Drew row number) there)
 
-line_stays : (v w : View) → KnowsMore v w → (place : ℕ) → place < length (log_of v) → slice_get (log_of w) place ≡ slice_get (log_of v) place
+pub line_stays : (v w : View) → KnowsMore v w → (place : ℕ) → place < length (log_of v) → slice_get (log_of w) place ≡ slice_get (log_of v) place
 line_stays v w grows place low = ap (λ (l : List Logged). slice_get l place) grows.earlier.log.1 ∙ get_front (log_of v) grows.earlier.log.0 place low
 
 drawn_on : (v w : View) → KnowsMore v w → (moves : List (ℕ × Move)) (place : ℕ) → place < length (log_of v)
     → IsDrawnBy moves (slice_get (log_of v) place) → IsDrawnBy moves (slice_get (log_of w) place)
 drawn_on v w grows moves place low drawn = subst (IsDrawnBy moves) (sym (line_stays v w grows place low)) drawn
 
-log_grows : (v w : View) → KnowsMore v w → length (log_of v) ≤ length (log_of w)
+pub log_grows : (v w : View) → KnowsMore v w → length (log_of v) ≤ length (log_of w)
 log_grows v w grows =
     let a = ap length grows.earlier.log.1 in let b = length-append (log_of v) grows.earlier.log.0 in omega arith
 
-either : (a b : ℕ) → 0 < a + b → (0 < a) ⊎ (0 < b)
+pub either : (a b : ℕ) → 0 < a + b → (0 < a) ⊎ (0 < b)
 either zero b h = inr (omega arith)
 either (suc a) b h = inl (omega arith)
 
@@ -129,8 +129,15 @@ words_then begin u v w ts us ds es low_grows a grows b = record {
       ];
 }
 
+pub then_parts : (begin : Begin) (u v w : View) (ts us : List Record) (ds es : List Deed) (low_grows : KnowsMore u v) (a : MovesWords begin u v ts ds)
+    (grows : KnowsMore v w) (b : MovesWords begin v w us es)
+    → ((words_then begin u v w ts us ds es low_grows a grows b).made ≡ a.made ++ b.made)
+    × ((words_then begin u v w ts us ds es low_grows a grows b).moves ≡ a.moves ++ b.moves)
+unfolding words_then
+then_parts begin u v w ts us ds es low_grows a grows b = (refl, refl)
+
 -- who did something without records made no reserve
-no_reserve : (begin : Begin) (v w : View) (does : Does begin v w [] []) (place : ℕ) (entry : Entry) → 0 < stands place does.gains.made
+pub no_reserve : (begin : Begin) (v w : View) (does : Does begin v w [] []) (place : ℕ) (entry : Entry) → 0 < stands place does.gains.made
     → slice_get (log_of w) place ≡ Some (lines.Entry entry) → entry.index ≡ None → ⊥
 no_reserve begin v w does place entry in' is none =
     let one = count_one is_of_none (log_of w) place does.gains.made in' (ap is_of_none is ∙ ap is_none_index none) in
@@ -160,6 +167,12 @@ words_on begin u v w ts ds a does same = record {
         | inr own ↦ λ entry is none. absurd (no_reserve begin v w does place entry own is none)
       ];
 }
+
+pub on_parts : (begin : Begin) (u v w : View) (ts : List Record) (ds : List Deed) (a : MovesWords begin u v ts ds) (does : Does begin v w [] [])
+    (same : (row : ℕ) → amount row w.numbers.added ≡ amount row v.numbers.added)
+    → ((words_on begin u v w ts ds a does same).made ≡ a.made ++ does.gains.made) × ((words_on begin u v w ts ds a does same).moves ≡ a.moves)
+unfolding words_on
+on_parts begin u v w ts ds a does same = (refl, refl)
 
 -- ---- the records of one lane, one after the other
 
@@ -368,7 +381,7 @@ none_moved (own ∷ moves) index h = go (eqb own.0 index) h (none_moved moves in
     go true h rest = absurd (omega arith)
     go false h rest = rest (omega arith)
 
-one_moved : (moves : List (ℕ × Move)) (index : ℕ) (move : Move) → Contains moves (index, move) → 1 ≤ moves_of index moves
+pub one_moved : (moves : List (ℕ × Move)) (index : ℕ) (move : Move) → Contains moves (index, move) → 1 ≤ moves_of index moves
 one_moved [] index move (k, low, is) = absurd (omega arith)
 one_moved (own ∷ moves) index move (zero, low, is) =
     let here : own ≡ (index, move) = is in

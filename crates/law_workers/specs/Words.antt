@@ -1,5 +1,6 @@
 -- What records moved the words `next` by, on however many lanes (profile).
 use Rattle.std.specs.Prelude.{◌≡◌, ℕ, ◌+◌, ◌<◌, ◌≤◌, ◌==◌, if◌then◌else◌, List, [], ◌∷◌, ◌++◌, length, slice_get}
+use Rattle.std.specs.Prelude.{take}
 use Rattle.std.specs.Prelude.{Option, Some, None}
 use Rattle.std.specs.List.{All, Contains}
 use Rattle.sdls_base.specs.declared.entry.Entry.{Entry}
@@ -13,8 +14,10 @@ use Rattle.counter_table.specs.Numbers.{amount}
 use Rattle.counter_table.specs.Turn.{stands}
 use Rattle.run_promise.specs.Begin.{Begin}
 use Rattle.run_promise.specs.Deed.{Deed}
+use Rattle.run_promise.specs.Log.{entries_of}
 use Rattle.run_promise.specs.Machine.{Move, Drew, adds, LiesBetween}
 use Rattle.run_promise.specs.Moves.{Tells}
+use Rattle.run_promise.specs.Words.{CountsEntry}
 use Rattle.law_workers.specs.Views.{entries_in, log_of}
 use Rattle.law_workers.specs.Work.{indexed}
 use Rattle.law_workers.specs.Exact.{words_in}
@@ -53,3 +56,24 @@ pub record MovesWords (begin : Begin) (old new : View) (tasks : List Record) (de
   pub made_is : new.turn.made ≡ old.turn.made ++ made
   pub within : (place : ℕ) → 0 < stands place made → place < length (log_of new)
   pub reserves : (place : ℕ) → 0 < stands place made → IsDrawnBy moves (slice_get (log_of new) place)
+
+-- the line at the place, if it is a reserve, is of a number that one of the moves drew; a count has it if the record of
+-- the move comes before that of the count, and only then
+abbrev pub IsDrawnInTurn : List (ℕ × Move) → List Deed → List Logged → ℕ → Type 0
+IsDrawnInTurn moves deeds log place =
+    (entry : Entry) → slice_get log place ≡ Some (lines.Entry entry) → entry.index ≡ None
+    → (index : ℕ) × (row : ℕ) × (number : ℕ) × (entry.seen ≡ Number number) × Contains moves (index, Drew row number)
+    × All (CountsEntry (length (entries_of (take place log))) index) deeds
+
+-- so it is of the line, if it is an entry of a record
+abbrev pub IsCountedInTurn : List Deed → List Logged → ℕ → Type 0
+IsCountedInTurn deeds log place =
+    (entry : Entry) (index : ℕ) → slice_get log place ≡ Some (lines.Entry entry) → entry.index ≡ Some index
+    → All (CountsEntry (length (entries_of (take place log))) index) deeds
+
+-- The same of records of which those that tell a count were handled alone, each behind all before it: a count has the
+-- entries that the worker made for the records before, their reserves among them, and no other that it made.
+pub record MovesCounted (begin : Begin) (old new : View) (tasks : List Record) (deeds : List Deed) : Type 0 where
+  pub moved : MovesWords begin old new tasks deeds
+  pub entries : (place : ℕ) → 0 < stands place moved.made → IsCountedInTurn deeds (log_of new) place
+  pub reserves : (place : ℕ) → 0 < stands place moved.made → IsDrawnInTurn moved.moves deeds (log_of new) place

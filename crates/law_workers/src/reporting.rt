@@ -9,7 +9,7 @@ ghost use Rattle.run_promise.specs.Deed.{deed_of};
 ghost use Rattle.law_workers.specs.Alone.{ServedAlone};
 ghost use Rattle.law_workers.specs.Order.{Handled, Layout};
 ghost use Rattle.law_workers.specs.Reporting.{IsReportAt, Looked};
-ghost use Rattle.law_workers.specs.Words.{MovesWords};
+ghost use Rattle.law_workers.specs.Words.{MovesCounted};
 
 /// Law: a worker that only looked into the book, to count the entries, handled a Monitor record by that,
 /// whatever the log said. One lane alone served it, and it moved no word.
@@ -18,5 +18,5 @@ pub fn looking_reports()
         → Looked begin old new (task ∷ []) → IsReportAt new answer
         → ((layout : Layout) → Handled layout begin old new (task ∷ []) (deed_of segment task answer ∷ []))
         × ServedAlone begin old new 1 (deed_of segment task answer ∷ [])
-        × MovesWords begin old new (task ∷ []) (deed_of segment task answer ∷ []) }
+        × MovesCounted begin old new (task ∷ []) (deed_of segment task answer ∷ []) }
 {}

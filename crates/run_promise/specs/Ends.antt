@@ -29,6 +29,7 @@ use Rattle.run_promise.specs.Call.{CallSeen, ShowsAtEntry, image_at_entry, sunk_
 use Rattle.run_promise.specs.Account.{Account, AreAnswered, course_of, deeds_in, end_answer, end_octets}
 use Rattle.run_promise.specs.Causes.{CameBy, TellsEnd, StoodUntilRelease, PutsDue, PutsFront}
 use Rattle.run_promise.specs.Words.{MovedWords}
+use Rattle.run_promise.specs.Deed.{tells_count}
 use Rattle.run_promise.specs.Exit.{StandsAtExit}
 
 -- An early moment: what a crash then leaves of the image, one at the entry may leave too, and nothing but End was sunk.
@@ -65,6 +66,8 @@ pub record IsReleased (call : CallSeen) (account : Account) (state : State) (end
       → Rose call.site.faults call.site_after.faults ⊎ (length call.entries ≡ MOST_ENTRIES)
   -- where all records were answered, a full history is told of a release that is due
   pub full : account.came ≡ Ended → account.told ≡ SessionFull → count < length (due_releases call state ends words)
+  -- no count that is told has one of them
+  pub uncounted : All (λ deed. IsTrue (tells_count deed) → deed.answer.position ≤ ends) (deeds_in account)
   -- the words are the marks at the start and what the records' moves added, and each reserve is of a number drawn so
   pub moved : MovedWords call account state ends words
   -- Each word can have stood in its row: it is no lower than the key's mark at the start, and above it, or above a

@@ -1,15 +1,16 @@
 -- Answers that are noted one by one: for `note_all`.
-use Rattle.std.proofs.Common.{◌≡◌, ℕ, zero, suc, ◌<◌, ◌≢◌, List, [], ◌∷◌, ◌++◌, length, take, refl, sym, ◌∙◌, ap, arith}
+use Rattle.std.proofs.Common.{◌≡◌, ℕ, zero, suc, ◌<◌, ◌≢◌, ◌&&◌, Bool, false, true, IsTrue, List, [], ◌∷◌, ◌++◌, length, take, refl, sym, ◌∙◌, ap, arith}
 use Rattle.std.specs.Prelude.{map}
 use Rattle.std.proofs.Common.{Some, subst}
 use Rattle.std.proofs.lemmas.Option.{same_Some}
 use Rattle.std.specs.List.{All, slice_get, slice_index_or}
-use Rattle.std.proofs.lemmas.List.Elements.{All-head, All-tail}
+use Rattle.std.proofs.lemmas.List.Elements.{All-head, All-tail, All-cons, All-nil}
 use Rattle.fsr_log.specs.Noted.{Noted}
 use Rattle.record_io.specs.declared.answers.Answer.{Answer}
-use Rattle.record_io.specs.declared.kinds.RecordKind.TheVariants.{Monitor}
+use Rattle.record_io.specs.declared.kinds.RecordKind.{RecordKind}
+use Rattle.record_io.specs.declared.kinds.RecordKind.TheVariants.{Protect, Open, Command, Monitor}
 use Rattle.record_io.specs.declared.records.Record.{Record}
-use Rattle.run_promise.specs.Deed.{Deed, deed_of}
+use Rattle.run_promise.specs.Deed.{Deed, deed_of, is_monitored, tells_count}
 use Rattle.run_promise.specs.Reports.{AreReported, noted_of}
 use Rattle.law_workers.specs.Deeds.{deeds_of}
 
@@ -38,6 +39,22 @@ plain_reported before number (task ∷ records) (answer ∷ answers) plain = (
   λ is. absurd (All-head (λ (task : Record). task.kind ≢ Monitor) task records plain is),
   plain_reported (before ++ noted_of (deed_of number task answer) ∷ []) number records answers (All-tail (λ (task : Record). task.kind ≢ Monitor) task records plain),
 )
+
+-- and none of their answers tells a count
+none_told : (kind : RecordKind) (test : Bool) → kind ≢ Monitor → IsTrue (is_monitored kind && test) → ⊥
+none_told Protect test other told = (let t : false ≡ true = told in cc)
+none_told Open test other told = (let t : false ≡ true = told in cc)
+none_told Command test other told = (let t : false ≡ true = told in cc)
+none_told Monitor test other told = other refl
+
+pub plain_counts : (number : ℕ) (records : List Record) (answers : List Answer) → All (λ (task : Record). task.kind ≢ Monitor) records
+    → All (λ (d : Deed). IsTrue (tells_count d) → ⊥) (deeds_of number records answers)
+plain_counts number [] answers plain = All-nil (λ (d : Deed). IsTrue (tells_count d) → ⊥)
+plain_counts number (task ∷ records) [] plain = All-nil (λ (d : Deed). IsTrue (tells_count d) → ⊥)
+plain_counts number (task ∷ records) (answer ∷ answers) plain =
+    All-cons (λ (d : Deed). IsTrue (tells_count d) → ⊥) (deed_of number task answer) (deeds_of number records answers)
+    (none_told task.kind _ (All-head (λ (task : Record). task.kind ≢ Monitor) task records plain))
+    (plain_counts number records answers (All-tail (λ (task : Record). task.kind ≢ Monitor) task records plain))
 
 pub plain_at : (records : List Record) → All (λ (task : Record). task.kind ≢ Monitor) records → (k : ℕ) (task : Record) → slice_get records k ≡ Some task → task.kind ≢ Monitor
 plain_at [] plain k task there = absurd (let n = there in cc)

@@ -24,7 +24,7 @@ use Rattle.law_workers.specs.Order.{Handled, Layout, LiesIn}
 use Rattle.law_workers.proofs.Counting.{none_failed}
 use Rattle.run_promise.specs.Alone.{OneLane}
 use Rattle.law_workers.specs.Alone.{ServedAlone}
-use Rattle.law_workers.specs.Words.{MovesWords}
+use Rattle.law_workers.specs.Words.{MovesCounted}
 use Rattle.law_workers.specs.Began.{BeganWith}
 use Rattle.law_runs.specs.Segment.{HandlesAndPuts, PutsWell}
 use Rattle.law_workers.specs.Ends.{EndsSegment}
@@ -77,7 +77,7 @@ module _ (told : Bool) (v mid w : View) (tasks : List Record) (up : Ascend tasks
     → Handled layout begin v mid tasks (deeds_of number tasks answers))
     (exactly : OneLane tasks → (begin : Begin) (number : ℕ) → BeganWith told begin v.turn.known.opening
     → ServedAlone begin v mid (length tasks) (deeds_of number tasks answers))
-    (moved : (begin : Begin) (number : ℕ) → BeganWith told begin v.turn.known.opening → MovesWords begin v mid tasks (deeds_of number tasks answers))
+    (moved : (begin : Begin) (number : ℕ) → BeganWith told begin v.turn.known.opening → MovesCounted begin v mid tasks (deeds_of number tasks answers))
     (put : PutsOctets told (answers_octets answers) result mid w) (old new : Report) (noted : NotesAll tasks answers old new) (reported : ReportsAll tasks answers old)
     (widths : All IsAnswer answers)
     (plain : (task : Record) → slice_get tasks (length answers) ≡ Some task → task.kind ≢ Monitor) where

@@ -10,7 +10,9 @@ use Rattle.unit_session.specs.Putting.{PutsOctets}
 use Rattle.unit_session.specs.Reporting.{NotesAll}
 use Rattle.unit_session.specs.Serving.{ServesSegment}
 use Rattle.unit_session.specs.declared.serving.Stop.{Stop}
-use Rattle.unit_session.proofs.Noting.{plain_at, plain_reported}
+use Rattle.law_workers.specs.Deeds.{deeds_of}
+use Rattle.law_workers.proofs.Counted.{counted_plain}
+use Rattle.unit_session.proofs.Noting.{plain_at, plain_counts, plain_reported}
 use Rattle.unit_session.proofs.Served.{began_with, begin_with, few_answers, same_opening, serves}
 use Rattle.unit_session.proofs.session.Session.serve.Goals as goal
 
@@ -41,7 +43,9 @@ returns-clause-opening g c =
     let result : Result (Unit {0}) BookFault = c.put_answers-put.result in
     let old : Report = c.args.self.now.log in
     let new : Report = c.put_answers-put.new.self.log in
-    same_opening told v mid w c.args.records.now c.requires.ascend answers result c.in-Ok.ensures.handled c.in-Ok.ensures.alone c.in-Ok.ensures.moved
+    same_opening told v mid w c.args.records.now c.requires.ascend answers result c.in-Ok.ensures.handled c.in-Ok.ensures.alone
+    (λ b number b_began. counted_plain b v mid c.args.records.now (deeds_of number c.args.records.now answers)
+    (plain_counts number c.args.records.now answers c.requires.plain) (c.in-Ok.ensures.moved b number b_began))
     (subst (λ (l : List Answer). PutsOctets told (answers_octets l) result mid w) c.deref-2.ensures.value c.put_answers-put.ensures.puts)
     old new
     (subst (NotesAll c.args.records.now answers old) (sym c.put_answers-put.ensures.logged)
@@ -61,7 +65,9 @@ returns-clause-serves g c = λ begin began.
     let old : Report = c.args.self.now.log in
     let new : Report = c.put_answers-put.new.self.log in
     subst (λ (r : Result (Unit {0}) Stop). ServesSegment begin c.args.records.now r v w old new) (sym c.stop_after.ensures)
-    (serves told v mid w c.args.records.now c.requires.ascend answers result c.in-Ok.ensures.handled c.in-Ok.ensures.alone c.in-Ok.ensures.moved
+    (serves told v mid w c.args.records.now c.requires.ascend answers result c.in-Ok.ensures.handled c.in-Ok.ensures.alone
+    (λ b number b_began. counted_plain b v mid c.args.records.now (deeds_of number c.args.records.now answers)
+    (plain_counts number c.args.records.now answers c.requires.plain) (c.in-Ok.ensures.moved b number b_began))
     (subst (λ (l : List Answer). PutsOctets told (answers_octets l) result mid w) c.deref-2.ensures.value c.put_answers-put.ensures.puts)
     old new
     (subst (NotesAll c.args.records.now answers old) (sym c.put_answers-put.ensures.logged)
