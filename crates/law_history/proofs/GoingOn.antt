@@ -1,7 +1,8 @@
 -- What stays so while a log and its history grow, and more is known to be near.
-use Rattle.std.proofs.Common.{◌≡◌, ℕ, zero, suc, ◌+◌, ◌-◌, ◌<◌, ◌≤◌, List, [], ◌∷◌, ◌++◌, length, take, Some, Ok, refl, sym, ◌∙◌, ap, subst, inl, inr, ⊎_elim, arith, length-append, append-nil}
+use Rattle.std.proofs.Common.{◌≡◌, ℕ, zero, suc, ◌+◌, ◌-◌, ◌<◌, ◌≤◌, List, [], ◌∷◌, ◌++◌, length, take, Some, Ok, refl}
+use Rattle.std.proofs.Common.{sym, ◌∙◌, ap, subst, inl, inr, ⊎_elim, arith, length-append, append-nil}
 use Rattle.std.specs.List.{slice_get}
-use Rattle.std.proofs.lemmas.List.{take-append-le, take_at}
+use Rattle.std.proofs.lemmas.List.{take-append-le}
 use Rattle.std.proofs.lemmas.List.Elements.{Contains-append_left}
 use Rattle.std.proofs.lemmas.Option.{none-some, same_Some, slice_get_within}
 use Rattle.sdls_base.specs.declared.entry.Entry.{Entry}
@@ -28,7 +29,9 @@ use Rattle.run_promise.specs.Counts.{drawers}
 use Rattle.run_promise.specs.Run.{IsAskedFor, NearWord}
 use Rattle.run_promise.specs.ProtectingFrames.{protect_reply}
 use Rattle.run_promise.specs.Answers.{told_by, unbound_told}
-use Rattle.run_promise.specs.Fits.{Course, grown, IsUnmarked, CanReserve, CanRaiseFloor, CanChange, CanDraw, CanAppend, MayAppendOnce, IsBound, StandsAt, state_before, TellsRisenCount, FitsAny, FitsKind, Fits}
+use Rattle.run_promise.specs.Fits.{Course, grown, IsUnmarked, CanReserve, CanRaiseFloor, CanChange, CanDraw, CanAppend}
+use Rattle.run_promise.specs.Fits.{MayAppendOnce, IsBound, StandsAt, state_before, TellsRisenCount, FitsAny, FitsKind}
+use Rattle.run_promise.specs.Fits.{Fits}
 use Rattle.law_history.proofs.Legal.{seen_wider, legal_wider}
 
 -- ---- lists
@@ -38,32 +41,32 @@ get_front {X} [] ys k low = absurd (omega arith)
 get_front {X} (x ∷ xs) ys zero low = refl
 get_front {X} (x ∷ xs) ys (suc k) low = get_front xs ys k (omega arith)
 
-get_end : {X : Type 0} (xs : List X) (x : X) → slice_get (xs ++ x ∷ []) (length xs) ≡ Some x
-get_end {X} [] x = refl
-get_end {X} (y ∷ ys) x =
-    let same : length (y ∷ ys) ≡ suc (length ys) = omega arith in
-    ap (λ (k : ℕ). slice_get (y ∷ ys ++ x ∷ []) k) same ∙ get_end ys x
-
 pub drawers-append : (tasks others : List Record) → drawers (tasks ++ others) ≡ drawers tasks + drawers others
 drawers-append [] others = omega arith
 drawers-append (task ∷ tasks) others = let rest = drawers-append tasks others in omega arith
 
-pub first_stays : (start : State) (entries more : List Entry) (p : ℕ) → p ≤ length entries → after_first start (entries ++ more) p ≡ after_first start entries p
+pub first_stays : (start : State) (entries more : List Entry) (p : ℕ) → p ≤ length entries
+    → after_first start (entries ++ more) p ≡ after_first start entries p
 first_stays start entries more p low = ap (after start) (take-append-le p entries more low)
 
 -- ---- legal places of a log
 
-pub legal_more : (near wider : ℕ → ℕ → Type 0) → ((key number : ℕ) → near key number → wider key number) → (plan : PlanLines) (start : State)
-    (tasks others : List Record) (log more : List Logged) (place : ℕ) → place < length log → IsLegalAt near plan start tasks log place
+-- a place of a log that is legal stays so while the log grows, among more records
+pub legal_more : (near wider : ℕ → ℕ → Type 0) → ((key number : ℕ) → near key number → wider key number)
+    → (plan : PlanLines) (start : State)
+    (tasks others : List Record) (log more : List Logged) (place : ℕ) → place < length log
+    → IsLegalAt near plan start tasks log place
     → IsLegalAt wider plan start (tasks ++ others) (log ++ more) place
 legal_more near wider nearer plan start tasks others log more place low legal entry there =
     let before : take place (log ++ more) ≡ take place log = take-append-le place log more (omega arith) in
-    subst (λ (lines : List Logged). IsLegal wider plan (after start (entries_of lines)) (tasks ++ others) entry) (sym before)
+    subst (λ (lines : List Logged). IsLegal wider plan (after start (entries_of lines)) (tasks ++ others) entry)
+    (sym before)
     (legal_among wider plan (after start (entries_of (take place log))) tasks others entry
     (legal_wider near wider nearer plan (after start (entries_of (take place log))) tasks entry
     (legal entry (sym (get_front log more place low) ∙ there))))
   where
-    legal_among : (near : ℕ → ℕ → Type 0) (plan : PlanLines) (state : State) (tasks others : List Record) (entry : Entry)
+    legal_among : (near : ℕ → ℕ → Type 0) (plan : PlanLines) (state : State) (tasks others : List Record)
+        (entry : Entry)
         → IsLegal near plan state tasks entry → IsLegal near plan state (tasks ++ others) entry
     legal_among near plan state tasks others entry (inl opening) = inl (record {
       task = opening.task;
@@ -86,17 +89,6 @@ legal_more near wider nearer plan start tasks others log more place low legal en
     }))
     legal_among near plan state tasks others entry (inr (inr reserve)) = inr (inr reserve)
 
--- an entry that is put behind a log is legal at its place, where it is in the state after the log's entries
-pub legal_new : (near : ℕ → ℕ → Type 0) (plan : PlanLines) (start : State) (records : List Record) (log : List Logged) (entry : Entry)
-    → IsLegal near plan (after start (entries_of log)) records entry
-    → IsLegalAt near plan start records (log ++ logged.Entry entry ∷ []) (length log)
-legal_new near plan start records log entry legal other there =
-    let same : logged.Entry entry ≡ logged.Entry other = same_Some _ _ (sym (get_end log (logged.Entry entry)) ∙ there) in
-    let one : entry ≡ other = cc in
-    let before : take (length log) (log ++ logged.Entry entry ∷ []) ≡ log = take_at log (logged.Entry entry ∷ []) (length log) refl in
-    subst (λ (lines : List Logged). IsLegal near plan (after start (entries_of lines)) records other) (sym before)
-    (subst (IsLegal near plan (after start (entries_of log)) records) one legal)
-
 -- the place of an entry in its log
 pub record StandsIn (log : List Logged) (p : ℕ) (entry : Entry) : Type 0 where
   pub place : ℕ
@@ -104,7 +96,8 @@ pub record StandsIn (log : List Logged) (p : ℕ) (entry : Entry) : Type 0 where
   pub there : slice_get log place ≡ Some (logged.Entry entry)
   pub before : entries_of (take place log) ≡ take p (entries_of log)
 
-pub stands_in : (log : List Logged) (p : ℕ) (entry : Entry) → slice_get (entries_of log) p ≡ Some entry → StandsIn log p entry
+pub stands_in : (log : List Logged) (p : ℕ) (entry : Entry) → slice_get (entries_of log) p ≡ Some entry
+    → StandsIn log p entry
 stands_in [] p entry is = absurd (none-some entry is)
 stands_in (logged.Entry own ∷ log) zero entry is = record {
   place = zero;
@@ -136,20 +129,25 @@ pub log_legal : (near : ℕ → ℕ → Type 0) (plan : PlanLines) (start : Stat
     → IsLegal near plan (after_first start (entries_of log) p) records entry
 log_legal near plan start records log legal p entry is =
     let at = stands_in log p entry is in
-    subst (λ (entries : List Entry). IsLegal near plan (after start entries) records entry) at.before (legal at.place at.within entry at.there)
+    subst (λ (entries : List Entry). IsLegal near plan (after start entries) records entry) at.before
+    (legal at.place at.within entry at.there)
 
 -- ---- near
 
-pub near_more : (start : State) (entries more : List Entry) (tasks others : List Record) (key word : ℕ) → NearWord start entries tasks key word
+-- a word that is near stays so while the history goes on, among more records
+pub near_more : (start : State) (entries more : List Entry) (tasks others : List Record) (key word : ℕ)
+    → NearWord start entries tasks key word
     → NearWord start (entries ++ more) (tasks ++ others) key word
 near_more start entries more tasks others key word near = record {
   least = near.least;
   base = near.base;
-  is_base = ⊎_elim (λ at. inl at) (λ asked. inr (asked_more start entries more tasks others key near.base asked)) near.is_base;
+  is_base = ⊎_elim (λ at. inl at) (λ asked. inr (asked_more start entries more tasks others key near.base asked))
+      near.is_base;
   most = (let most = near.most in let all = drawers-append tasks others in omega arith);
 }
   where
-    asked_more : (start : State) (entries more : List Entry) (tasks others : List Record) (key number : ℕ) → IsAskedFor start entries tasks key number
+    asked_more : (start : State) (entries more : List Entry) (tasks others : List Record) (key number : ℕ)
+        → IsAskedFor start entries tasks key number
         → IsAskedFor start (entries ++ more) (tasks ++ others) key number
     asked_more start entries more tasks others key number asked = record {
       p = asked.p;
@@ -157,17 +155,20 @@ near_more start entries more tasks others key word near = record {
       task = asked.task;
       there = Contains-append_left tasks others asked.task asked.there;
       kind_is = asked.kind_is;
-      asks = subst (λ (s : State). AsksFor s asked.task.octets key number) (sym (first_stays start entries more asked.p asked.within)) asked.asks;
+      asks = subst (λ (s : State). AsksFor s asked.task.octets key number)
+          (sym (first_stays start entries more asked.p asked.within)) asked.asks;
     }
 
 -- ---- answers that fit
 
-module _ (near wider : ℕ → ℕ → Type 0) (nearer : (key number : ℕ) → near key number → wider key number) (course : Course) (more : List Entry) (faults : ℕ)
+module _ (near wider : ℕ → ℕ → Type 0) (nearer : (key number : ℕ) → near key number → wider key number)
+    (course : Course) (more : List Entry) (faults : ℕ)
     (later : course.faults ≤ faults) (closed : Rose course.faults_before course.faults → more ≡ []) where
   abbrev new : Course
   new = grown course more faults
 
-  stays : (p : ℕ) → p ≤ length course.entries → after_first course.begin.start (course.entries ++ more) p ≡ after_first course.begin.start course.entries p
+  stays : (p : ℕ) → p ≤ length course.entries → after_first course.begin.start (course.entries ++ more) p
+      ≡ after_first course.begin.start course.entries p
   stays p low = first_stays course.begin.start course.entries more p low
 
   epoch_stays : (epoch : ℕ) → epoch ≤ epoch_after course.entries
@@ -180,25 +181,29 @@ module _ (near wider : ℕ → ℕ → Type 0) (nearer : (key number : ℕ) → 
   within_more : (p : ℕ) → p ≤ length course.entries → p ≤ length (course.entries ++ more)
   within_more p low = let all = length-append course.entries more in omega arith
 
-  unmarked_more : (p key number : ℕ) → p ≤ length course.entries → IsUnmarked near (after_first course.begin.start course.entries p) key number
+  unmarked_more : (p key number : ℕ) → p ≤ length course.entries
+      → IsUnmarked near (after_first course.begin.start course.entries p) key number
       → IsUnmarked wider (after_first course.begin.start (course.entries ++ more) p) key number
   unmarked_more p key number low is =
       subst (λ (s : State). IsUnmarked wider s key number) (sym (stays p low))
       (record { is_near = nearer key number is.is_near; unmarked = is.unmarked; below = is.below })
 
-  reserve_more : (p : ℕ) (task : Record) → p ≤ length course.entries → CanReserve near course p task → CanReserve wider new p task
+  reserve_more : (p : ℕ) (task : Record) → p ≤ length course.entries → CanReserve near course p task
+      → CanReserve wider new p task
   reserve_more p task low can =
       let earlier : can.earlier ≤ length course.entries = (let first = can.within in omega arith) in
       record {
         earlier = can.earlier;
         within = can.within;
         binding = can.binding;
-        bound = subst (λ (s : State). protect_reply course.begin.plan s task.link task.octets ≡ Ok (Some can.binding)) (sym (stays can.earlier earlier)) can.bound;
+        bound = subst (λ (s : State). protect_reply course.begin.plan s task.link task.octets ≡ Ok (Some can.binding))
+            (sym (stays can.earlier earlier)) can.bound;
         number = can.number;
         is = unmarked_more p can.binding.key can.number low can.is;
       }
 
-  raise_more : (p : ℕ) (task : Record) → p ≤ length course.entries → CanRaiseFloor course p task → CanRaiseFloor new p task
+  raise_more : (p : ℕ) (task : Record) → p ≤ length course.entries → CanRaiseFloor course p task
+      → CanRaiseFloor new p task
   raise_more p task low can = record {
     spi = can.spi;
     key = can.key;
@@ -206,12 +211,14 @@ module _ (near wider : ℕ → ℕ → Type 0) (nearer : (key number : ℕ) → 
     from = can.from;
     to = can.to;
     field = can.field;
-    accepts = subst (λ (s : State). IsOpenReply course.begin.plan s task.link task.octets (Accepted can.spi can.key can.number can.from can.to) can.field)
+    accepts = subst (λ (s : State). IsOpenReply course.begin.plan s task.link task.octets
+        (Accepted can.spi can.key can.number can.from can.to) can.field)
         (sym (stays p low)) can.accepts;
     above = subst (λ (s : State). floor_of s can.key < can.number) (sym (stays p low)) can.above;
   }
 
-  change_more : (p : ℕ) (task : Record) → p ≤ length course.entries → CanChange near course p task → CanChange wider new p task
+  change_more : (p : ℕ) (task : Record) → p ≤ length course.entries → CanChange near course p task
+      → CanChange wider new p task
   change_more p task low can =
       let same = sym (stays p low) in
       record {
@@ -219,12 +226,14 @@ module _ (near wider : ℕ → ℕ → Type 0) (nearer : (key number : ℕ) → 
         change = can.change;
         reply = can.reply;
         sees = subst (λ (s : State). SeesFor s task.octets can.seen) same can.sees;
-        is_near = λ key of. seen_wider near wider nearer key can.seen (can.is_near key (subst (λ (s : State). KeyOf s task.octets key) (stays p low) of));
+        is_near = λ key of. seen_wider near wider nearer key can.seen
+            (can.is_near key (subst (λ (s : State). KeyOf s task.octets key) (stays p low) of));
         step = subst (λ (s : State). IsStepOf s task.octets can.seen (can.change, can.reply)) same can.step;
         changes = can.changes;
       }
 
-  draw_more : (p : ℕ) (task : Record) → p ≤ length course.entries → CanDraw near course p task → CanDraw wider new p task
+  draw_more : (p : ℕ) (task : Record) → p ≤ length course.entries → CanDraw near course p task
+      → CanDraw wider new p task
   draw_more p task low can = record {
     key = can.key;
     number = can.number;
@@ -232,7 +241,8 @@ module _ (near wider : ℕ → ℕ → Type 0) (nearer : (key number : ℕ) → 
     is = unmarked_more p can.key can.number low can.is;
   }
 
-  append_more : (kind : RecordKind) (p : ℕ) (task : Record) → p ≤ length course.entries → CanAppend near course p task kind
+  append_more : (kind : RecordKind) (p : ℕ) (task : Record) → p ≤ length course.entries
+      → CanAppend near course p task kind
       → CanAppend wider new p task kind
   append_more Protect p task low can = reserve_more p task low can
   append_more Open p task low can = raise_more p task low can
@@ -250,18 +260,21 @@ module _ (near wider : ℕ → ℕ → Type 0) (nearer : (key number : ℕ) → 
   -- no entry comes after a fault, so that the count of all entries stays
   tells_more : (code : ℕ) (answer : Answer) → TellsRisenCount course code answer → TellsRisenCount new code answer
   tells_more code answer tells =
-      let rose : Rose course.faults_before course.faults = (let high = tells.rose in let low = tells.counted in omega arith) in
+      let rose : Rose course.faults_before course.faults =
+      (let high = tells.rose in let low = tells.counted in omega arith) in
       record {
         told = tells.told;
         rose = tells.rose;
         counted = (let low = tells.counted in omega arith);
-        position_is = tells.position_is ∙ ap (λ (entries : List Entry). length entries) (sym (append-nil course.entries) ∙ ap (λ (rest : List Entry). course.entries ++ rest) (sym (closed rose)));
+        position_is = tells.position_is ∙ ap (λ (entries : List Entry). length entries)
+            (sym (append-nil course.entries) ∙ ap (λ (rest : List Entry). course.entries ++ rest) (sym (closed rose)));
       }
 
   stands_more : (answer : Answer) (entry : Entry) → StandsAt course answer entry → StandsAt new answer entry
   stands_more answer entry is = record {
     least = is.least;
-    there = get_front course.entries more (answer.position - 1) (slice_get_within course.entries (answer.position - 1) entry is.there) ∙ is.there;
+    there = get_front course.entries more (answer.position - 1)
+        (slice_get_within course.entries (answer.position - 1) entry is.there) ∙ is.there;
   }
 
   any_more : (task : Record) (answer : Answer) → FitsAny near course task answer → FitsAny wider new task answer
@@ -282,16 +295,19 @@ module _ (near wider : ℕ → ℕ → Type 0) (nearer : (key number : ℕ) → 
   bound_more task answer is = record {
     reached = reached_more answer.position is.reached;
     binding = is.binding;
-    bound = subst (λ (s : State). protect_reply course.begin.plan s task.link task.octets ≡ Ok (Some is.binding)) (sym (epoch_stays answer.position is.reached)) is.bound;
+    bound = subst (λ (s : State). protect_reply course.begin.plan s task.link task.octets ≡ Ok (Some is.binding))
+        (sym (epoch_stays answer.position is.reached)) is.bound;
     key_is = is.key_is;
   }
 
-  before_stays : (answer : Answer) (entry : Entry) → StandsAt course answer entry → state_before new answer ≡ state_before course answer
+  before_stays : (answer : Answer) (entry : Entry) → StandsAt course answer entry
+      → state_before new answer ≡ state_before course answer
   before_stays answer entry is =
       let low = slice_get_within course.entries (answer.position - 1) entry is.there in
       stays (answer.position - 1) (omega arith)
 
-  kind_more : (kind : RecordKind) (task : Record) (answer : Answer) → FitsKind near course task answer kind → FitsKind wider new task answer kind
+  kind_more : (kind : RecordKind) (task : Record) (answer : Answer) → FitsKind near course task answer kind
+      → FitsKind wider new task answer kind
   kind_more Protect task answer (inl is) = inl (record {
     is = bound_more task answer is.is;
     told = is.told;
@@ -301,7 +317,8 @@ module _ (near wider : ℕ → ℕ → Type 0) (nearer : (key number : ℕ) → 
   })
   kind_more Protect task answer (inr (inl is)) = inr (inl (record {
     reached = reached_more answer.position is.reached;
-    told = subst (λ (s : State). unbound_told (protect_reply course.begin.plan s task.link task.octets) ≡ Some (told_by answer))
+    told = subst (λ (s : State). unbound_told (protect_reply course.begin.plan s task.link task.octets)
+        ≡ Some (told_by answer))
         (sym (epoch_stays answer.position is.reached)) is.told;
     epoch_looked_at = is.epoch_looked_at;
   }))
@@ -313,13 +330,16 @@ module _ (near wider : ℕ → ℕ → Type 0) (nearer : (key number : ℕ) → 
   })))
   kind_more Protect task answer (inr (inr (inr any))) = inr (inr (inr (any_more task answer any)))
   kind_more Open task answer (inl is) =
-      let same = sym (before_stays answer (frame_entry course.begin.plan (state_before course answer) task.index is.reply) is.stands) in
+      let same = sym (before_stays answer
+      (frame_entry course.begin.plan (state_before course answer) task.index is.reply) is.stands) in
       inl (record {
         reply = is.reply;
         field = is.field;
-        replies = subst (λ (s : State). IsOpenReply course.begin.plan s task.link task.octets is.reply is.field) same is.replies;
+        replies = subst (λ (s : State). IsOpenReply course.begin.plan s task.link task.octets is.reply is.field) same
+            is.replies;
         stands = subst (λ (s : State). StandsAt new answer (frame_entry course.begin.plan s task.index is.reply)) same
-            (stands_more answer (frame_entry course.begin.plan (state_before course answer) task.index is.reply) is.stands);
+            (stands_more answer (frame_entry course.begin.plan (state_before course answer) task.index is.reply)
+            is.stands);
         told = is.told;
       })
   kind_more Open task answer (inr any) = inr (any_more task answer any)
@@ -334,8 +354,10 @@ module _ (near wider : ℕ → ℕ → Type 0) (nearer : (key number : ℕ) → 
         told = is.told;
       })
   kind_more Command task answer (inr any) = inr (any_more task answer any)
-  kind_more Monitor task answer (inl is) = inl (record { reached = within_more answer.position is.reached; said = is.said; told = is.told })
+  kind_more Monitor task answer (inl is) = inl
+      (record { reached = within_more answer.position is.reached; said = is.said; told = is.told })
   kind_more Monitor task answer (inr is) = inr is
 
+  -- an answer that fits still does when the history has gone on, where after a fault of the site no entry came
   pub fits_more : (task : Record) (answer : Answer) → Fits near course task answer → Fits wider new task answer
   fits_more task answer fits = kind_more task.kind task answer fits

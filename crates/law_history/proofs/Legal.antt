@@ -19,7 +19,10 @@ use Rattle.frame_checks.specs.declared.open_reply.OpenReply.TheVariants as opens
 use Rattle.frame_checks.specs.Accepting.{MayBeAccepted, OnAccepted}
 use Rattle.frame_checks.proofs.Replies.{any_reply_may}
 use Rattle.ep_codec.specs.declared.command.Command.{Command}
-use Rattle.ep_codec.specs.declared.command.Command.TheVariants.{Rekeying, Activate, Deactivate, Verify, Destroy, Inventory, Compose, ReadNumber, Create, Delete, SetWindow, Rekey, Expire, SetNumber, Start, Stop, Status}
+use Rattle.ep_codec.specs.declared.command.Command.TheVariants.{Rekeying, Activate, Deactivate, Verify, Destroy}
+use Rattle.ep_codec.specs.declared.command.Command.TheVariants.{Inventory, Compose, ReadNumber, Create, Delete}
+use Rattle.ep_codec.specs.declared.command.Command.TheVariants.{SetWindow, Rekey, Expire, SetNumber, Start, Stop}
+use Rattle.ep_codec.specs.declared.command.Command.TheVariants.{Status}
 use Rattle.ep_core.specs.declared.refusal.Refusal.{Refusal}
 use Rattle.ep_core.specs.declared.reply.Reply.{Reply}
 use Rattle.ep_core.specs.Need.{need_of}
@@ -43,7 +46,8 @@ some_made : {X : Type 0} (o : Option X) (f : X → Change × Reply) (step : Chan
 some_made {X} None f step is of = absurd is
 some_made {X} (Some x) f step is of = made_by step (f x) is (of x)
 
-of_done : (state : State) (command : Command) (seen : Seen) (step : Change × Reply) → IsDone state command seen step → IsOfCommand step.0
+of_done : (state : State) (command : Command) (seen : Seen) (step : Change × Reply) → IsDone state command seen step
+    → IsOfCommand step.0
 of_done state (Rekeying master vector sealed tag) seen step is = made_by step _ is tt
 of_done state (Activate keys) seen step is = made_by step _ is tt
 of_done state (Deactivate keys) seen step is = made_by step _ is tt
@@ -67,8 +71,11 @@ of_step_by : (o : Option Refusal) (state : State) (command : Command) (seen : Se
 of_step_by None state command seen step done = of_done state command seen step done
 of_step_by (Some refusal) state command seen step is = made_by step (refused refusal) is tt
 
-pub of_step : (state : State) (octets : List ℕ) (seen : Seen) (step : Change × Reply) → IsStepOf state octets seen step → IsOfCommand step.0
-of_step state octets seen step (inl (command, pdu, is)) = of_step_by (refusal_of state command seen) state command seen step is
+-- no step of a command sets marks, or accepts a number
+pub of_step : (state : State) (octets : List ℕ) (seen : Seen) (step : Change × Reply) → IsStepOf state octets seen step
+    → IsOfCommand step.0
+of_step state octets seen step (inl (command, pdu, is)) =
+    of_step_by (refusal_of state command seen) state command seen step is
 of_step state octets seen step (inr (offset, fault, is)) = made_by step _ is tt
 
 pub command_marks : (change : Change) → IsOfCommand change → IsNoMarks change
@@ -99,7 +106,8 @@ frame_marks plan state (opens.Number key number high width) = tt
 
 frame_allowed : (plan : PlanLines) (state : State) (reply : OpenReply) → KeepsRules state → 1 ≤ plan.accept
     → OnAccepted reply (MayBeAccepted state) → Allows state (frame_change plan state reply)
-frame_allowed plan state (opens.Accepted spi key number from to) rules some may = accept_allowed plan state spi key number rules may some
+frame_allowed plan state (opens.Accepted spi key number from to) rules some may =
+    accept_allowed plan state spi key number rules may some
 frame_allowed plan state opens.Clear rules some may = tt
 frame_allowed plan state (opens.Layout number) rules some may = tt
 frame_allowed plan state opens.Channel rules some may = tt
@@ -110,25 +118,32 @@ frame_allowed plan state opens.Coverage rules some may = tt
 frame_allowed plan state opens.Mac rules some may = tt
 frame_allowed plan state (opens.Number key number high width) rules some may = tt
 
-step_allowed : (state : State) (octets : List ℕ) (seen : Seen) (step : Change × Reply) → KeepsRules state → SeesFor state octets seen
+step_allowed : (state : State) (octets : List ℕ) (seen : Seen) (step : Change × Reply) → KeepsRules state
+    → SeesFor state octets seen
     → IsStepOf state octets seen step → Allows state step.0
 step_allowed state octets seen step rules sees (inl (command, pdu, is)) =
     change_allowed state command seen step rules pdu.bounds (sees (need_of state command) (inl (command, pdu, refl))) is
-step_allowed state octets seen step rules sees (inr (offset, fault, is)) = subst (λ (s : Change × Reply). Allows state s.0) (sym is) tt
+step_allowed state octets seen step rules sees (inr (offset, fault, is)) =
+    subst (λ (s : Change × Reply). Allows state s.0) (sym is) tt
 
-pub legal_allowed : (near : ℕ → ℕ → Type 0) (plan : PlanLines) (state : State) (records : List Record) (entry : Entry) → IsPlan plan
+-- a legal entry's change is one that the state before it allows
+pub legal_allowed : (near : ℕ → ℕ → Type 0) (plan : PlanLines) (state : State) (records : List Record) (entry : Entry)
+    → IsPlan plan
     → KeepsRules state → IsLegal near plan state records entry → Allows state entry.change
 legal_allowed near plan state records entry ok rules (inl opening) =
     subst (λ (e : Entry). Allows state e.change) (sym opening.entry_is)
     (frame_allowed plan state opening.reply rules ok.accept.0
     (any_reply_may plan state opening.task.link opening.task.octets opening.reply opening.field opening.replies))
 legal_allowed near plan state records entry ok rules (inr (inl procedure)) =
-    step_allowed state procedure.task.octets entry.seen (entry.change, procedure.reply) rules procedure.sees procedure.step
+    step_allowed state procedure.task.octets entry.seen (entry.change, procedure.reply) rules procedure.sees
+    procedure.step
 legal_allowed near plan state records entry ok rules (inr (inr reserve)) =
     subst (λ (e : Entry). Allows state e.change) (sym reserve.entry_is)
     (reserve_allowed plan state reserve.key reserve.number rules reserve.there reserve.below ok.block.0)
 
-pub release_is_allowed : (near : ℕ → ℕ → Type 0) (state : State) (entry : Entry) (release : IsRelease near state entry) → KeepsRules state
+-- so is a release's, whose word is at least 1
+pub release_is_allowed : (near : ℕ → ℕ → Type 0) (state : State) (entry : Entry) (release : IsRelease near state entry)
+    → KeepsRules state
     → 1 ≤ release.word → Allows state entry.change
 release_is_allowed near state entry release rules some =
     release_of_allowed state release.word release.held entry rules
@@ -137,7 +152,8 @@ release_is_allowed near state entry release rules some =
 
 -- ---- near, and nearer
 
-pub seen_wider : (near wider : ℕ → ℕ → Type 0) → ((key number : ℕ) → near key number → wider key number) → (key : ℕ) (seen : Seen)
+pub seen_wider : (near wider : ℕ → ℕ → Type 0) → ((key number : ℕ) → near key number → wider key number)
+    → (key : ℕ) (seen : Seen)
     → SeenNear near key seen → SeenNear wider key seen
 seen_wider near wider more key seens.Nothing is = tt
 seen_wider near wider more key (seens.Word word) is = more key word is
@@ -169,7 +185,8 @@ legal_wider near wider more plan state records entry (inr (inr reserve)) = inr (
   entry_is = reserve.entry_is;
 }))
 
-pub release_wider : (near wider : ℕ → ℕ → Type 0) → ((key number : ℕ) → near key number → wider key number) → (state : State) (entry : Entry)
+pub release_wider : (near wider : ℕ → ℕ → Type 0) → ((key number : ℕ) → near key number → wider key number)
+    → (state : State) (entry : Entry)
     → IsRelease near state entry → IsRelease wider state entry
 release_wider near wider more state entry release = record {
   held = release.held;

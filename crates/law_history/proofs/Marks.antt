@@ -1,5 +1,6 @@
 -- Marks and floors through legal entries and releases.
-use Rattle.std.proofs.Common.{◌≡◌, ℕ, ◌+◌, ◌<◌, ◌≤◌, min, nat_eq, cond, Bool, true, false, Option, Some, None, IsSome, IsSomeAnd, inl, inr, ⊎_elim, refl, sym, ap, ◌∙◌, subst, arith, List}
+use Rattle.std.proofs.Common.{◌≡◌, ℕ, ◌+◌, ◌<◌, ◌≤◌, min, nat_eq, cond, Bool, true, false, Option, Some, None, IsSome}
+use Rattle.std.proofs.Common.{IsSomeAnd, inl, inr, ⊎_elim, refl, sym, ap, ◌∙◌, subst, arith, List}
 use Rattle.std.specs.Prelude.{IfSome}
 use Rattle.std.specs.Option.{option_map_or}
 use Rattle.std.proofs.lemmas.Bool.{cases_lt}
@@ -32,7 +33,8 @@ row_named state key held is = equal_number _ _ (found_passes (λ (row : KeyRow).
 pub mark_is : (state : State) (key : ℕ) (held : KeyRow) → key_row state key ≡ Some held → mark_of state key ≡ held.mark
 mark_is state key held is = ap (λ (o : Option KeyRow). option_map_or (λ (row : KeyRow). row.mark) o 1) is
 
-pub floor_is : (state : State) (key : ℕ) (held : KeyRow) → key_row state key ≡ Some held → floor_of state key ≡ held.floor
+pub floor_is : (state : State) (key : ℕ) (held : KeyRow) → key_row state key ≡ Some held
+    → floor_of state key ≡ held.floor
 floor_is state key held is = ap (λ (o : Option KeyRow). option_map_or (λ (row : KeyRow). row.floor) o 0) is
 
 from_one_by : (state : State) (key : ℕ) (o : Option KeyRow) → KeepsRules state → key_row state key ≡ o
@@ -44,7 +46,8 @@ from_one_by state key (Some held) rules is = (held_rules state key held rules is
 pub mark_from_one : (state : State) (key : ℕ) → KeepsRules state → 1 ≤ mark_of state key
 mark_from_one state key rules = from_one_by state key (key_row state key) rules refl
 
-mark_up : (o p : Option KeyRow) → IfSome o (λ held. IsSomeAnd p (RowRises held)) → 1 ≤ option_map_or (λ (row : KeyRow). row.mark) p 1
+mark_up : (o p : Option KeyRow) → IfSome o (λ held. IsSomeAnd p (RowRises held))
+    → 1 ≤ option_map_or (λ (row : KeyRow). row.mark) p 1
     → option_map_or (λ (row : KeyRow). row.mark) o 1 ≤ option_map_or (λ (row : KeyRow). row.mark) p 1
 mark_up None p up low = low
 mark_up (Some held) None up low = absurd up
@@ -92,32 +95,38 @@ marks_up_by state key id mark floor (Some held) (Some new) rules is high_mark hi
     }
 
 -- marks that are set no lower than the key's own do not fall
-pub marks_up : (state : State) (key mark floor : ℕ) → KeepsRules state → mark_of state key ≤ mark → floor_of state key ≤ floor
+pub marks_up : (state : State) (key mark floor : ℕ) → KeepsRules state → mark_of state key ≤ mark
+    → floor_of state key ≤ floor
     → Rises state (applied state (Marks key mark floor))
 marks_up state key mark floor rules high_mark high_floor =
-    λ id. marks_up_by state key id mark floor (key_row state id) (key_row (applied state (Marks key mark floor)) id) rules refl high_mark high_floor
+    λ id. marks_up_by state key id mark floor (key_row state id) (key_row (applied state (Marks key mark floor)) id)
+    rules refl high_mark high_floor
     (fall_only_to state key mark floor id)
 
 to_end_by : (state : State) (key : ℕ) (o : Option KeyRow) → KeepsRules state → key_row state key ≡ o → IsSome o
     → option_map_or (λ (row : KeyRow). row.mark) o 1 ≤ end_of key
 to_end_by state key None rules is there = absurd (cc)
 to_end_by state key (Some held) rules is there =
-    subst (λ (id : ℕ). held.mark ≤ end_of id) (row_named state key held is) (held_rules state key held rules is).mark_to_end
+    subst (λ (id : ℕ). held.mark ≤ end_of id) (row_named state key held is)
+    (held_rules state key held rules is).mark_to_end
 
-reserve_up : (plan : PlanLines) (state : State) (key number : ℕ) → KeepsRules state → IsSome (key_row state key) → mark_of state key ≤ number
+reserve_up : (plan : PlanLines) (state : State) (key number : ℕ) → KeepsRules state → IsSome (key_row state key)
+    → mark_of state key ≤ number
     → Rises state (applied state (reserve_of plan state key number).change)
 reserve_up plan state key number rules there unmarked =
     let end : mark_of state key ≤ end_of key = to_end_by state key (key_row state key) rules refl there in
     marks_up state key (min (number + plan.block) (end_of key)) (floor_of state key) rules (omega arith) (omega arith)
 
 -- no legal entry lets a mark or a floor fall
-pub legal_up : (near : ℕ → ℕ → Type 0) (plan : PlanLines) (state : State) (records : List Record) (entry : Entry) → KeepsRules state
+pub legal_up : (near : ℕ → ℕ → Type 0) (plan : PlanLines) (state : State) (records : List Record) (entry : Entry)
+    → KeepsRules state
     → IsLegal near plan state records entry → Rises state (applied state entry.change)
 legal_up near plan state records entry rules (inl opening) =
     subst (λ (e : Entry). Rises state (applied state e.change)) (sym opening.entry_is)
     (rises state (frame_change plan state opening.reply) (frame_marks plan state opening.reply))
 legal_up near plan state records entry rules (inr (inl procedure)) =
-    rises state entry.change (command_marks entry.change (of_step state procedure.task.octets entry.seen (entry.change, procedure.reply) procedure.step))
+    rises state entry.change (command_marks entry.change
+    (of_step state procedure.task.octets entry.seen (entry.change, procedure.reply) procedure.step))
 legal_up near plan state records entry rules (inr (inr reserve)) =
     subst (λ (e : Entry). Rises state (applied state e.change)) (sym reserve.entry_is)
     (reserve_up plan state reserve.key reserve.number rules reserve.there reserve.unmarked)
@@ -131,7 +140,12 @@ pub record IsReleaseEntry (state : State) (word : ℕ) (held : KeyRow) (entry : 
   pub change_is : entry.change ≡ Marks held.id (min held.mark word) (released_floor state held)
 
 release_entry_by : (state : State) (word : ℕ) (held : KeyRow) (b : Bool) (made entry : Entry)
-    → made ≡ record { index = None; seen = Word word; change = Marks held.id (min held.mark word) (released_floor state held) }
+    → made ≡ record {
+      index = None;
+      seen = Word word;
+      change =
+          Marks held.id (min held.mark word) (released_floor state held);
+    }
     → cond b None (Some made) ≡ Some entry → IsReleaseEntry state word held entry
 release_entry_by state word held true made entry made_is is = absurd (none-some entry is)
 release_entry_by state word held false made entry made_is is =
@@ -147,8 +161,10 @@ pub release_entry : (state : State) (word : ℕ) (held : KeyRow) (entry : Entry)
 release_entry state word held entry is = release_entry_by state word held (is_released state held word) _ entry refl is
 
 mark_kept_by : (state : State) (key number word floor : ℕ) (held : KeyRow) (o p : Option KeyRow) → key_row state key ≡ o
-    → key_row state held.id ≡ Some held → number < option_map_or (λ (row : KeyRow). row.mark) o 1 → (held.id ≡ key → number < word)
-    → 1 ≤ option_map_or (λ (row : KeyRow). row.mark) p 1 → IfSome o (λ row. IsSomeAnd p (FallsOnlyTo held.id (min held.mark word) floor row))
+    → key_row state held.id ≡ Some held → number < option_map_or (λ (row : KeyRow). row.mark) o 1
+    → (held.id ≡ key → number < word)
+    → 1 ≤ option_map_or (λ (row : KeyRow). row.mark) p 1
+    → IfSome o (λ row. IsSomeAnd p (FallsOnlyTo held.id (min held.mark word) floor row))
     → number < option_map_or (λ (row : KeyRow). row.mark) p 1
 mark_kept_by state key number word floor held None p is there below low some falls = omega arith
 mark_kept_by state key number word floor held (Some row) None is there below low some falls = absurd falls
@@ -167,7 +183,8 @@ mark_kept_by state key number word floor held (Some row) (Some new) is there bel
 
 -- a release leaves a mark above each number below both mark and word
 pub release_marks : (near : ℕ → ℕ → Type 0) (state : State) (entry : Entry) (release : IsRelease near state entry)
-    → KeepsRules (applied state entry.change) → (key number : ℕ) → number < mark_of state key → (release.held.id ≡ key → number < release.word)
+    → KeepsRules (applied state entry.change) → (key number : ℕ) → number < mark_of state key
+    → (release.held.id ≡ key → number < release.word)
     → number < mark_of (applied state entry.change) key
 release_marks near state entry release rules key number below low =
     let held : KeyRow = release.held in
@@ -175,6 +192,7 @@ release_marks near state entry release rules key number below low =
     let new : State = applied state (Marks held.id (min held.mark release.word) (released_floor state held)) in
     let same : applied state entry.change ≡ new = ap (applied state) is.change_is in
     subst (λ (s : State). number < mark_of s key) (sym same)
-    (mark_kept_by state key number release.word (released_floor state held) held (key_row state key) (key_row new key) refl release.there below low
+    (mark_kept_by state key number release.word (released_floor state held) held (key_row state key)
+    (key_row new key) refl release.there below low
     (subst (λ (s : State). 1 ≤ mark_of s key) same (mark_from_one (applied state entry.change) key rules))
     (fall_only_to state held.id (min held.mark release.word) (released_floor state held) key))

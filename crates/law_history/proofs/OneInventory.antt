@@ -1,5 +1,6 @@
 -- The inventory of a state's keys is one.
-use Rattle.std.proofs.Common.{◌≡◌, ℕ, zero, suc, ◌+◌, ◌<◌, ◌≤◌, Bool, true, false, nat_eq, List, [], ◌∷◌, length, get_or, map, take, Option, refl, sym, ap, ◌∙◌, subst, ⊎_elim, arith}
+use Rattle.std.proofs.Common.{◌≡◌, ℕ, zero, suc, ◌+◌, ◌<◌, ◌≤◌, Bool, true, false, nat_eq, List, [], ◌∷◌, length}
+use Rattle.std.proofs.Common.{get_or, map, take, Option, refl, sym, ap, ◌∙◌, subst, ⊎_elim, arith}
 use Rattle.std.specs.Prelude.{nat_le, ◌&&◌}
 use Rattle.std.specs.List.{All, filter, sum_by}
 use Rattle.std.specs.List.Sorted.{IsPermutation, IsNonDecreasingBy}
@@ -60,10 +61,15 @@ not_less a b xs ys less climbs same =
     let other : times a (b ∷ ys) ≡ one_if (nat_eq b a) + times a ys = times_more a b ys in
     omega (arith, here, there, later, one, other, same)
 
-same_numbers : (low : ℕ) (xs ys : List ℕ) → Climbs low xs → Climbs low ys → ((f : ℕ → ℕ) → sum_by f xs ≡ sum_by f ys) → xs ≡ ys
+same_numbers : (low : ℕ) (xs ys : List ℕ) → Climbs low xs → Climbs low ys → ((f : ℕ → ℕ) → sum_by f xs ≡ sum_by f ys)
+    → xs ≡ ys
 same_numbers low [] [] one other sums = refl
-same_numbers low [] (y ∷ ys) one other sums = absurd (let same : 0 ≡ 1 + sum_by (λ (n : ℕ). 1) ys = sums (λ (n : ℕ). 1) ∙ sum_by-cons (λ (n : ℕ). 1) y ys in omega arith)
-same_numbers low (x ∷ xs) [] one other sums = absurd (let same : 1 + sum_by (λ (n : ℕ). 1) xs ≡ 0 = sym (sum_by-cons (λ (n : ℕ). 1) x xs) ∙ sums (λ (n : ℕ). 1) in omega arith)
+same_numbers low [] (y ∷ ys) one other sums =
+    absurd (let same : 0 ≡ 1 + sum_by (λ (n : ℕ). 1) ys =
+    sums (λ (n : ℕ). 1) ∙ sum_by-cons (λ (n : ℕ). 1) y ys in omega arith)
+same_numbers low (x ∷ xs) [] one other sums =
+    absurd (let same : 1 + sum_by (λ (n : ℕ). 1) xs ≡ 0 =
+    sym (sum_by-cons (λ (n : ℕ). 1) x xs) ∙ sums (λ (n : ℕ). 1) in omega arith)
 same_numbers low (x ∷ xs) (y ∷ ys) (least, rest) (also, more) sums =
     ⊎_elim
     (λ (less : x < y). absurd (not_less x y xs ys less more (sums (λ (n : ℕ). one_if (nat_eq n x)))))
@@ -81,7 +87,8 @@ same_numbers low (x ∷ xs) (y ∷ ys) (least, rest) (also, more) sums =
     (cases_lt y x))
     (cases_lt x y)
 
-climbs : {X : Type 0} (g : X → ℕ) (xs : List X) (low : ℕ) → IsNonDecreasingBy g xs → ((k : ℕ) (d : X) → k < length xs → low ≤ g (get_or xs k d)) → Climbs low (map g xs)
+climbs : {X : Type 0} (g : X → ℕ) (xs : List X) (low : ℕ) → IsNonDecreasingBy g xs
+    → ((k : ℕ) (d : X) → k < length xs → low ≤ g (get_or xs k d)) → Climbs low (map g xs)
 climbs {X} g [] low order least = tt
 climbs {X} g (x ∷ xs) low order least = (
   least zero x (omega arith),
@@ -100,13 +107,17 @@ pair_of row = (row.id, row.state)
 abbrev pair_at : List KeyRow → ℕ → ℕ × KeyState
 pair_at rows key = option_map_or pair_of (row_of rows key) (0, Active)
 
-pairs_listed : (rows : List KeyRow) (first last : ℕ) → AreKeyRows rows → All (λ pair. pair ≡ pair_at rows (key_at pair)) (listed rows first last)
+pairs_listed : (rows : List KeyRow) (first last : ℕ) → AreKeyRows rows
+    → All (λ pair. pair ≡ pair_at rows (key_at pair)) (listed rows first last)
 pairs_listed rows first last ok =
-    All-map (λ (pair : ℕ × KeyState). pair ≡ pair_at rows (key_at pair)) pair_of (filter (λ (row : KeyRow). nat_le first row.id && nat_le row.id last) rows)
-    (All-filter (λ (row : KeyRow). nat_le first row.id && nat_le row.id last) (λ (row : KeyRow). pair_of row ≡ pair_at rows row.id) rows
+    All-map (λ (pair : ℕ × KeyState). pair ≡ pair_at rows (key_at pair)) pair_of
+    (filter (λ (row : KeyRow). nat_le first row.id && nat_le row.id last) rows)
+    (All-filter (λ (row : KeyRow). nat_le first row.id && nat_le row.id last)
+    (λ (row : KeyRow). pair_of row ≡ pair_at rows row.id) rows
     (λ k d low.
     let row : KeyRow = get_or rows k d in
-    sym (ap (λ (o : Option KeyRow). option_map_or pair_of o (0, Active)) (row_at rows k row ok (slice_get-get_or rows k d low)))))
+    sym (ap (λ (o : Option KeyRow). option_map_or pair_of o (0, Active))
+    (row_at rows k row ok (slice_get-get_or rows k d low)))))
 
 rebuilt : {X : Type 0} (g : X → ℕ) (h : ℕ → X) (xs : List X) → All (λ x. x ≡ h (g x)) xs → xs ≡ map h (map g xs)
 rebuilt {X} g h [] all = refl
@@ -121,21 +132,27 @@ sorted_one rows first last one other ok is also order again =
     let all : List (ℕ × KeyState) = listed rows first last in
     let own : All (λ pair. pair ≡ pair_at rows (key_at pair)) all = pairs_listed rows first last ok in
     let keys : map key_at one ≡ map key_at other =
-    same_numbers 0 (map key_at one) (map key_at other) (climbs key_at one 0 order (λ k d low. omega arith)) (climbs key_at other 0 again (λ k d low. omega arith))
+    same_numbers 0 (map key_at one) (map key_at other) (climbs key_at one 0 order (λ k d low. omega arith))
+    (climbs key_at other 0 again (λ k d low. omega arith))
     (λ f. sum_by-IsPermutation f (map key_at all) (map key_at one) (IsPermutation-map key_at all one is)
     ∙ sym (sum_by-IsPermutation f (map key_at all) (map key_at other) (IsPermutation-map key_at all other also))) in
-    rebuilt key_at (pair_at rows) one (All-permutation (λ (pair : ℕ × KeyState). pair ≡ pair_at rows (key_at pair)) all one is own)
+    rebuilt key_at (pair_at rows) one
+    (All-permutation (λ (pair : ℕ × KeyState). pair ≡ pair_at rows (key_at pair)) all one is own)
     ∙ ap (map (pair_at rows)) keys
-    ∙ sym (rebuilt key_at (pair_at rows) other (All-permutation (λ (pair : ℕ × KeyState). pair ≡ pair_at rows (key_at pair)) all other also own))
+    ∙ sym (rebuilt key_at (pair_at rows) other
+    (All-permutation (λ (pair : ℕ × KeyState). pair ≡ pair_at rows (key_at pair)) all other also own))
 
 -- what two inventories tell
 pub record TellOne (one other : Inventory) : Type 0 where
   pub total : one.total ≡ other.total
   pub rows : one.rows ≡ other.rows
 
-pub inventory_one : (rows : List KeyRow) (first last : ℕ) (one other : Inventory) → AreKeyRows rows → IsInventory rows first last one
+pub inventory_one : (rows : List KeyRow) (first last : ℕ) (one other : Inventory) → AreKeyRows rows
+    → IsInventory rows first last one
     → IsInventory rows first last other → TellOne one other
 inventory_one rows first last one other ok is also = record {
   total = is.total ∙ sym also.total;
-  rows = is.front ∙ ap (take MOST_LISTED) (sorted_one rows first last is.sorted also.sorted ok is.permutation also.permutation is.ascending also.ascending) ∙ sym also.front;
+  rows = is.front ∙ ap (take MOST_LISTED)
+      (sorted_one rows first last is.sorted also.sorted ok is.permutation also.permutation is.ascending also.ascending)
+      ∙ sym also.front;
 }

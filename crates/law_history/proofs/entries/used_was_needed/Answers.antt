@@ -1,8 +1,0 @@
-use Rattle.std.proofs.Common.{Some, refl}
-use Rattle.ep_core.specs.declared.reply.Reply.TheVariants.{Done}
-use Rattle.law_history.proofs.Used.{used_needed}
-use Rattle.law_history.proofs.entries.used_was_needed.Goals as goal
-
-pub returns : goal.returns
-returns c = λ state octets seen change key number pdu sees is.
-    used_needed state octets seen (change, Done (Some key) number pdu) key number sees is (record { pdu = pdu; is = refl })
