@@ -1,11 +1,13 @@
 -- What a book serves is that of its epoch.
-use Rattle.std.proofs.Common.{◌≡◌, ℕ, zero, suc, ◌+◌, ◌≤◌, Bool, true, false, cond, nat_eq, nat_lt, List, [], ◌∷◌, length, take, drop, map, not, Option, Some, None, refl, sym, ◌∙◌, ap, inl, inr, arith}
+use Rattle.std.proofs.Common.{◌≡◌, ℕ, zero, suc, ◌+◌, ◌≤◌, Bool, true, false, cond, nat_eq, nat_lt, List, [], ◌∷◌}
+use Rattle.std.proofs.Common.{length, take, drop, map, not, Option, Some, None, refl, sym, ◌∙◌, ap, inl, inr, arith}
 use Rattle.std.specs.List.{position_or_len}
 use Rattle.std.specs.Option.{option_map, option_and_then}
 use Rattle.std.proofs.lemmas.List.{take-append-drop, length-map}
 use Rattle.std.proofs.lemmas.Option.{same_Some}
 use Rattle.sdls_base.specs.declared.change.Change.{Change}
-use Rattle.sdls_base.specs.declared.change.Change.TheVariants.{Marks, Load, KeyStates, Create, Rekey, SaTo, SetNumber, SetWindow, Accepted, Nothing}
+use Rattle.sdls_base.specs.declared.change.Change.TheVariants.{Marks, Load, KeyStates, Create, Rekey, SaTo, SetNumber}
+use Rattle.sdls_base.specs.declared.change.Change.TheVariants.{SetWindow, Accepted, Nothing}
 use Rattle.sdls_base.specs.declared.entry.Entry.{Entry}
 use Rattle.sdls_base.specs.declared.link.Link.{Link}
 use Rattle.sdls_base.specs.declared.states.Suite.{Suite}
@@ -90,7 +92,8 @@ still_epoch state entries p epoch is =
 -- ---- what is served alike
 
 abbrev bound_with : PlanLines → Link → ℕ → Suite → ℕ → KeyRow → Binding
-bound_with plan line spi suite key held = record { spi = spi; suite = suite; key = key; schedule = held.bytes; device = plan.device; link = line }
+bound_with plan line spi suite key held =
+    record { spi = spi; suite = suite; key = key; schedule = held.bytes; device = plan.device; link = line }
 
 key_by : (plan : PlanLines) (line : Link) (spi : ℕ) (suite : Suite) (key : ℕ) (one other : Option KeyRow)
     → option_map still_key one ≡ option_map still_key other
@@ -99,15 +102,19 @@ key_by plan line spi suite key None None same = refl
 key_by plan line spi suite key None (Some held) same = absurd cc
 key_by plan line spi suite key (Some held) None same = absurd cc
 key_by plan line spi suite key (Some held) (Some now) same =
-    ap (λ (row : KeyRow). Some (bound_with plan line spi suite key row)) (same_Some (still_key held) (still_key now) same)
+    ap (λ (row : KeyRow). Some (bound_with plan line spi suite key row))
+    (same_Some (still_key held) (still_key now) same)
 
 abbrev bound_by : PlanLines → State → Link → ℕ → Suite → Option ℕ → Option Binding
-bound_by plan state line spi suite own = option_and_then (λ key. option_map (bound_with plan line spi suite key) (key_row state key)) own
+bound_by plan state line spi suite own =
+    option_and_then (λ key. option_map (bound_with plan line spi suite key) (key_row state key)) own
 
-own_by : (plan : PlanLines) (one other : State) (line : Link) (spi : ℕ) (suite : Suite) (own : Option ℕ) → ServeAlike one other
+own_by : (plan : PlanLines) (one other : State) (line : Link) (spi : ℕ) (suite : Suite) (own : Option ℕ)
+    → ServeAlike one other
     → bound_by plan one line spi suite own ≡ bound_by plan other line spi suite own
 own_by plan one other line spi suite None alike = refl
-own_by plan one other line spi suite (Some key) alike = key_by plan line spi suite key (key_row one key) (key_row other key) (alike.key key)
+own_by plan one other line spi suite (Some key) alike =
+    key_by plan line spi suite key (key_row one key) (key_row other key) (alike.key key)
 
 bindings_by : (plan : PlanLines) (one other : State) (line : Link) (sender later : Option SaRow) → ServeAlike one other
     → option_map still_association sender ≡ option_map still_association later
@@ -116,7 +123,8 @@ bindings_by plan one other line None None alike same = refl
 bindings_by plan one other line None (Some row) alike same = absurd cc
 bindings_by plan one other line (Some row) None alike same = absurd cc
 bindings_by plan one other line (Some row) (Some now) alike same =
-    ap (λ (still : SaRow). bound_by plan one line still.spi still.suite still.key) (same_Some (still_association row) (still_association now) same)
+    ap (λ (still : SaRow). bound_by plan one line still.spi still.suite still.key)
+    (same_Some (still_association row) (still_association now) same)
     ∙ own_by plan one other line now.spi now.suite now.key alike
 
 same_place : (p : KeyRow → Bool) (rows : List KeyRow) → ((row : KeyRow) → p (still_key row) ≡ p row)
@@ -128,14 +136,17 @@ same_place p (row ∷ rows) same =
 
 place_still : (rows : List KeyRow) (key : ℕ) → place_of (map still_key rows) key ≡ place_of rows key
 place_still rows key =
-    let first : position_or_len (λ (row : KeyRow). nat_eq row.id key) (map still_key rows) ≡ position_or_len (λ (row : KeyRow). nat_eq row.id key) rows =
+    let first : position_or_len (λ (row : KeyRow). nat_eq row.id key) (map still_key rows)
+    ≡ position_or_len (λ (row : KeyRow). nat_eq row.id key) rows =
     same_place (λ (row : KeyRow). nat_eq row.id key) rows (λ row. refl) in
     ap (λ (n : ℕ). cond (nat_lt n (length (map still_key rows))) (Some n) None) first
     ∙ ap (λ (size : ℕ). cond (nat_lt (position_or_len (λ (row : KeyRow). nat_eq row.id key) rows) size)
     (Some (position_or_len (λ (row : KeyRow). nat_eq row.id key) rows)) None) (length-map rows still_key)
 
-need_by : (one other : State) (octets : List ℕ) (need : Need) → still one ≡ still other → IsNeedOf one octets need → IsNeedOf other octets need
-need_by one other octets need same (inl (command, spelled, is)) = inl (command, spelled, is ∙ same_need one other command same)
+need_by : (one other : State) (octets : List ℕ) (need : Need) → still one ≡ still other → IsNeedOf one octets need
+    → IsNeedOf other octets need
+need_by one other octets need same (inl (command, spelled, is)) = inl
+    (command, spelled, is ∙ same_need one other command same)
 need_by one other octets need same (inr (offset, fault, is)) = inr (offset, fault, is)
 
 -- states that differ in marks, floors and highest numbers alone
@@ -144,8 +155,10 @@ alike_served plan one other same =
     let alike : ServeAlike one other = serves_alike one other same in
     record {
       checks = λ link clear. checks_alike plan one other link clear alike;
-      bindings = λ line channel. bindings_by plan one other line (sender_on one.associations channel) (sender_on other.associations channel)
+      bindings = λ line channel. bindings_by plan one other line (sender_on one.associations channel)
+          (sender_on other.associations channel)
           alike (alike.sender channel);
-      places = λ key. sym (place_still one.keys key) ∙ ap (λ (s : State). place_of s.keys key) same ∙ place_still other.keys key;
+      places = λ key. sym (place_still one.keys key) ∙ ap (λ (s : State). place_of s.keys key) same
+          ∙ place_still other.keys key;
       needs = λ octets need. (need_by one other octets need same, need_by other one octets need (sym same));
     }

@@ -19,13 +19,15 @@ append_nil : (octets : List ℕ) → octets ++ [] ≡ octets
 append_nil [] = refl
 append_nil (o ∷ octets) = ap (λ (rest : List ℕ). o ∷ rest) (append_nil octets)
 
-fresh_history : (now : Trace) (start : State) (journal : JournalView) → IsSettled now journal → Shows now.now.image (restarted start)
+fresh_history : (now : Trace) (start : State) (journal : JournalView) → IsSettled now journal
+    → Shows now.now.image (restarted start)
     → IsHistory now now start [] 0
 fresh_history now start journal settled shows =
     let before : List ℕ = now.now.sunk in
     let shows_now : (image : List ℕ) → Leaves now.now image → ShowsFrom start [] 0 image = λ image leaves.
     let same : image ≡ now.now.image = synced_leaves now.now image settled.synced leaves in
-    subst (λ (octets : List ℕ). ShowsFrom start [] 0 octets) (sym same) (shows_from_all start [] now.now.image shows settled.of_image.rests) in
+    subst (λ (octets : List ℕ). ShowsFrom start [] 0 octets) (sym same)
+    (shows_from_all start [] now.now.image shows settled.of_image.rests) in
     let rests : (image : List ℕ) → Leaves now.now image → IsAtRest image = λ image leaves.
     subst IsAtRest (sym (synced_leaves now.now image settled.synced leaves)) settled.of_image.rests in
     let here : Between (before ++ []) (before ++ []) before =
@@ -43,8 +45,10 @@ fresh_history now start journal settled shows =
       idle = λ none. record { moments = each_same now (λ image sunk. IsAtRest image) rests; rests_now = rests };
     }
 
-pub fresh_kept : (told : Bool) (site : SiteSeen) (image : List ℕ) (plan : PlanLines) (start : State) (journal : JournalView)
-    → KeepsRules start → (IsTrue told → IsSettled site.trace journal) → (IsTrue told → Shows site.trace.now.image (restarted start))
+pub fresh_kept : (told : Bool) (site : SiteSeen) (image : List ℕ) (plan : PlanLines) (start : State)
+    (journal : JournalView)
+    → KeepsRules start → (IsTrue told → IsSettled site.trace journal)
+    → (IsTrue told → Shows site.trace.now.image (restarted start))
     → IsKept told (begun site image plan start journal)
 fresh_kept told site image plan start journal rules settled shows = record {
   later = omega arith;
@@ -65,11 +69,13 @@ fresh_kept told site image plan start journal rules settled shows = record {
 }
 
 -- the same, as the fields of a new book show it
-pub fresh_shown : (told : Bool) (site opened : SiteSeen) (image : List ℕ) (plan : PlanLines) (state start : State) (journal : JournalView)
+pub fresh_shown : (told : Bool) (site opened : SiteSeen) (image : List ℕ) (plan : PlanLines) (state start : State)
+    (journal : JournalView)
     → opened ≡ site → start ≡ state → KeepsRules state → (IsTrue told → IsSettled site.trace journal)
     → (IsTrue told → Shows site.trace.now.image (restarted state))
     → IsKept told (record (begun site image plan state journal) { opened = opened; start = start })
 fresh_shown told site opened image plan state start journal same_site same_state rules settled shows =
-    subst (λ (o : SiteSeen). IsKept told (record (begun site image plan state journal) { opened = o; start = start })) (sym same_site)
+    subst (λ (o : SiteSeen). IsKept told (record (begun site image plan state journal) { opened = o; start = start }))
+    (sym same_site)
     (subst (λ (s : State). IsKept told (record (begun site image plan state journal) { start = s })) (sym same_state)
     (fresh_kept told site image plan state journal rules settled shows))

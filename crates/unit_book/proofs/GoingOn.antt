@@ -1,5 +1,6 @@
 -- A call that leaves a book which goes on.
-use Rattle.std.proofs.Common.{◌≡◌, ℕ, ◌+◌, ◌≤◌, false, List, [], ◌∷◌, ◌++◌, length, length-append, Result, Ok, Err, refl, sym, ◌∙◌, ap, subst, arith}
+use Rattle.std.proofs.Common.{◌≡◌, ℕ, ◌+◌, ◌≤◌, false, List, [], ◌∷◌, ◌++◌, length, length-append, Result, Ok, Err}
+use Rattle.std.proofs.Common.{refl, sym, ◌∙◌, ap, subst, arith}
 use Rattle.std.specs.Prelude.{MatchResult, IfErr, OnOk}
 use Rattle.std.proofs.lemmas.List.{append_assoc}
 use Rattle.sdls_base.specs.declared.entry.Entry.{Entry}
@@ -52,25 +53,32 @@ goes_then old mid new first next = record {
   plan = next.plan ∙ first.plan;
   start = next.start ∙ first.start;
   added = first.added ++ next.added;
-  log = next.log ∙ ap (λ (log : List Logged). log ++ next.added) first.log ∙ append_assoc old.log first.added next.added;
-  later = let one : old.site.faults ≤ mid.site.faults = first.later in let other : mid.site.faults ≤ new.site.faults = next.later in omega arith;
-  standing = let one : old.standing ≤ mid.standing = first.standing in let other : mid.standing ≤ new.standing = next.standing in omega arith;
-  changes = let one : old.changes ≤ mid.changes = first.changes in let other : mid.changes ≤ new.changes = next.changes in omega arith;
+  log = next.log ∙ ap (λ (log : List Logged). log ++ next.added) first.log
+      ∙ append_assoc old.log first.added next.added;
+  later = let one : old.site.faults ≤ mid.site.faults = first.later in let other : mid.site.faults ≤ new.site.faults =
+      next.later in omega arith;
+  standing = let one : old.standing ≤ mid.standing = first.standing in let other : mid.standing ≤ new.standing =
+      next.standing in omega arith;
+  changes = let one : old.changes ≤ mid.changes = first.changes in let other : mid.changes ≤ new.changes =
+      next.changes in omega arith;
   stood = λ rose.
       let low : old.site.faults ≤ mid.site.faults = first.later in
       let still : Rose mid.opened.faults mid.site.faults =
-      subst (λ (o : SiteSeen). Rose o.faults mid.site.faults) (sym first.opened) (rose_later old.opened.faults old.site.faults mid.site.faults low rose) in
+      subst (λ (o : SiteSeen). Rose o.faults mid.site.faults) (sym first.opened)
+      (rose_later old.opened.faults old.site.faults mid.site.faults low rose) in
       next.stood still ∙ first.stood rose;
   stopped = λ rose.
       let later : old.site.faults ≤ mid.site.faults = first.later in
       let still : Rose mid.opened.faults mid.site.faults =
-      subst (λ (o : SiteSeen). Rose o.faults mid.site.faults) (sym first.opened) (rose_later old.opened.faults old.site.faults mid.site.faults later rose) in
+      subst (λ (o : SiteSeen). Rose o.faults mid.site.faults) (sym first.opened)
+      (rose_later old.opened.faults old.site.faults mid.site.faults later rose) in
       entries_append first.added next.added
       ∙ ap (λ (entries : List Entry). entries ++ entries_of next.added) (first.stopped rose) ∙ next.stopped still;
   places = λ id place is. next.places id place (first.places id place is);
   marks = λ none.
       let parts : HasNoRelease (entries_of first.added) × HasNoRelease (entries_of next.added) =
-      no_release_parts (entries_of first.added) (entries_of next.added) (subst HasNoRelease (entries_append first.added next.added) none) in
+      no_release_parts (entries_of first.added) (entries_of next.added)
+      (subst HasNoRelease (entries_append first.added next.added) none) in
       marks_then old.state mid.state new.state (first.marks parts.0) (next.marks parts.1);
 }
   where
@@ -156,19 +164,23 @@ calm_entered entry old new position still made = λ rose all.
     subst (λ (n : ℕ). Rose n old.site.faults) opened (subst (Rose new.opened.faults) still rose)
 
 -- an entry whose append failed does not stand
-pub calm_unstored : (entry : Entry) (old new : BookView) (fault : BookFault) → old.standing ≤ length (entries_of old.log)
+pub calm_unstored : (entry : Entry) (old new : BookView) (fault : BookFault)
+    → old.standing ≤ length (entries_of old.log)
     → IsUnstored entry old new fault → IsCalm old new
 calm_unstored entry old new (SiteFault count) stands unstored = λ rose all.
     let standing : new.standing ≡ old.standing = ap (λ (b : BookView). b.standing) unstored.3 in
     let size : length (entries_of new.log) ≡ length (entries_of old.log) + 1 =
     ap (λ (b : BookView). length (entries_of b.log)) unstored.3
-    ∙ ap length (entries_append old.log (logged.Entry entry ∷ [])) ∙ length-append (entries_of old.log) (entry ∷ []) in absurd (omega arith)
+    ∙ ap length (entries_append old.log (logged.Entry entry ∷ [])) ∙ length-append (entries_of old.log)
+    (entry ∷ []) in absurd (omega arith)
 calm_unstored entry old new (Stopped count) stands unstored = absurd unstored
 calm_unstored entry old new SessionFull stands unstored = absurd unstored
 calm_unstored entry old new NoMemory stands unstored = absurd unstored
 
-pub calm_committed : (entry : Entry) (old new : BookView) (result : Result ℕ BookFault) → old.standing ≤ length (entries_of old.log)
-    → OnOk result (new.site.faults ≡ old.site.faults) → MatchResult result (Enters entry old new) (IsUnstored entry old new) → IsCalm old new
+pub calm_committed : (entry : Entry) (old new : BookView) (result : Result ℕ BookFault)
+    → old.standing ≤ length (entries_of old.log)
+    → OnOk result (new.site.faults ≡ old.site.faults)
+    → MatchResult result (Enters entry old new) (IsUnstored entry old new) → IsCalm old new
 calm_committed entry old new (Ok position) stands still made = calm_entered entry old new position still made
 calm_committed entry old new (Err fault) stands still unstored = calm_unstored entry old new fault stands unstored
 
@@ -210,13 +222,15 @@ put_tells old new NoMemory low opened fails = absurd fails
 
 pub goes_committed : (entry : Entry) (old new : BookView) (result : Result ℕ BookFault)
     → (is_release entry ≡ false → KeepsMarks old.state (applied old.state entry.change)) → CanEnter old
-    → old.site.faults ≤ new.site.faults → MatchResult result (Enters entry old new) (IsUnstored entry old new) → GoesOn old new
+    → old.site.faults ≤ new.site.faults → MatchResult result (Enters entry old new) (IsUnstored entry old new)
+    → GoesOn old new
 goes_committed entry old new (Ok position) keeps can low made = goes_entered entry old new position keeps can low made
 goes_committed entry old new (Err fault) keeps can low unstored = goes_unstored entry old new fault can low unstored
 
 pub marks_committed : (entry : Entry) (old new : BookView) (result : Result ℕ BookFault)
     → (is_release entry ≡ false → KeepsMarks old.state (applied old.state entry.change))
-    → MatchResult result (Enters entry old new) (IsUnstored entry old new) → is_release entry ≡ false → KeepsMarks old.state new.state
+    → MatchResult result (Enters entry old new) (IsUnstored entry old new) → is_release entry ≡ false
+    → KeepsMarks old.state new.state
 marks_committed entry old new (Ok position) keeps made not =
     subst (λ (b : BookView). KeepsMarks old.state b.state) (sym made.is) (keeps not)
 marks_committed entry old new (Err fault) keeps unstored not = marks_unstored entry old new fault unstored

@@ -1,5 +1,6 @@
 -- What the images of a run show, while its entries are stored.
-use Rattle.std.proofs.Common.{◌≡◌, ℕ, ◌+◌, ◌≤◌, List, [], ◌∷◌, ◌++◌, length, refl, sym, ◌∙◌, ap, subst, inl, inr, arith, length-append}
+use Rattle.std.proofs.Common.{◌≡◌, ℕ, ◌+◌, ◌≤◌, List, [], ◌∷◌, ◌++◌, length, refl, sym, ◌∙◌, ap, subst, inl, inr, arith}
+use Rattle.std.proofs.Common.{length-append}
 use Rattle.std.proofs.lemmas.List.{take_all, take-append-le}
 use Rattle.sdls_base.specs.declared.entry.Entry.{Entry}
 use Rattle.unit_image.specs.Image.{Becomes, HasOneClosed, Held, held, Holds, IsAtRest}
@@ -11,7 +12,8 @@ use Rattle.unit_image.specs.Shows.{Says, Shows}
 use Rattle.run_promise.specs.ShowsAfter.{ShowsAfter}
 use Rattle.unit_book.specs.Book.{ShowsFrom}
 
-pub after_entry : (start : State) (entries : List Entry) (entry : Entry) → after start (entries ++ entry ∷ []) ≡ applied (after start entries) entry.change
+pub after_entry : (start : State) (entries : List Entry) (entry : Entry) → after start (entries ++ entry ∷ [])
+    ≡ applied (after start entries) entry.change
 after_entry start [] entry = refl
 after_entry start (first ∷ entries) entry = after_entry (applied start first.change) entries entry
 
@@ -19,7 +21,8 @@ pub first_same : (start : State) (entries more : List Entry) (p : ℕ) → p ≤
     → after_first start (entries ++ more) p ≡ after_first start entries p
 first_same start entries more p low = ap (after start) (take-append-le p entries more low)
 
-pub first_all : (start : State) (entries : List Entry) (p : ℕ) → length entries ≤ p → after_first start entries p ≡ after start entries
+pub first_all : (start : State) (entries : List Entry) (p : ℕ) → length entries ≤ p → after_first start entries p
+    ≡ after start entries
 first_all start entries p high = ap (after start) (take_all p entries high)
 
 -- what an image that shows a state holds says the state
@@ -43,28 +46,36 @@ shows_after_more start entries more p image shows =
       within = omega arith;
       shows = subst (λ (s : State). Shows image (restarted s)) (sym (first_same start entries more p low)) shows.shows;
       forms = λ form is.
-          let (q, above, within, shown) = shows.forms form is in
-          (q, above, omega arith, subst (λ (s : State). Shows form (restarted s)) (sym (first_same start entries more q within)) shown);
+          let (q, above, within, shown) = shows.forms form is in (
+            q,
+            above,
+            omega arith,
+            subst (λ (s : State). Shows form (restarted s))
+                (sym (first_same start entries more q within)) shown,
+          );
       settled = shows.settled;
     }
 
 pub shows_from_more : (start : State) (entries more : List Entry) (least : ℕ) (image : List ℕ)
     → ShowsFrom start entries least image → ShowsFrom start (entries ++ more) least image
-shows_from_more start entries more least image (p, above, shows) = (p, above, shows_after_more start entries more p image shows)
+shows_from_more start entries more least image (p, above, shows) =
+    (p, above, shows_after_more start entries more p image shows)
 
 pub shows_from_less : (start : State) (entries : List Entry) (least more : ℕ) (image : List ℕ) → least ≤ more
     → ShowsFrom start entries more image → ShowsFrom start entries least image
 shows_from_less start entries least more image low (p, above, shows) = (p, omega arith, shows)
 
 -- all entries are shown, by an image at rest
-pub shows_from_all : (start : State) (entries : List Entry) (image : List ℕ) → Shows image (restarted (after start entries))
+pub shows_from_all : (start : State) (entries : List Entry) (image : List ℕ)
+    → Shows image (restarted (after start entries))
     → IsAtRest image → ShowsFrom start entries (length entries) image
 shows_from_all start entries image shows rests = (
   length entries,
   omega arith,
   record {
     within = omega arith;
-    shows = subst (λ (s : State). Shows image (restarted s)) (sym (first_all start entries (length entries) (omega arith))) shows;
+    shows = subst (λ (s : State). Shows image (restarted s))
+        (sym (first_all start entries (length entries) (omega arith))) shows;
     forms = λ form is. absurd (rests is.0 is.1);
     settled = rests_settled image rests;
   },
@@ -74,13 +85,15 @@ shows_from_all start entries image shows rests = (
 -- where it holds the next, as its opened forms do.
 pub shows_becomes : (start : State) (entries : List Entry) (entry : Entry) (old next : Held) (image : List ℕ)
     → Becomes old next image → Says old (restarted (after start entries))
-    → Says next (restarted (after start (entries ++ entry ∷ []))) → ShowsFrom start (entries ++ entry ∷ []) (length entries) image
+    → Says next (restarted (after start (entries ++ entry ∷ [])))
+    → ShowsFrom start (entries ++ entry ∷ []) (length entries) image
 shows_becomes start entries entry old next image becomes says_old says_next =
     let size : length (entries ++ entry ∷ []) ≡ length entries + 1 = length-append entries (entry ∷ []) in
     let whole : after_first start (entries ++ entry ∷ []) (length entries + 1) ≡ after start (entries ++ entry ∷ []) =
     first_all start (entries ++ entry ∷ []) (length entries + 1) (omega arith) in
     let part : after_first start (entries ++ entry ∷ []) (length entries) ≡ after start entries =
-    first_same start entries (entry ∷ []) (length entries) (omega arith) ∙ first_all start entries (length entries) (omega arith) in
+    first_same start entries (entry ∷ []) (length entries) (omega arith) ∙ first_all start entries (length entries)
+    (omega arith) in
     let next_says : Says next (restarted (after_first start (entries ++ entry ∷ []) (length entries + 1))) =
     subst (λ (s : State). Says next (restarted s)) (sym whole) says_next in
     elim becomes.holds [
@@ -94,7 +107,17 @@ shows_becomes start entries entry old next image becomes says_old says_next =
             holds = holds;
             says = subst (λ (s : State). Says old (restarted s)) (sym part) says_old;
           };
-          forms = λ form is. (length entries + 1, omega arith, omega arith, record { what = next; holds = becomes.forms form is; says = next_says });
+          forms = λ form is. (
+            length entries + 1,
+            omega arith,
+            omega arith,
+            record {
+              what = next;
+              holds =
+                  becomes.forms form is;
+              says = next_says;
+            },
+          );
           settled = becomes.settled;
         },
       )
@@ -104,15 +127,27 @@ shows_becomes start entries entry old next image becomes says_old says_next =
         record {
           within = omega arith;
           shows = record { what = next; holds = holds; says = next_says };
-          forms = λ form is. (length entries + 1, omega arith, omega arith, record { what = next; holds = becomes.forms form is; says = next_says });
+          forms = λ form is. (
+            length entries + 1,
+            omega arith,
+            omega arith,
+            record {
+              what = next;
+              holds =
+                  becomes.forms form is;
+              says = next_says;
+            },
+          );
           settled = becomes.settled;
         },
       )
     ]
 
 -- an image at rest that holds the next shows the one more
-pub shows_next : (start : State) (entries : List Entry) (entry : Entry) (next : Held) (image : List ℕ) → Holds image next → IsAtRest image
-    → Says next (restarted (after start (entries ++ entry ∷ []))) → ShowsFrom start (entries ++ entry ∷ []) (length entries + 1) image
+pub shows_next : (start : State) (entries : List Entry) (entry : Entry) (next : Held) (image : List ℕ)
+    → Holds image next → IsAtRest image
+    → Says next (restarted (after start (entries ++ entry ∷ [])))
+    → ShowsFrom start (entries ++ entry ∷ []) (length entries + 1) image
 shows_next start entries entry next image holds rests says =
     subst (λ (n : ℕ). ShowsFrom start (entries ++ entry ∷ []) n image) (length-append entries (entry ∷ []))
     (shows_from_all start (entries ++ entry ∷ []) image (record { what = next; holds = holds; says = says }) rests)

@@ -1,5 +1,6 @@
 -- What holds of a book after its calls.
-use Rattle.std.proofs.Common.{◌≡◌, ℕ, ◌+◌, ◌<◌, ◌≤◌, ◌⊎◌, Bool, IsTrue, true, false, if◌then◌else◌, List, [], ◌∷◌, ◌++◌, length, take, Ok, Err, sym, ◌∙◌, ap, subst, arith, length-append}
+use Rattle.std.proofs.Common.{◌≡◌, ℕ, ◌+◌, ◌<◌, ◌≤◌, ◌⊎◌, Bool, IsTrue, true, false, if◌then◌else◌, List, [], ◌∷◌, ◌++◌}
+use Rattle.std.proofs.Common.{length, take, Ok, Err, sym, ◌∙◌, ap, subst, arith, length-append}
 use Rattle.std.proofs.lemmas.List.{take_all, take-append-le}
 use Rattle.sdls_base.specs.declared.entry.Entry.{Entry}
 use Rattle.sdls_base.specs.declared.entry.Logged.{Logged}
@@ -25,7 +26,8 @@ use Rattle.unit_book.specs.Marks.{is_release, HasNoRelease, KeepsMarks}
 use Rattle.unit_book.specs.Book.{BookView, IsKept, CanEnter, Enters, entered, left_out, with_put}
 use Rattle.unit_book.proofs.MarksKept.{no_release_last, marks_then}
 use Rattle.unit_book.proofs.Growing.{after_entry, first_same, first_all, says_held}
-use Rattle.unit_book.proofs.Serving.{piece_entries, entry_entries, puts_history, piece_current, NextEntry, failed_history, stored_history}
+use Rattle.unit_book.proofs.Serving.{piece_entries, entry_entries, puts_history, piece_current, NextEntry}
+use Rattle.unit_book.proofs.Serving.{failed_history, stored_history}
 
 -- a count that rose since a later time rose since an earlier one
 pub rose_earlier : (before mid now : ℕ) → before ≤ mid → Rose mid now → Rose before now
@@ -36,14 +38,17 @@ not_rose_earlier before mid now low not rose = not (omega arith)
 
 epoch_more : (entries : List Entry) (entry : Entry)
     → epoch_after (entries ++ entry ∷ []) ≡ epoch_after entries + (if counts entry.change then 1 else 0)
-epoch_more [] entry = let sum : (if counts entry.change then 1 else 0) + 0 ≡ 0 + (if counts entry.change then 1 else 0) = omega arith in sum
+epoch_more [] entry = let sum : (if counts entry.change then 1 else 0) + 0
+    ≡ 0 + (if counts entry.change then 1 else 0) = omega arith in sum
 epoch_more (first ∷ entries) entry =
-    let rest : epoch_after (entries ++ entry ∷ []) ≡ epoch_after entries + (if counts entry.change then 1 else 0) = epoch_more entries entry in
+    let rest : epoch_after (entries ++ entry ∷ []) ≡ epoch_after entries + (if counts entry.change then 1 else 0) =
+    epoch_more entries entry in
     omega arith
 
 -- a book after a put
 pub kept_put : (told : Bool) (octets : List ℕ) (old : BookView) (site : SiteSeen)
-    → old.site.faults ≤ site.faults → (IsTrue told → (site.trace ≡ old.site.trace) ⊎ Sank octets old.site.trace site.trace)
+    → old.site.faults ≤ site.faults
+    → (IsTrue told → (site.trace ≡ old.site.trace) ⊎ Sank octets old.site.trace site.trace)
     → IsKept told old
     → IsKept told (with_put (sunk_between old.site.trace site.trace) (record old { site = site }))
 kept_put told octets old site low puts kept =
@@ -54,18 +59,22 @@ kept_put told octets old site low puts kept =
       later = omega arith;
       stands = subst (λ (entries : List Entry). old.standing ≤ length entries) (sym same) kept.stands;
       few_left = subst (λ (entries : List Entry). length entries ≤ old.standing + 1) (sym same) kept.few_left;
-      led = subst (λ (entries : List Entry). old.state ≡ after_first old.start entries old.standing) (sym same) kept.led;
+      led = subst (λ (entries : List Entry). old.state ≡ after_first old.start entries old.standing)
+          (sym same) kept.led;
       begins = kept.begins;
       rules = kept.rules;
-      marks = subst (λ (entries : List Entry). HasNoRelease entries → KeepsMarks old.start old.state) (sym same) kept.marks;
+      marks = subst (λ (entries : List Entry). HasNoRelease entries → KeepsMarks old.start old.state)
+          (sym same) kept.marks;
       room = subst (λ (entries : List Entry). length entries ≤ MOST_ENTRIES) (sym same) kept.room;
-      epoch = subst (λ (entries : List Entry). old.changes ≡ epoch_after (take old.standing entries)) (sym same) kept.epoch;
+      epoch = subst (λ (entries : List Entry). old.changes ≡ epoch_after (take old.standing entries))
+          (sym same) kept.epoch;
       whole = λ not. subst (λ (entries : List Entry). old.standing ≡ length entries) (sym same)
           (kept.whole (not_rose_earlier old.opened.faults old.site.faults site.faults low not));
       history = λ is_told. puts_history octets old.opened.trace old.site.trace site.trace old.start old.log old.standing
           kept.stands (puts is_told) (kept.history is_told);
       current = λ is_told not. piece_current octets old.site.trace site.trace old.start old.journal old.log piece
-          (puts is_told) (kept.current is_told (not_rose_earlier old.opened.faults old.site.faults site.faults low not));
+          (puts is_told) (kept.current is_told
+          (not_rose_earlier old.opened.faults old.site.faults site.faults low not));
     }
 
 -- what is known when an entry is to be made
@@ -91,7 +100,8 @@ module _ (told : Bool) (old : BookView) (entry : Entry)
   size : length (entries_of (old.log ++ logged.Entry entry ∷ [])) ≡ length (entries_of old.log) + 1
   size = ap (λ (entries : List Entry). length entries) more ∙ length-append (entries_of old.log) (entry ∷ [])
 
-  led : applied old.state entry.change ≡ after_first old.start (entries_of (old.log ++ logged.Entry entry ∷ [])) (old.standing + 1)
+  led : applied old.state entry.change ≡ after_first old.start (entries_of (old.log ++ logged.Entry entry ∷ []))
+      (old.standing + 1)
   led =
       let whole : old.standing ≡ length (entries_of old.log) = all_stand in
       let longer : length (entries_of (old.log ++ logged.Entry entry ∷ [])) ≡ length (entries_of old.log) + 1 = size in
@@ -100,7 +110,8 @@ module _ (told : Bool) (old : BookView) (entry : Entry)
       ∙ ap (after old.start) (sym more)
       ∙ sym (first_all old.start (entries_of (old.log ++ logged.Entry entry ∷ [])) (old.standing + 1) (omega arith))
 
-  epoch : old.changes + (if counts entry.change then 1 else 0) ≡ epoch_after (take (old.standing + 1) (entries_of (old.log ++ logged.Entry entry ∷ [])))
+  epoch : old.changes + (if counts entry.change then 1 else 0)
+      ≡ epoch_after (take (old.standing + 1) (entries_of (old.log ++ logged.Entry entry ∷ [])))
   epoch =
       let whole : old.standing ≡ length (entries_of old.log) = all_stand in
       let longer : length (entries_of (old.log ++ logged.Entry entry ∷ [])) ≡ length (entries_of old.log) + 1 = size in
@@ -108,30 +119,36 @@ module _ (told : Bool) (old : BookView) (entry : Entry)
       r.kept.epoch ∙ ap epoch_after (take_all old.standing (entries_of old.log) (omega arith)) in
       ap (λ (n : ℕ). n + (if counts entry.change then 1 else 0)) before
       ∙ sym (epoch_more (entries_of old.log) entry)
-      ∙ ap epoch_after (sym (take_all (old.standing + 1) (entries_of (old.log ++ logged.Entry entry ∷ [])) (omega arith) ∙ more))
+      ∙ ap epoch_after (sym (take_all (old.standing + 1) (entries_of (old.log ++ logged.Entry entry ∷ [])) (omega arith)
+      ∙ more))
 
-  marks : HasNoRelease (entries_of (old.log ++ logged.Entry entry ∷ [])) → KeepsMarks old.start (applied old.state entry.change)
+  marks : HasNoRelease (entries_of (old.log ++ logged.Entry entry ∷ []))
+      → KeepsMarks old.start (applied old.state entry.change)
   marks none =
       let parts : HasNoRelease (entries_of old.log) × (is_release entry ≡ false) =
       no_release_last (entries_of old.log) entry (subst HasNoRelease more none) in
       marks_then old.start old.state (applied old.state entry.change) (r.kept.marks parts.0) (r.keeps parts.1)
 
   -- the next says the state after the entry
-  next_entry : (next : Held) → (Says (held old.site.trace.now.image) (restarted old.state) → Says next (restarted (applied old.state entry.change)))
+  next_entry : (next : Held) → (Says (held old.site.trace.now.image) (restarted old.state)
+      → Says next (restarted (applied old.state entry.change)))
       → IsTrue told → NextEntry old.start old.log entry old.site.trace.now.image next
   next_entry next leads is_told =
       let says : Says (held old.site.trace.now.image) (restarted (after old.start (entries_of old.log))) =
-      says_held old.site.trace.now.image (restarted (after old.start (entries_of old.log))) (r.kept.current is_told r.can.0).shows in
+      says_held old.site.trace.now.image (restarted (after old.start (entries_of old.log)))
+      (r.kept.current is_told r.can.0).shows in
       record {
         says = says;
         then = subst (λ (s : State). Says next (restarted s))
-            (ap (λ (s : State). applied s entry.change) state_is ∙ sym (after_entry old.start (entries_of old.log) entry))
+            (ap (λ (s : State). applied s entry.change) state_is
+            ∙ sym (after_entry old.start (entries_of old.log) entry))
             (leads (subst (λ (s : State). Says (held old.site.trace.now.image) (restarted s)) (sym state_is) says));
       }
 
   -- the book, once the entry is stored, or where nothing is stored for it
   pub kept_stored : (site : SiteSeen) (journal : JournalView) → old.site.faults ≤ site.faults
-      → (IsTrue told → Stores {T = Unit {0}} {E = SiteFault} old.state entry.change (Ok tt) journal old.site.trace site.trace)
+      → (IsTrue told → Stores {T = Unit {0}} {E = SiteFault} old.state entry.change (Ok tt) journal old.site.trace
+      site.trace)
       → IsKept told (entered entry (record old { site = site; journal = journal }))
   kept_stored site journal low stores =
       let whole : old.standing ≡ length (entries_of old.log) = all_stand in
@@ -151,7 +168,8 @@ module _ (told : Bool) (old : BookView) (entry : Entry)
         whole = λ not. omega arith;
         history = λ is_told.
             let s = stores is_told in
-            stored_history old.opened.trace old.site.trace site.trace old.start journal old.log entry old.standing s.next
+            stored_history old.opened.trace old.site.trace site.trace old.start journal old.log entry old.standing
+            s.next
             (next_entry s.next s.says is_told) (r.kept.history is_told) whole s.moments s.done.0 s.done.1;
         current = λ is_told not.
             let s = stores is_told in
@@ -160,13 +178,15 @@ module _ (told : Bool) (old : BookView) (entry : Entry)
               shows = record {
                 what = s.next;
                 holds = record { opens = s.done.0.of_image.of_image.opens; is = s.done.1 };
-                says = subst (λ (entries : List Entry). Says s.next (restarted (after old.start entries))) (sym more) (next_entry s.next s.says is_told).then;
+                says = subst (λ (entries : List Entry). Says s.next (restarted (after old.start entries))) (sym more)
+                    (next_entry s.next s.says is_told).then;
               };
             };
       }
 
   -- the book, once the store has failed
-  pub kept_failed : (site : SiteSeen) (fault : SiteFault) (journal : JournalView) → Rose old.site.faults site.faults → old.site.faults ≤ site.faults
+  pub kept_failed : (site : SiteSeen) (fault : SiteFault) (journal : JournalView) → Rose old.site.faults site.faults
+      → old.site.faults ≤ site.faults
       → (IsTrue told → Stores {T = Unit {0}} old.state entry.change (Err fault) journal old.site.trace site.trace)
       → IsKept told (left_out entry (record old { site = site }))
   kept_failed site fault journal rose low stores =
@@ -174,7 +194,8 @@ module _ (told : Bool) (old : BookView) (entry : Entry)
       let longer : length (entries_of (old.log ++ logged.Entry entry ∷ [])) ≡ length (entries_of old.log) + 1 = size in
       let below : length (entries_of old.log) < MOST_ENTRIES = r.can.1 in
       let earlier : old.opened.faults ≤ old.site.faults = r.kept.later in
-      let risen : Rose old.opened.faults site.faults = rose_earlier old.opened.faults old.site.faults site.faults r.kept.later rose in
+      let risen : Rose old.opened.faults site.faults =
+      rose_earlier old.opened.faults old.site.faults site.faults r.kept.later rose in
       record {
         later = omega arith;
         stands = omega arith;
@@ -185,7 +206,8 @@ module _ (told : Bool) (old : BookView) (entry : Entry)
         rules = r.kept.rules;
         marks = λ none. r.kept.marks (no_release_last (entries_of old.log) entry (subst HasNoRelease more none)).0;
         room = omega arith;
-        epoch = r.kept.epoch ∙ ap epoch_after (sym (take-append-le old.standing (entries_of old.log) (entry ∷ []) (omega arith))
+        epoch = r.kept.epoch ∙ ap epoch_after
+            (sym (take-append-le old.standing (entries_of old.log) (entry ∷ []) (omega arith))
             ∙ ap (take old.standing) (sym more));
         whole = λ not. absurd (not risen);
         history = λ is_told.
@@ -225,9 +247,11 @@ pub ready_of : (told : Bool) (old shown : BookView) (entry : Entry) → shown �
 ready_of told old shown entry same ready = subst (λ (b : BookView). Ready told b entry) (sym same) ready
 
 -- a book with these parts, once octets were put
-pub kept_put_shown : (told : Bool) (octets : List ℕ) (old shown : BookView) (site : SiteSeen) (before : Trace) (log : List Logged) → shown ≡ old
+pub kept_put_shown : (told : Bool) (octets : List ℕ) (old shown : BookView) (site : SiteSeen) (before : Trace)
+    (log : List Logged) → shown ≡ old
     → before ≡ shown.site.trace → log ≡ shown.log ++ logged.Piece (sunk_between before site.trace) ∷ []
-    → shown.site.faults ≤ site.faults → (IsTrue told → (site.trace ≡ shown.site.trace) ⊎ Sank octets shown.site.trace site.trace)
+    → shown.site.faults ≤ site.faults
+    → (IsTrue told → (site.trace ≡ shown.site.trace) ⊎ Sank octets shown.site.trace site.trace)
     → IsKept told old → IsKept told (record shown { site = site; log = log })
 kept_put_shown told octets old shown site before log same before_is log_is low puts kept =
     subst (IsKept told) (sym
@@ -240,11 +264,14 @@ pub kept_left_out : (told : Bool) (old shown new : BookView) (site : SiteSeen) (
     → shown ≡ old → other ≡ shown.journal → new ≡ left_out entry (record shown { site = site; journal = other })
     → IsKept told (left_out entry (record shown { site = site })) → IsKept told new
 kept_left_out told old shown new site other entry same unchanged made kept =
-    subst (IsKept told) (sym (made ∙ ap (λ (j : JournalView). left_out entry (record shown { site = site; journal = j })) unchanged)) kept
+    subst (IsKept told) (sym (made ∙ ap
+    (λ (j : JournalView). left_out entry (record shown { site = site; journal = j })) unchanged)) kept
 
 -- the book with these parts leaves the entry out
-pub left_out_is : (old shown new : BookView) (site : SiteSeen) (other : JournalView) (entry : Entry) → shown ≡ old → other ≡ shown.journal
-    → new ≡ left_out entry (record shown { site = site; journal = other }) → new ≡ left_out entry (record old { site = new.site })
+pub left_out_is : (old shown new : BookView) (site : SiteSeen) (other : JournalView) (entry : Entry) → shown ≡ old
+    → other ≡ shown.journal
+    → new ≡ left_out entry (record shown { site = site; journal = other })
+    → new ≡ left_out entry (record old { site = new.site })
 left_out_is old shown new site other entry same unchanged made =
     made ∙ ap (λ (j : JournalView). left_out entry (record shown { site = site; journal = j })) unchanged
     ∙ ap (λ (b : BookView). left_out entry (record b { site = site })) same

@@ -1,5 +1,6 @@
 -- What holds of a book that is kept.
-use Rattle.std.proofs.Common.{◌≡◌, ℕ, ◌<◌, ◌≤◌, Bool, List, [], ◌∷◌, ◌++◌, length, take, Some, refl, sym, ◌∙◌, ap, subst, arith, length-append}
+use Rattle.std.proofs.Common.{◌≡◌, ℕ, ◌<◌, ◌≤◌, Bool, List, [], ◌∷◌, ◌++◌, length, take, Some, refl, sym, ◌∙◌, ap}
+use Rattle.std.proofs.Common.{subst, arith, length-append}
 use Rattle.std.specs.List.{slice_get}
 use Rattle.std.proofs.lemmas.List.{take_all}
 use Rattle.sdls_base.specs.declared.TheConstants.{MOST_KEYS}
@@ -27,11 +28,13 @@ pub kept_still : (told : Bool) (book : BookView) → IsKept told book
 kept_still told book kept =
     ap still kept.led ∙ still_epoch book.start (entries_of book.log) book.standing book.changes kept.epoch
 
+-- the count of changes is not above the epoch of the entries
 pub kept_changes : (told : Bool) (book : BookView) → IsKept told book
     → book.changes ≤ epoch_after (entries_of book.log)
 kept_changes told book kept =
     let is : book.changes ≡ epoch_after (take book.standing (entries_of book.log)) = kept.epoch in
-    let low : epoch_after (take book.standing (entries_of book.log)) ≤ epoch_after (entries_of book.log) = epoch_first (entries_of book.log) book.standing in
+    let low : epoch_after (take book.standing (entries_of book.log)) ≤ epoch_after (entries_of book.log) =
+    epoch_first (entries_of book.log) book.standing in
     omega arith
 
 -- where the site has not failed, all entries stand
@@ -61,6 +64,7 @@ places_after state [] id place there = there
 places_after state (entry ∷ entries) id place there =
     places_after (applied state entry.change) entries id place (places_kept state entry.change id place there)
 
+-- keys keep the places that they had at the opening
 pub kept_places : (told : Bool) (book : BookView) → IsKept told book
     → KeepsPlaces book.start book.state
 kept_places told book kept =
@@ -70,14 +74,18 @@ last_there : {X : Type 0} (xs : List X) (x : X) → slice_get (xs ++ x ∷ []) (
 last_there {X} [] x = refl
 last_there {X} (y ∷ ys) x = last_there ys x
 
+-- an entry that was made is the last line of the log, and its position the count of entries
 pub made_stands : (entry : Entry) (old new : BookView) (position : ℕ) → Made entry old new position
     → StandsLast entry old.log new.log position
 made_stands entry old new position made =
     let log : new.log ≡ old.log ++ logged.Entry entry ∷ [] = ap (λ (b : BookView). b.log) made.1.is in
-    let entries : entries_of new.log ≡ entries_of old.log ++ entry ∷ [] = ap entries_of log ∙ entry_entries old.log entry in
+    let entries : entries_of new.log ≡ entries_of old.log ++ entry ∷ [] =
+    ap entries_of log ∙ entry_entries old.log entry in
     record {
       log = log;
-      there = ap (λ (lines : List Logged). slice_get lines (length old.log)) log ∙ last_there old.log (logged.Entry entry);
+      there = ap (λ (lines : List Logged). slice_get lines (length old.log)) log
+          ∙ last_there old.log (logged.Entry entry);
       entries = entries;
-      position_is = made.1.position_is ∙ ap (λ (all : List Entry). length all) entries ∙ length-append (entries_of old.log) (entry ∷ []);
+      position_is = made.1.position_is ∙ ap (λ (all : List Entry). length all) entries
+          ∙ length-append (entries_of old.log) (entry ∷ []);
     }

@@ -1,5 +1,6 @@
 -- A log that grows by a line.
-use Rattle.std.proofs.Common.{◌≡◌, ℕ, zero, suc, ◌+◌, ◌≤◌, min, List, [], ◌∷◌, ◌++◌, length, take, refl, sym, ◌∙◌, ap, arith, length-append}
+use Rattle.std.proofs.Common.{◌≡◌, ℕ, zero, suc, ◌+◌, ◌≤◌, min, List, [], ◌∷◌, ◌++◌, length, take, refl, sym, ◌∙◌, ap}
+use Rattle.std.proofs.Common.{arith, length-append}
 use Rattle.std.proofs.lemmas.List.{take_all, take_at, take-append-le, length-take, append_assoc}
 use Rattle.sdls_base.specs.declared.entry.Entry.{Entry}
 use Rattle.sdls_base.specs.declared.entry.Logged.{Logged}
@@ -7,19 +8,23 @@ use Rattle.sdls_base.specs.declared.entry.Logged.TheVariants as logged
 use Rattle.sdls_outside.specs.Moments.{Between}
 use Rattle.run_promise.specs.Log.{entries_of, pieces_of}
 
-pub pieces_more : (log : List Logged) (line : Logged) → pieces_of (log ++ line ∷ []) ≡ pieces_of log ++ pieces_of (line ∷ [])
+pub pieces_more : (log : List Logged) (line : Logged) → pieces_of (log ++ line ∷ []) ≡ pieces_of log
+    ++ pieces_of (line ∷ [])
 pieces_more [] line = refl
 pieces_more (logged.Entry entry ∷ log) line = pieces_more log line
 pieces_more (logged.Piece octets ∷ log) line =
-    ap (λ (rest : List ℕ). octets ++ rest) (pieces_more log line) ∙ sym (append_assoc octets (pieces_of log) (pieces_of (line ∷ [])))
+    ap (λ (rest : List ℕ). octets ++ rest) (pieces_more log line)
+    ∙ sym (append_assoc octets (pieces_of log) (pieces_of (line ∷ [])))
 
-pub entries_more : (log : List Logged) (line : Logged) → entries_of (log ++ line ∷ []) ≡ entries_of log ++ entries_of (line ∷ [])
+pub entries_more : (log : List Logged) (line : Logged) → entries_of (log ++ line ∷ []) ≡ entries_of log
+    ++ entries_of (line ∷ [])
 entries_more [] line = refl
 entries_more (logged.Entry entry ∷ log) line = ap (λ (rest : List Entry). entry ∷ rest) (entries_more log line)
 entries_more (logged.Piece octets ∷ log) line = entries_more log line
 
 -- what stands before a place stays, and what stands at it can only grow
-pub take_more : (k : ℕ) (log : List Logged) (line : Logged) → (rest : List ℕ) × (pieces_of (take k (log ++ line ∷ [])) ≡ pieces_of (take k log) ++ rest)
+pub take_more : (k : ℕ) (log : List Logged) (line : Logged)
+    → (rest : List ℕ) × (pieces_of (take k (log ++ line ∷ [])) ≡ pieces_of (take k log) ++ rest)
 take_more zero log line = ([], refl)
 take_more (suc k) [] line = (pieces_of (take (suc k) (line ∷ [])), refl)
 take_more (suc k) (logged.Entry entry ∷ log) line = take_more k log line

@@ -18,7 +18,8 @@ shown_rests image state shows = ap restarted shows.says.left ∙ restarted_twice
 pub shown_restarted : (image : List ℕ) (state : State) → Shows image state → Shows image (restarted state)
 shown_restarted image state shows = subst (Shows image) (sym (shown_rests image state shows)) shows
 
-used_same : (image : List ℕ) (version : Version) → version_in image ≡ version → version ≡ Two → used_of image ≡ used_by version image
+used_same : (image : List ℕ) (version : Version) → version_in image ≡ version → version ≡ Two
+    → used_of image ≡ used_by version image
 used_same image One is two = absurd (cc)
 used_same image Two is two = refl
 

@@ -1,5 +1,6 @@
 -- Marks by key and by place.
-use Rattle.std.proofs.Common.{◌≡◌, ◌≢◌, ℕ, ◌<◌, ◌≤◌, Bool, true, false, nat_eq, nat_lt, List, [], length, get_or, Option, Some, None, refl, sym, ◌∙◌, ap, subst, inl, inr, ◌⊎◌, arith}
+use Rattle.std.proofs.Common.{◌≡◌, ◌≢◌, ℕ, ◌<◌, ◌≤◌, Bool, true, false, nat_eq, nat_lt, List, [], length, get_or}
+use Rattle.std.proofs.Common.{Option, Some, None, refl, sym, ◌∙◌, ap, subst, inl, inr, ◌⊎◌, arith}
 use Rattle.std.specs.Prelude.{IfSome, IsSomeAnd}
 use Rattle.std.specs.List.{position, position_or_len}
 use Rattle.std.specs.Option.{option_map_or}
@@ -26,12 +27,14 @@ use Rattle.unit_book.specs.Marks.{KeepsMarks, highest_mark}
 some_row : KeyRow
 some_row = record { id = 0; state = PreActive; bytes = []; digest = []; mark = 0; floor = 0 }
 
-at_row : (state : State) (place : ℕ) → place < length state.keys → mark_at state place ≡ (get_or state.keys place some_row).mark
+at_row : (state : State) (place : ℕ) → place < length state.keys
+    → mark_at state place ≡ (get_or state.keys place some_row).mark
 at_row state place low = get_or-map (λ (row : KeyRow). row.mark) state.keys place some_row 1 low
 
 behind_rows : (state : State) (place : ℕ) → length state.keys ≤ place → mark_at state place ≡ 1
 behind_rows state place high =
-    get_or-eq_default (marks_of state) 1 (let size : length (marks_of state) ≡ length state.keys = length-map state.keys (λ (row : KeyRow). row.mark) in
+    get_or-eq_default (marks_of state) 1 (let size : length (marks_of state) ≡ length state.keys =
+    length-map state.keys (λ (row : KeyRow). row.mark) in
     let more : length (marks_of state) ≤ place = omega arith in more)
 
 -- the row at a place is that of its key
@@ -44,7 +47,8 @@ own_place rows place low others =
     (position_or_len_is (λ (row : KeyRow). nat_eq row.id id) rows place some_row (omega arith)
     (λ k less. no_number (get_or rows k some_row).id id (others k less)) (λ _. number_test id id refl))
   where
-    placed : (p : KeyRow → Bool) (rows : List KeyRow) (i : ℕ) → i < length rows → position_or_len p rows ≡ i → position p rows ≡ Some i
+    placed : (p : KeyRow → Bool) (rows : List KeyRow) (i : ℕ) → i < length rows → position_or_len p rows ≡ i
+        → position p rows ≡ Some i
     placed p rows i low e = grind (arith, nat_tests)
 
     no_number : (a b : ℕ) → a ≢ b → nat_eq a b ≡ false
@@ -57,7 +61,8 @@ class_end Master = omega arith
 class_end Gcm = omega arith
 class_end Cmac = omega arith
 
-row_rules : (state : State) (place : ℕ) → KeepsRules state → place < length state.keys → IsKeyRow (get_or state.keys place some_row)
+row_rules : (state : State) (place : ℕ) → KeepsRules state → place < length state.keys
+    → IsKeyRow (get_or state.keys place some_row)
 row_rules state place rules low = rules.keys.rules.each place some_row low
 
 either : (a b : ℕ) → (a < b) ⊎ (b ≤ a)
@@ -72,7 +77,8 @@ mark_from_one state place rules = by (either place (length state.keys))
   where
     by : (place < length state.keys) ⊎ (length state.keys ≤ place) → 1 ≤ mark_at state place
     by (inl low) = let is : mark_at state place ≡ (get_or state.keys place some_row).mark = at_row state place low in
-        let one : 1 ≤ (get_or state.keys place some_row).mark = (row_rules state place rules low).mark_from_one in omega arith
+        let one : 1 ≤ (get_or state.keys place some_row).mark =
+        (row_rules state place rules low).mark_from_one in omega arith
     by (inr high) = let is : mark_at state place ≡ 1 = behind_rows state place high in omega arith
 
 pub mark_to_highest : (state : State) (place : ℕ) → KeepsRules state → mark_at state place ≤ highest_mark
@@ -88,28 +94,35 @@ mark_to_highest state place rules = by (either place (length state.keys))
 
 -- ---- from key to place
 
-placed_key : (state : State) (key place : ℕ) → place_of state.keys key ≡ Some place → key_row state key ≡ Some (get_or state.keys place some_row)
+placed_key : (state : State) (key place : ℕ) → place_of state.keys key ≡ Some place
+    → key_row state key ≡ Some (get_or state.keys place some_row)
 placed_key state key place there = find_placed (λ (row : KeyRow). nat_eq row.id key) state.keys place some_row there
 
-pub mark_placed : (state : State) (key place : ℕ) → place_of state.keys key ≡ Some place → mark_at state place ≡ mark_of state key
+pub mark_placed : (state : State) (key place : ℕ) → place_of state.keys key ≡ Some place
+    → mark_at state place ≡ mark_of state key
 mark_placed state key place there =
     let found = position-Some (λ (row : KeyRow). nat_eq row.id key) state.keys place some_row there in
     at_row state place found.0
-    ∙ sym (ap (λ (o : Option KeyRow). option_map_or (λ (row : KeyRow). row.mark) o 1) (placed_key state key place there))
+    ∙ sym (ap (λ (o : Option KeyRow). option_map_or (λ (row : KeyRow). row.mark) o 1)
+    (placed_key state key place there))
 
 pub mark_nowhere : (state : State) (key : ℕ) → place_of state.keys key ≡ None → mark_of state key ≡ 1
 mark_nowhere state key nowhere =
-    ap (λ (o : Option KeyRow). option_map_or (λ (row : KeyRow). row.mark) o 1) (find_nowhere (λ (row : KeyRow). nat_eq row.id key) state.keys nowhere)
+    ap (λ (o : Option KeyRow). option_map_or (λ (row : KeyRow). row.mark) o 1)
+    (find_nowhere (λ (row : KeyRow). nat_eq row.id key) state.keys nowhere)
 
 pub place_below : (state : State) (key place : ℕ) → place_of state.keys key ≡ Some place → place < length state.keys
-place_below state key place there = (position-Some (λ (row : KeyRow). nat_eq row.id key) state.keys place some_row there).0
+place_below state key place there =
+    (position-Some (λ (row : KeyRow). nat_eq row.id key) state.keys place some_row there).0
 
 -- each key that is there is there again, with a mark that did not fall
 abbrev pub KeepsEach : State → State → Type 0
-KeepsEach old new = (id : ℕ) → IfSome (key_row old id) (λ held. IsSomeAnd (key_row new id) (λ now. held.mark ≤ now.mark))
+KeepsEach old new = (id : ℕ) → IfSome (key_row old id)
+    (λ held. IsSomeAnd (key_row new id) (λ now. held.mark ≤ now.mark))
 
 -- what holds key by key holds place by place
-pub by_place : (one other : State) → KeepsRules one → KeepsRules other → KeepsPlaces one other → KeepsEach one other → KeepsMarks one other
+pub by_place : (one other : State) → KeepsRules one → KeepsRules other → KeepsPlaces one other → KeepsEach one other
+    → KeepsMarks one other
 by_place one other rules later places each place = by (either place (length one.keys))
   where
     by : (place < length one.keys) ⊎ (length one.keys ≤ place) → mark_at one place ≤ mark_at other place
@@ -125,16 +138,20 @@ by_place one other rules later places each place = by (either place (length one.
         subst (λ (o : Option KeyRow). IfSome o (λ held. IsSomeAnd (key_row other row.id) (λ now. held.mark ≤ now.mark)))
         (placed_key one row.id place here) (each row.id) in
         let up : row.mark ≤ (get_or other.keys place some_row).mark =
-        subst (λ (o : Option KeyRow). IsSomeAnd o (λ now. row.mark ≤ now.mark)) (placed_key other row.id place there) kept in
+        subst (λ (o : Option KeyRow). IsSomeAnd o (λ now. row.mark ≤ now.mark)) (placed_key other row.id place there)
+        kept in
         let was : mark_at one place ≡ row.mark = at_row one place low in
-        let is : mark_at other place ≡ (get_or other.keys place some_row).mark = at_row other place (place_below other row.id place there) in
+        let is : mark_at other place ≡ (get_or other.keys place some_row).mark =
+        at_row other place (place_below other row.id place there) in
         omega arith
 
 -- what holds place by place holds key by key
-pub by_key : (one other : State) (key : ℕ) → KeepsRules other → KeepsPlaces one other → KeepsMarks one other → mark_of one key ≤ mark_of other key
+pub by_key : (one other : State) (key : ℕ) → KeepsRules other → KeepsPlaces one other → KeepsMarks one other
+    → mark_of one key ≤ mark_of other key
 by_key one other key later places marks = by (place_of one.keys key) refl (place_of other.keys key) refl
   where
-    by : (o : Option ℕ) → place_of one.keys key ≡ o → (p : Option ℕ) → place_of other.keys key ≡ p → mark_of one key ≤ mark_of other key
+    by : (o : Option ℕ) → place_of one.keys key ≡ o → (p : Option ℕ) → place_of other.keys key ≡ p
+        → mark_of one key ≤ mark_of other key
     by (Some place) here p there =
         let next : place_of other.keys key ≡ Some place = places key place here in
         let was : mark_at one place ≡ mark_of one key = mark_placed one key place here in

@@ -1,5 +1,6 @@
 -- What every call on a book leaves.
-use Rattle.std.specs.Prelude.{◌≡◌, ⊤, ℕ, ◌≤◌, Bool, IsTrue, false, List, [], ◌++◌, length, Result, IfErr, MatchResult, OnOk}
+use Rattle.std.specs.Prelude.{◌≡◌, ⊤, ℕ, ◌≤◌, Bool, IsTrue, false, List, [], ◌++◌, length, Result, IfErr, MatchResult}
+use Rattle.std.specs.Prelude.{OnOk}
 use Rattle.sdls_base.specs.declared.entry.Entry.{Entry}
 use Rattle.sdls_base.specs.declared.entry.Logged.{Logged}
 use Rattle.sdls_outside.specs.Faults.{Rose}

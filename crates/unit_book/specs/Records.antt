@@ -19,7 +19,8 @@ pub record OpensWithEntry (index link : ℕ) (frame field : List ℕ) (old new :
   pub reply_is : IsOpenReply old.plan old.state link frame reply field
   pub made : Made (frame_entry old.plan old.state index reply) old new position
 
--- why a frame makes no entry, in the order of the refusals; what the checks answer of it comes before a fault of the site
+-- why a frame makes no entry, in the order of the refusals; what the checks answer of it comes before a fault of the
+-- site
 abbrev pub RefusesFrame : ℕ → ℕ → List ℕ → BookView → BookView → BookFault → Type 0
 RefusesFrame index link frame old new fault = (IsBarred old fault × (new ≡ old))
     ⊎ (CanEnter old × ((reply : OpenReply) × (field : List ℕ)

@@ -1,22 +1,17 @@
 // Laws of books: each function is a statement about the definitions, and does nothing.
 ghost use Rattle.std.specs.Prelude.{◌≡◌, ℕ, ◌≤◌, Bool, List};
-ghost use Rattle.sdls_base.specs.declared.entry.Entry.{Entry};
-ghost use Rattle.sdls_outside.specs.Faults.{Rose};
 ghost use Rattle.unit_plan.specs.PlanLines.{PlanLines};
 ghost use Rattle.unit_state.specs.declared.state.State.{State};
 ghost use Rattle.unit_state.specs.State.{KeepsRules};
 ghost use Rattle.unit_state.specs.Restart.{still};
-ghost use Rattle.unit_state.specs.History.{after, epoch_after};
-ghost use Rattle.unit_state.specs.Laws.{KeepsPlaces};
 ghost use Rattle.ep_core.specs.declared.need.Need.{Need};
 ghost use Rattle.run_promise.specs.Log.{entries_of};
 ghost use Rattle.unit_book.specs.Marks.{HasNoRelease, KeepsMarks};
 ghost use Rattle.run_promise.specs.Numbers.{mark_of};
 ghost use Rattle.run_promise.specs.Entries.{IsNeedOf};
-ghost use Rattle.unit_book.specs.Book.{BookView, IsKept, Made};
-ghost use Rattle.unit_book.specs.GoesOn.{GoesOn};
+ghost use Rattle.unit_book.specs.Book.{BookView, IsKept};
 ghost use Rattle.unit_book.specs.Needs.{NamesKey};
-ghost use Rattle.unit_book.specs.Epoch.{epoch_state, ServesAlike, HasBounds, StandsLast};
+ghost use Rattle.unit_book.specs.Epoch.{epoch_state, ServesAlike, HasBounds};
 
 /// Law: states that differ in marks, floors and accepted numbers alone serve alike.
 pub fn states_serve_alike()
@@ -32,17 +27,6 @@ pub fn serves_at_epoch()
         → ServesAlike book.plan book.state (epoch_state book) }
 {}
 
-/// Law: the count of changes is not above the epoch of the entries. Where the site has not failed it is the same, and
-/// the state is that after all entries.
-pub fn entries_lead()
-    ensures changes { (told : Bool) (book : BookView) → IsKept told book
-        → book.changes ≤ epoch_after (entries_of book.log) }
-    ensures whole { (told : Bool) (book : BookView) → IsKept told book
-        → ¬ Rose book.opened.faults book.site.faults
-        → (book.state ≡ after book.start (entries_of book.log)) × (book.changes ≡ epoch_after (entries_of book.log)) }
-    ensures places { (told : Bool) (book : BookView) → IsKept told book → KeepsPlaces book.start book.state }
-{}
-
 /// Law: until a release, no mark is below that of the state at the opening, nor of a place nor of a key.
 pub fn marks_stand()
     ensures places { (told : Bool) (book : BookView) → IsKept told book → HasNoRelease (entries_of book.log)
@@ -55,17 +39,6 @@ pub fn marks_stand()
 /// Law: of a state that keeps the rules, each key's place is below `MOST_KEYS`, and each mark lies from 1 to 2^48.
 pub fn states_have_bounds()
     ensures { (state : State) → KeepsRules state → HasBounds state }
-{}
-
-/// Law: an entry that was made is the last line of the log, and its position the count of entries.
-pub fn entries_stand()
-    ensures { (entry : Entry) (old new : BookView) (position : ℕ) → Made entry old new position
-        → StandsLast entry old.log new.log position }
-{}
-
-/// Law: what two calls leave, one after the other, is what a call leaves.
-pub fn calls_go_on()
-    ensures { (old mid new : BookView) → GoesOn old mid → GoesOn mid new → GoesOn old new }
 {}
 
 /// Law: the key that a need names is there, and the number that it names lies below the key's end.

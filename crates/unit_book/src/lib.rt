@@ -29,6 +29,5 @@ pub use book::Book;
 pub use fault::BookFault;
 pub use image_content::{write_content, write_content_two};
 pub use laws::{
-    calls_go_on, entries_lead, entries_stand, marks_stand, needs_name_keys, serves_at_epoch,
-    states_have_bounds, states_serve_alike,
+    marks_stand, needs_name_keys, serves_at_epoch, states_have_bounds, states_serve_alike,
 };

@@ -8,10 +8,12 @@ use Rattle.unit_book.proofs.MarksKept.{no_marks_kept}
 use Rattle.unit_book.proofs.book.Book.command.Goals as goal
 
 pub step_of-requires-clause-seen : goal.step_of-requires-clause-seen
-step_of-requires-clause-seen g c = subst (λ (b : BookView). (need : Need) → IsNeedOf b.state c.args.pdu.now need → MeetsNeed b.state need c.args.seen)
+step_of-requires-clause-seen g c =
+    subst (λ (b : BookView). (need : Need) → IsNeedOf b.state c.args.pdu.now need → MeetsNeed b.state need c.args.seen)
     (sym c.self.view_is) c.requires.seen
 
 pub commit-requires-clause-marks : goal.commit-requires-clause-marks
 commit-requires-clause-marks g c = λ not.
     no_marks_kept c.args.self.now.state c.in-Ok.change c.requires.kept.rules
-    (subst (λ (b : BookView). Allows b.state c.in-Ok.change) c.self.view_is c.in-Ok.ensures.allowed) c.in-Ok.ensures.numbers
+    (subst (λ (b : BookView). Allows b.state c.in-Ok.change) c.self.view_is c.in-Ok.ensures.allowed)
+    c.in-Ok.ensures.numbers

@@ -7,8 +7,10 @@ use Rattle.unit_book.proofs.book.Book.enter.Goals as goal
 pub invariant_of-self : goal.invariant_of-self
 invariant_of-self g c =
     let longer : length c.push_reserved.new.self.items ≡ length c.self.inside.entries.items + 1 =
-    ap (λ (es : List Entry). length es) c.push_reserved.ensures.items ∙ length-append c.self.inside.entries.items (c.args.entry ∷ []) in
-    let one : c.changes_of.result ≤ 1 = subst (λ (n : ℕ). n ≤ 1) (sym c.changes_of.ensures) (one_at_most (counts c.args.entry.change)) in
+    ap (λ (es : List Entry). length es) c.push_reserved.ensures.items ∙ length-append c.self.inside.entries.items
+    (c.args.entry ∷ []) in
+    let one : c.changes_of.result ≤ 1 =
+    subst (λ (n : ℕ). n ≤ 1) (sym c.changes_of.ensures) (one_at_most (counts c.args.entry.change)) in
     let (same, is, low, few, room, sized, two) = c.self.invariant in
     let grows = c.push_reserved.ensures.capacity in (
       same,

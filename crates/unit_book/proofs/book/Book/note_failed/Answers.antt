@@ -6,7 +6,8 @@ use Rattle.unit_book.proofs.book.Book.note_failed.Goals as goal
 pub invariant_of-self : goal.invariant_of-self
 invariant_of-self g c =
     let longer : length c.push_reserved.new.self.items ≡ length c.self.inside.entries.items + 1 =
-    ap (λ (es : List Entry). length es) c.push_reserved.ensures.items ∙ length-append c.self.inside.entries.items (c.args.entry ∷ []) in
+    ap (λ (es : List Entry). length es) c.push_reserved.ensures.items ∙ length-append c.self.inside.entries.items
+    (c.args.entry ∷ []) in
     let (same, is, low, few, room, sized, two) = c.self.invariant in
     let grows = c.push_reserved.ensures.capacity in (
       same,

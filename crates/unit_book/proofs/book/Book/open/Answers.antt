@@ -4,7 +4,9 @@ use Rattle.unit_book.proofs.Opened.{shown_restarted, used_held}
 use Rattle.unit_book.proofs.book.Book.open.Goals as goal
 
 pub new-requires-clause-shows : goal.new-requires-clause-shows
-new-requires-clause-shows g c = λ told. shown_restarted (g.O.Site.trace c.start.new.site).now.image c.in-Ok.field-0.found.state (c.in-Ok.ensures.shows told).1
+new-requires-clause-shows g c =
+    λ told. shown_restarted (g.O.Site.trace c.start.new.site).now.image c.in-Ok.field-0.found.state
+    (c.in-Ok.ensures.shows told).1
 
 pub returns-in-Ok-clause-used : goal.returns-in-Ok-clause-used
 returns-in-Ok-clause-used g c = λ told.

@@ -21,7 +21,8 @@ loop-place-init g c = record {
 pub loop-place-preserved : goal.loop-place-preserved
 loop-place-preserved g c =
     let size : length c.rows-place-end.result.now ≡ length c.args.self.now.state.keys =
-    ap (λ rows. length rows) c.rows-place-end.ensures.rows ∙ ap (λ (b : BookView). length b.state.keys) c.self.view_is in
+    ap (λ rows. length rows) c.rows-place-end.ensures.rows
+    ∙ ap (λ (b : BookView). length b.state.keys) c.self.view_is in
     let words : length c.args.self.now.state.keys ≤ length c.args.next.now = c.requires.words in
     let below : c.loop-place.place < length c.rows-place-end.result.now = c.loop-place-test.true in
     let later : c.loop-place.self.site.faults ≤ c.release_at.new.self.site.faults = c.release_at.ensures.later in
@@ -41,7 +42,8 @@ loop-place-preserved g c =
 pub returns-in-Err-clause-released : goal.returns-in-Err-clause-released
 returns-in-Err-clause-released g c =
     let size : length c.rows-place-end.result.now ≡ length c.args.self.now.state.keys =
-    ap (λ rows. length rows) c.rows-place-end.ensures.rows ∙ ap (λ (b : BookView). length b.state.keys) c.self.view_is in
+    ap (λ rows. length rows) c.rows-place-end.ensures.rows
+    ∙ ap (λ (b : BookView). length b.state.keys) c.self.view_is in
     let words : length c.args.self.now.state.keys ≤ length c.args.next.now = c.requires.words in
     let below : c.loop-place.place < length c.rows-place-end.result.now = c.loop-place-test.true in
     releases_refused c.args.next.now c.loop-place.place 0 c.args.self.now c.loop-place.self c.release_at.new.self
@@ -49,7 +51,8 @@ returns-in-Err-clause-released g c =
 
 pub returns-in-Err-clause-goes_on : goal.returns-in-Err-clause-goes_on
 returns-in-Err-clause-goes_on g c =
-    goes_then c.args.self.now c.loop-place.self c.release_at.new.self c.loop-place.invariant.goes_on c.release_at.ensures.goes_on
+    goes_then c.args.self.now c.loop-place.self c.release_at.new.self c.loop-place.invariant.goes_on
+    c.release_at.ensures.goes_on
 
 pub returns-in-Err-clause-puts : goal.returns-in-Err-clause-puts
 returns-in-Err-clause-puts g c = c.release_at.ensures.puts ∙ c.loop-place.invariant.puts
@@ -63,7 +66,9 @@ returns-clause-puts g c = c.loop-place.invariant.puts
 pub returns-clause-released : goal.returns-clause-released
 returns-clause-released g c =
     let size : length c.rows-place-end.result.now ≡ length c.args.self.now.state.keys =
-    ap (λ rows. length rows) c.rows-place-end.ensures.rows ∙ ap (λ (b : BookView). length b.state.keys) c.self.view_is in
+    ap (λ rows. length rows) c.rows-place-end.ensures.rows
+    ∙ ap (λ (b : BookView). length b.state.keys) c.self.view_is in
     let same : length c.loop-place.self.state.keys ≡ length c.args.self.now.state.keys = c.loop-place.invariant.keys in
     let done : length c.rows-place-end.result.now ≤ c.loop-place.place = c.loop-place-test.false in
-    releases_done c.args.next.now c.loop-place.place c.args.self.now c.loop-place.self (omega arith) c.loop-place.invariant.so_far
+    releases_done c.args.next.now c.loop-place.place c.args.self.now c.loop-place.self
+    (omega arith) c.loop-place.invariant.so_far
