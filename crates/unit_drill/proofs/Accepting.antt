@@ -1,5 +1,7 @@
--- The history of a drill's receiver: each frame, in turn, raises the highest number of its lane. No window has a back window.
-use Rattle.std.proofs.Common.{◌≡◌, ℕ, ◌+◌, ◌<◌, ◌≤◌, max, Bool, true, false, nat_eq, if◌then◌else◌, List, [], ◌∷◌, ◌++◌, inl, ⊎_elim, refl, ◌∙◌, ap, arith}
+-- The history of a drill's receiver: each frame, in turn, raises the highest number of its lane. No window has a back
+-- window.
+use Rattle.std.proofs.Common.{◌≡◌, ℕ, ◌+◌, ◌<◌, ◌≤◌, max, Bool, true, false, nat_eq, if◌then◌else◌, List, [], ◌∷◌, ◌++◌}
+use Rattle.std.proofs.Common.{inl, ⊎_elim, refl, ◌∙◌, ap, arith}
 use Rattle.std.specs.FinSet as set
 use Rattle.sdls_base.specs.declared.change.Change.TheVariants.{Accepted, Nothing}
 use Rattle.sdls_base.specs.declared.entry.Entry.{Entry}
@@ -42,13 +44,15 @@ fresh_above window high n end is fresh =
     (λ (late : IsLate window (set.items window.taken) n). absurd (omega (arith, late.near, is.no_back))) fresh.place
 
 -- and a number above it that is not too far is fresh
-pub above_fresh : (window : Window) (high n end : ℕ) → HasNoBack window high → high < n → n ≤ high + 4294967296 → n < end → IsFresh window n end
+pub above_fresh : (window : Window) (high n end : ℕ) → HasNoBack window high → high < n → n ≤ high + 4294967296
+    → n < end → IsFresh window n end
 above_fresh window high n end is above within below = record {
   below_end = below;
   place = inl (record { above = omega (arith, is.high_is); within = omega (arith, is.high_is, is.width_is) });
 }
 
-accepted_by : (b : Bool) (number high other_high : ℕ) (window other : Window) → HasNoBack window high → HasNoBack other other_high → high < number
+accepted_by : (b : Bool) (number high other_high : ℕ) (window other : Window) → HasNoBack window high
+    → HasNoBack other other_high → high < number
     → HasNoBack (if b then accepted number window else other) (if b then number else other_high)
 accepted_by true number high other_high window other is is_other above =
     record { high_is = omega (arith, is.high_is); width_is = is.width_is; no_back = is.no_back }
@@ -78,11 +82,13 @@ taken_more es entry lane number floor within t above change = (
     windows = with_on lane (accepted number (t.windows lane)) t.windows;
     highs = with_on lane number t.highs;
     floors = with_on lane (max (t.floors lane) floor) t.floors;
-    each_is = λ other. accepted_by (nat_eq other lane) number (t.highs lane) (t.highs other) (t.windows lane) (t.windows other)
+    each_is = λ other. accepted_by (nat_eq other lane) number (t.highs lane) (t.highs other) (t.windows lane)
+        (t.windows other)
         (t.each_is lane) (t.each_is other) above;
     is = after_more (receiving begun (each 0)) es (entry ∷ [])
         ∙ (ap (λ (s : State). applied s entry.change) t.is
-        ∙ (ap (applied (receiving t.windows t.floors)) change ∙ accepted_on t.windows t.floors number floor lane within));
+        ∙ (ap (applied (receiving t.windows t.floors)) change
+        ∙ accepted_on t.windows t.floors number floor lane within));
   },
   refl,
 )

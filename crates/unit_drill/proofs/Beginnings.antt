@@ -62,11 +62,15 @@ module _ (once : ShowsOne) (text : List ℕ) (lines : PlanLines) (state : State)
     rules = shown_rules image begin.start opened.shows;
   }
 
-pub sender_begins : ShowsOne → (begin : Begin) (v : View) → UnitIsOpened sender_plan begin v → Starts begin sender_bare (sending (each 1))
+pub sender_begins : ShowsOne → (begin : Begin) (v : View) → UnitIsOpened sender_plan begin v
+    → Starts begin sender_bare (sending (each 1))
 sender_begins once begin v opened =
-    begins_so once sender_plan sender_lines (sending (each 1)) sender_read (λ first made. sender_starts first made ∙ first_is 1 Send) begin v opened
+    begins_so once sender_plan sender_lines (sending (each 1)) sender_read
+    (λ first made. sender_starts first made ∙ first_is 1 Send) begin v opened
 
-pub receiver_begins : ShowsOne → (begin : Begin) (v : View) → UnitIsOpened receiver_plan begin v → Starts begin receiver_bare (receiving begun (each 0))
+pub receiver_begins : ShowsOne → (begin : Begin) (v : View) → UnitIsOpened receiver_plan begin v
+    → Starts begin receiver_bare (receiving begun (each 0))
 receiver_begins once begin v opened =
-    begins_so once receiver_plan receiver_lines (receiving begun (each 0)) receiver_read (λ first made. receiver_starts first made
+    begins_so once receiver_plan receiver_lines (receiving begun (each 0)) receiver_read
+    (λ first made. receiver_starts first made
     ∙ first_is 2 Receive) begin v opened

@@ -10,7 +10,8 @@ use Rattle.unit_drill.specs.Counting.{count_accepted, count_given, gives_field}
 pub few_counted : (p : Answer → Bool) (answers : List Answer) → count_by p answers ≤ length answers
 few_counted p answers = count_by-le-length p answers
 
-pub few_accepted : (ahead : ℕ) (tasks : List Record) (answers : List Answer) → count_accepted ahead tasks answers ≤ length answers
+pub few_accepted : (ahead : ℕ) (tasks : List Record) (answers : List Answer)
+    → count_accepted ahead tasks answers ≤ length answers
 few_accepted ahead tasks answers =
     let few = count_by-le-length (λ (p : Record × Answer). gives_field (p.0.index - ahead) p.1) (zip tasks answers) in
     let many = length-zip tasks answers in

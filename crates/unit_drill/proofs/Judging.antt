@@ -21,18 +21,24 @@ channel_on : (lane c d e : ℕ) (rest : List ℕ)
     → channel_at receiver_bare.channels (record { link = 0; spacecraft = 1; channel = lane; map = None }) ≡ Some lane
     → c / 2 ^ 2 ≡ lane → channel_of receiver_bare 0 link_line.layout (0 ∷ 1 ∷ c ∷ d ∷ e ∷ rest) ≡ Some lane
 channel_on lane c d e rest there same =
-    ap (λ (channel : ℕ). channel_at receiver_bare.channels (record { link = 0; spacecraft = 1; channel = channel; map = None })) same ∙ there
+    ap (λ (channel : ℕ). channel_at receiver_bare.channels
+    (record { link = 0; spacecraft = 1; channel = channel; map = None })) same ∙ there
 
-pub judges_on : OpensOnce → (windows : ℕ → Window) (floors : ℕ → ℕ) (n s : ℕ) (g : ℕ → ℕ) (out field : List ℕ) (reply : OpenReply) (lane : ℕ) → lane < 4
+pub judges_on : OpensOnce → (windows : ℕ → Window) (floors : ℕ → ℕ) (n s : ℕ) (g : ℕ → ℕ) (out field : List ℕ)
+    (reply : OpenReply) (lane : ℕ) → lane < 4
     → Protects (bound_to 1 (lane + 1) (suite_on lane) (key_on lane) (lane + 1)) n (clear_on lane s (field_by g)) out
     → IsOpenReply receiver_bare (receiving windows floors) 0 out reply field
     → Judges (row_on Receive windows lane) (lane + 1) (key_on lane) n (field_by g) reply field
 judges_on once windows floors n s g out field reply = four _
-    (judges once (receiving windows floors) 0 1 (suite_on 0) (key_on 0) 1 (row_on Receive windows 0) (omega arith) refl (λ rest. refl)
+    (judges once (receiving windows floors) 0 1 (suite_on 0) (key_on 0) 1 (row_on Receive windows 0) (omega arith) refl
+    (λ rest. refl)
     (λ c d e rest same. channel_on 0 c d e rest refl same) refl refl n s g out field reply)
-    (judges once (receiving windows floors) 1 2 (suite_on 1) (key_on 1) 2 (row_on Receive windows 1) (omega arith) refl (λ rest. refl)
+    (judges once (receiving windows floors) 1 2 (suite_on 1) (key_on 1) 2 (row_on Receive windows 1) (omega arith) refl
+    (λ rest. refl)
     (λ c d e rest same. channel_on 1 c d e rest refl same) refl refl n s g out field reply)
-    (judges once (receiving windows floors) 2 3 (suite_on 2) (key_on 2) 3 (row_on Receive windows 2) (omega arith) refl (λ rest. refl)
+    (judges once (receiving windows floors) 2 3 (suite_on 2) (key_on 2) 3 (row_on Receive windows 2) (omega arith) refl
+    (λ rest. refl)
     (λ c d e rest same. channel_on 2 c d e rest refl same) refl refl n s g out field reply)
-    (judges once (receiving windows floors) 3 4 (suite_on 3) (key_on 3) 4 (row_on Receive windows 3) (omega arith) refl (λ rest. refl)
+    (judges once (receiving windows floors) 3 4 (suite_on 3) (key_on 3) 4 (row_on Receive windows 3) (omega arith) refl
+    (λ rest. refl)
     (λ c d e rest same. channel_on 3 c d e rest refl same) refl refl n s g out field reply)

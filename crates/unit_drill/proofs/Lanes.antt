@@ -1,5 +1,6 @@
 -- The states of a drill's units: the marks, windows and floors of four lanes.
-use Rattle.std.proofs.Common.{◌≡◌, ℕ, zero, suc, ◌+◌, ◌<◌, ◌≤◌, ◌==◌, max, if◌then◌else◌, nat_eq, Bool, true, false, [], ◌∷◌, IsSome, None, Some, refl, arith}
+use Rattle.std.proofs.Common.{◌≡◌, ℕ, zero, suc, ◌+◌, ◌<◌, ◌≤◌, ◌==◌, max, if◌then◌else◌, nat_eq, Bool, true, false, []}
+use Rattle.std.proofs.Common.{◌∷◌, IsSome, None, Some, refl, arith}
 use Rattle.std.proofs.lemmas.Bool.{eqb-true}
 use Rattle.sdls_base.specs.KeyId.{end_of}
 use Rattle.sdls_base.specs.declared.change.Change.TheVariants.{Marks, Accepted}
@@ -47,7 +48,8 @@ held_on marks floors lane = key_at (key_on lane) (lane + 1) (marks lane) (floors
 abbrev pub state_at : ℕ → Direction → (ℕ → ℕ) → (ℕ → Window) → (ℕ → ℕ) → State
 state_at digit direction marks windows floors = record {
   keys = held_on marks floors 0 ∷ held_on marks floors 1 ∷ held_on marks floors 2 ∷ held_on marks floors 3 ∷ [];
-  associations = row_on direction windows 0 ∷ row_on direction windows 1 ∷ row_on direction windows 2 ∷ row_on direction windows 3 ∷ [];
+  associations = row_on direction windows 0 ∷ row_on direction windows 1 ∷ row_on direction windows 2 ∷ row_on direction
+      windows 3 ∷ [];
   channels = 0 ∷ 1 ∷ 2 ∷ 3 ∷ [];
   device = 0 ∷ 0 ∷ 13 ∷ digit ∷ [];
 }
@@ -63,12 +65,14 @@ begun lane = first_window
 abbrev pub with_on : {A : Type 0} → ℕ → A → (ℕ → A) → ℕ → A
 with_on lane x values other = if other == lane then x else values other
 
-pub first_is : (digit : ℕ) (direction : Direction) → first_state digit direction ≡ state_at digit direction (each 1) begun (each 0)
+pub first_is : (digit : ℕ) (direction : Direction) → first_state digit direction
+    ≡ state_at digit direction (each 1) begun (each 0)
 first_is digit direction = refl
 
 -- ---- keys
 
-key_by : (a b c d : KeyRow) (key : ℕ) (p q r s : Bool) → nat_eq 32769 key ≡ p → nat_eq 257 key ≡ q → nat_eq 32771 key ≡ r → nat_eq 259 key ≡ s
+key_by : (a b c d : KeyRow) (key : ℕ) (p q r s : Bool) → nat_eq 32769 key ≡ p → nat_eq 257 key ≡ q
+    → nat_eq 32771 key ≡ r → nat_eq 259 key ≡ s
     → IsSome (if p then Some a else (if q then Some b else (if r then Some c else (if s then Some d else None))))
     → (lane : ℕ) × (lane < 4) × (key_on lane ≡ key)
 key_by a b c d key true q r s e f g h there = (0, omega arith, eqb-true 32769 key e)
@@ -83,15 +87,18 @@ pub key_lane : (digit : ℕ) (direction : Direction) (marks : ℕ → ℕ) (wind
     → (lane : ℕ) × (lane < 4) × (key_on lane ≡ key)
 key_lane digit direction marks windows floors key there = key_by _ _ _ _ key _ _ _ _ refl refl refl refl there
 
-pub mark_on : (digit : ℕ) (direction : Direction) (marks : ℕ → ℕ) (windows : ℕ → Window) (floors : ℕ → ℕ) (lane : ℕ) → lane < 4
+pub mark_on : (digit : ℕ) (direction : Direction) (marks : ℕ → ℕ) (windows : ℕ → Window) (floors : ℕ → ℕ) (lane : ℕ)
+    → lane < 4
     → mark_of (state_at digit direction marks windows floors) (key_on lane) ≡ marks lane
 mark_on digit direction marks windows floors = four _ refl refl refl refl
 
-pub floor_on : (digit : ℕ) (direction : Direction) (marks : ℕ → ℕ) (windows : ℕ → Window) (floors : ℕ → ℕ) (lane : ℕ) → lane < 4
+pub floor_on : (digit : ℕ) (direction : Direction) (marks : ℕ → ℕ) (windows : ℕ → Window) (floors : ℕ → ℕ) (lane : ℕ)
+    → lane < 4
     → floor_of (state_at digit direction marks windows floors) (key_on lane) ≡ floors lane
 floor_on digit direction marks windows floors = four _ refl refl refl refl
 
-pub place_on : (digit : ℕ) (direction : Direction) (marks : ℕ → ℕ) (windows : ℕ → Window) (floors : ℕ → ℕ) (lane : ℕ) → lane < 4
+pub place_on : (digit : ℕ) (direction : Direction) (marks : ℕ → ℕ) (windows : ℕ → Window) (floors : ℕ → ℕ) (lane : ℕ)
+    → lane < 4
     → place_of (state_at digit direction marks windows floors).keys (key_on lane) ≡ Some lane
 place_on digit direction marks windows floors = four _ refl refl refl refl
 
@@ -101,12 +108,14 @@ end_on = four _ (omega arith) (omega arith) (omega arith) (omega arith)
 -- ---- changes
 
 pub marked_on : (marks : ℕ → ℕ) (x lane : ℕ) → lane < 4
-    → applied (state_at 1 Send marks begun (each 0)) (Marks (key_on lane) x 0) ≡ state_at 1 Send (with_on lane x marks) begun (each 0)
+    → applied (state_at 1 Send marks begun (each 0)) (Marks (key_on lane) x 0)
+    ≡ state_at 1 Send (with_on lane x marks) begun (each 0)
 marked_on marks x = four _ refl refl refl refl
 
 pub accepted_on : (windows : ℕ → Window) (floors : ℕ → ℕ) (n floor lane : ℕ) → lane < 4
     → applied (state_at 2 Receive (each 1) windows floors) (Accepted (lane + 1) (key_on lane) n floor)
-    ≡ state_at 2 Receive (each 1) (with_on lane (accepted n (windows lane)) windows) (with_on lane (max (floors lane) floor) floors)
+    ≡ state_at 2 Receive (each 1) (with_on lane (accepted n (windows lane)) windows)
+    (with_on lane (max (floors lane) floor) floors)
 accepted_on windows floors n floor = four _ refl refl refl refl
 
 -- no two lanes have one key

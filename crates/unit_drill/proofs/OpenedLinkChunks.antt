@@ -1,5 +1,6 @@
 -- The receiver of a drill over a link, chunk by chunk.
-use Rattle.std.proofs.Common.{◌≡◌, ℕ, ◌+◌, ◌-◌, ◌*◌, ◌<◌, ◌≤◌, false, List, [], ◌++◌, length, map, get_or, sym, ◌∙◌, ap, subst, arith}
+use Rattle.std.proofs.Common.{◌≡◌, ℕ, ◌+◌, ◌-◌, ◌*◌, ◌<◌, ◌≤◌, false, List, [], ◌++◌, length, map, get_or, sym, ◌∙◌, ap}
+use Rattle.std.proofs.Common.{subst, arith}
 use Rattle.std.specs.Prelude.{slice_get}
 use Rattle.std.specs.List.{All, list_any}
 use Rattle.std.proofs.lemmas.List.{length-append, length-map}
@@ -35,7 +36,8 @@ use Rattle.unit_drill.proofs.Sending.{Done}
 use Rattle.unit_drill.proofs.SentChunks.{IsGood, all_answered, all_good, at, blank, done_more}
 use Rattle.unit_drill.proofs.Tasks.{OnLane, drill_layout, drill_lies}
 use Rattle.unit_drill.proofs.ArrivedFrames.{frames_are}
-use Rattle.unit_drill.proofs.ArrivedRecords.{Any, arrived_ascends, arrived_below, arrived_from, arrived_handed, arrived_lanes, many_tasks, number_at, one_handed, task_at}
+use Rattle.unit_drill.proofs.ArrivedRecords.{Any, arrived_ascends, arrived_below, arrived_from, arrived_handed}
+use Rattle.unit_drill.proofs.ArrivedRecords.{arrived_lanes, many_tasks, number_at, one_handed, task_at}
 use Rattle.unit_drill.proofs.Told.{IsJudged, all_told}
 
 -- the receiver handled the records of the first chunks
@@ -50,7 +52,8 @@ pub record TakenLink (begin : Begin) (first now : View) (total chunks : ℕ) (oc
   pub below_deeds : All (λ (deed : Deed). Below (4 * (1024 * chunks)) deed.task) deeds
   pub few : length tasks ≤ 2 * total
 
-pub none_taken : (begin : Begin) (first : View) (octets : ℕ → List ℕ) → IsJustOpened begin first → begin.rows ≡ MOST_KEYS → IsWhole MOST_KEYS first
+pub none_taken : (begin : Begin) (first : View) (octets : ℕ → List ℕ) → IsJustOpened begin first
+    → begin.rows ≡ MOST_KEYS → IsWhole MOST_KEYS first
     → Starts begin receiver_bare (receiving begun (each 0)) → TakenLink begin first first 0 0 octets
 none_taken begin first octets opened rows whole starts = record {
   tasks = [];
@@ -73,12 +76,17 @@ none_taken begin first octets opened rows whole starts = record {
 }
 
 -- One more chunk. All its frames were sent, and no answer of the receiver says that memory ran out.
-module _ (once : OpensOnce) (begin : Begin) (first now next : View) (chunk : ℕ) (octets longer : ℕ → List ℕ) (numbers : ℕ → ℕ)
-    (starts : Starts begin receiver_bare (receiving begun (each 0))) (so_far : TakenLink begin first now (256 * chunk) chunk octets)
-    (later : List Answer) (codes : All IsSent later) (short : length later ≤ 256) (few : 256 * chunk + length later ≤ 100000)
-    (same : (i : ℕ) → i < 256 * chunk → octets i ≡ longer i) (own : (j : ℕ) → j < length later → longer (256 * chunk + j) ≡ (at later j).body)
+module _ (once : OpensOnce) (begin : Begin) (first now next : View) (chunk : ℕ) (octets longer : ℕ → List ℕ)
+    (numbers : ℕ → ℕ)
+    (starts : Starts begin receiver_bare (receiving begun (each 0)))
+    (so_far : TakenLink begin first now (256 * chunk) chunk octets)
+    (later : List Answer) (codes : All IsSent later) (short : length later ≤ 256)
+    (few : 256 * chunk + length later ≤ 100000)
+    (same : (i : ℕ) → i < 256 * chunk → octets i ≡ longer i)
+    (own : (j : ℕ) → j < length later → longer (256 * chunk + j) ≡ (at later j).body)
     (sent : AreSent (256 * chunk + length later) numbers longer) (opened : List Answer)
-    (opens : HandlesSegment begin now next (arrived_tasks (1024 * chunk) (256 * chunk) later (arrived_frames (256 * chunk) later)) opened)
+    (opens : HandlesSegment begin now next
+    (arrived_tasks (1024 * chunk) (256 * chunk) later (arrived_frames (256 * chunk) later)) opened)
     (wants : list_any says_no_memory opened ≡ false) where
   abbrev total : ℕ
   total = 256 * chunk + length later
@@ -94,7 +102,8 @@ module _ (once : OpensOnce) (begin : Begin) (first now next : View) (chunk : ℕ
 
   opens_new : HandlesSegment begin now next new opened
   opens_new =
-      subst (λ (ns : List ℕ). HandlesSegment begin now next (arrived_tasks (1024 * chunk) (256 * chunk) later ns) opened)
+      subst (λ (ns : List ℕ). HandlesSegment begin now next (arrived_tasks (1024 * chunk) (256 * chunk) later ns)
+      opened)
       (frames_are (256 * chunk) later codes) opens
 
   many_frames : length frames ≡ length ks
@@ -122,11 +131,13 @@ module _ (once : OpensOnce) (begin : Begin) (first now next : View) (chunk : ℕ
   every_deed = old_deeds ++ new_deeds
 
   handed_new : All (Handed Any total longer) new
-  handed_new = arrived_handed total longer (1024 * chunk) (256 * chunk) later ks (delivered_low (length later)) (omega arith) own
+  handed_new = arrived_handed total longer (1024 * chunk) (256 * chunk) later ks (delivered_low (length later))
+      (omega arith) own
 
   handed_all : All (Handed Any total longer) every
   handed_all =
-      All-append (Handed Any total longer) old new (handed_more Any (256 * chunk) total octets longer old (omega arith) same so_far.handed) handed_new
+      All-append (Handed Any total longer) old new
+      (handed_more Any (256 * chunk) total octets longer old (omega arith) same so_far.handed) handed_new
 
   lanes_new : All (OnLane 0) new
   lanes_new = arrived_lanes (1024 * chunk) (256 * chunk) later frames
@@ -135,7 +146,8 @@ module _ (once : OpensOnce) (begin : Begin) (first now next : View) (chunk : ℕ
   lanes_all = All-append (OnLane 0) old new so_far.lanes lanes_new
 
   on_lanes : All (λ (task : Record). (drill_layout 0).lane_of task.index ≡ task.lane) every
-  on_lanes = All-weaker (OnLane 0) (λ (task : Record). (drill_layout 0).lane_of task.index ≡ task.lane) (λ task is. sym is) every lanes_all
+  on_lanes = All-weaker (OnLane 0) (λ (task : Record). (drill_layout 0).lane_of task.index ≡ task.lane)
+      (λ task is. sym is) every lanes_all
 
   from_new : All (From (4 * (1024 * chunk))) new
   from_new = arrived_from (1024 * chunk) (256 * chunk) later frames
@@ -151,7 +163,8 @@ module _ (once : OpensOnce) (begin : Begin) (first now next : View) (chunk : ℕ
   done_all : Done (drill_layout 0) begin first next every every_deed
   done_all =
       done_more (drill_layout 0) begin first now next old new old_deeds new_deeds (4 * (1024 * chunk)) so_far.done
-      (opens_new.handled (drill_layout 0) 0 (drill_lies 0 new lanes_new)) opens_new.whole so_far.ascend ascend_new so_far.below from_new
+      (opens_new.handled (drill_layout 0) 0 (drill_lies 0 new lanes_new)) opens_new.whole so_far.ascend ascend_new
+      so_far.below from_new
       so_far.below_deeds (deeds_all (From (4 * (1024 * chunk))) 0 new opened from_new)
 
   few_old : length every ≤ 2 * total
@@ -162,21 +175,28 @@ module _ (once : OpensOnce) (begin : Begin) (first now next : View) (chunk : ℕ
 
   answered : length opened ≡ length new
   answered =
-      let e = few_made Any once (drill_layout 0) begin first next every every_deed done_all starts.plan starts.start total few_all numbers longer sent handed_all on_lanes in
+      let e = few_made Any once (drill_layout 0) begin first next every every_deed done_all starts.plan starts.start
+      total few_all numbers longer sent handed_all on_lanes in
       all_answered begin now next new opened opens_new.full opens_new.ends (omega arith)
 
   abbrev FitsHere : Deed → Type 0
-  FitsHere deed = Fits (near Any once (drill_layout 0) begin first next every every_deed done_all starts.plan starts.start total few_all numbers longer sent handed_all on_lanes) (course_in begin next) deed.task deed.answer
+  FitsHere deed = Fits (near Any once (drill_layout 0) begin first next every every_deed done_all starts.plan
+      starts.start total few_all numbers longer sent handed_all on_lanes) (course_in begin next) deed.task deed.answer
 
   all_fit : All FitsHere every_deed
-  all_fit = fits Any once (drill_layout 0) begin first next every every_deed done_all starts.plan starts.start total few_all numbers longer sent handed_all on_lanes
+  all_fit = fits Any once (drill_layout 0) begin first next every every_deed done_all starts.plan starts.start total
+      few_all numbers longer sent handed_all on_lanes
 
   abbrev Tells : Record → Answer → Type 0
-  Tells task answer = TellsEntry Any once (drill_layout 0) begin first next every every_deed done_all starts.plan starts.start total few_all numbers longer sent handed_all on_lanes task answer
+  Tells task answer = TellsEntry Any once (drill_layout 0) begin first next every every_deed done_all starts.plan
+      starts.start total few_all numbers longer sent handed_all on_lanes task answer
 
-  tells_so : (task : Record) (answer : Answer) → Handed Any total longer task → FitsHere (deed_of 0 task answer) → IsGood answer → Tells task answer
+  tells_so : (task : Record) (answer : Answer) → Handed Any total longer task → FitsHere (deed_of 0 task answer)
+      → IsGood answer → Tells task answer
   tells_so task answer hand fit good =
-      entry_told Any once (drill_layout 0) begin first next every every_deed done_all starts.plan starts.start total few_all numbers longer sent handed_all on_lanes task hand answer fit good.no_fault good.not_stopped good.not_wanting
+      entry_told Any once (drill_layout 0) begin first next every every_deed done_all starts.plan starts.start total
+      few_all numbers longer sent handed_all on_lanes task hand answer fit good.no_fault good.not_stopped
+      good.not_wanting
 
   -- the record at a place of the chunk
   abbrev number_on : ℕ → ℕ
@@ -188,7 +208,8 @@ module _ (once : OpensOnce) (begin : Begin) (first now next : View) (chunk : ℕ
   hand_on : (j : ℕ) → j < length ks → Handed Any total longer (task_on j)
   unfolding one_handed
   hand_on j low =
-      one_handed total longer (1024 * chunk + j) (256 * chunk) later (get_or ks j 0) (delivered_low (length later) j 0 low) (omega arith) own (number_on j)
+      one_handed total longer (1024 * chunk + j) (256 * chunk) later (get_or ks j 0)
+      (delivered_low (length later) j 0 low) (omega arith) own (number_on j)
       (number_at (256 * chunk) ks j low)
 
   judged : (j : ℕ) → j < length frames → IsJudged (number_on j) (at opened j)
@@ -201,15 +222,19 @@ module _ (once : OpensOnce) (begin : Begin) (first now next : View) (chunk : ℕ
       let long = deeds_long 0 new opened answered in
       let deed : get_or new_deeds j dummy ≡ deed_of 0 (task_on j) (at opened j) =
       deed_at 0 new opened j dummy (task_on j) blank answered (omega arith)
-      ∙ ap (λ (t : Record). deed_of 0 t (at opened j)) (task_at (1024 * chunk) (256 * chunk) later frames j (task_on j) low) in
+      ∙ ap (λ (t : Record). deed_of 0 t (at opened j))
+      (task_at (1024 * chunk) (256 * chunk) later frames j (task_on j) low) in
       let fit : FitsHere (deed_of 0 (task_on j) (at opened j)) =
       subst FitsHere deed (all_right FitsHere old_deeds new_deeds all_fit j dummy (omega arith)) in
       let good : IsGood (at opened j) =
-      subst (λ (d : Deed). IsGood d.answer) deed (deeds_answers IsGood 0 new opened (all_good opened opens_new.quiet wants) j dummy (omega arith)) in
-      judged_by Any once (drill_layout 0) begin first next every every_deed done_all starts.plan starts.start total few_all numbers longer sent handed_all on_lanes (task_on j) (hand_on j (omega arith)) (at opened j)
+      subst (λ (d : Deed). IsGood d.answer) deed
+      (deeds_answers IsGood 0 new opened (all_good opened opens_new.quiet wants) j dummy (omega arith)) in
+      judged_by Any once (drill_layout 0) begin first next every every_deed done_all starts.plan starts.start total
+      few_all numbers longer sent handed_all on_lanes (task_on j) (hand_on j (omega arith)) (at opened j)
       (tells_so (task_on j) (at opened j) (hand_on j (omega arith)) fit good)
 
-  pub told_all : count_given (arrived_frames (256 * chunk) later) opened + count_code codes_of.NUMBER opened ≡ length (deliveries (length later))
+  pub told_all : count_given (arrived_frames (256 * chunk) later) opened + count_code codes_of.NUMBER opened
+      ≡ length (deliveries (length later))
   told_all =
       let a = many_frames in
       let b = many_new in

@@ -50,7 +50,8 @@ module _ {B : Type 0} (site : SiteSeen) (book : BookView) (counters : Counters B
           plan = ap (λ (o : Opening). o.plan) begins.opening;
           start = ap (λ (o : Opening). o.start) begins.opening;
         };
-        image = ap (λ (o : Opening). o.image) begins.opening ∙ (ap (λ (b : BookView). b.image) opened.begun_is ∙ image_is);
+        image = ap (λ (o : Opening). o.image) begins.opening
+            ∙ (ap (λ (b : BookView). b.image) opened.begun_is ∙ image_is);
         says = subst (λ (i : List ℕ). plan_of (held i).plan ≡ Ok book.plan) image_is (opened.plan refl);
         shows = subst (λ (i : List ℕ). Shows i book.start) image_is (opened.shows refl).0;
         whole = begins.whole;

@@ -1,5 +1,6 @@
 -- The history of a drill's sender: reserves alone, each a block above the mark.
-use Rattle.std.proofs.Common.{◌≡◌, ℕ, ◌+◌, ◌*◌, ◌<◌, ◌≤◌, min, if◌then◌else◌, Bool, true, false, List, [], ◌∷◌, ◌++◌, length, refl, sym, ◌∙◌, ap, subst, arith}
+use Rattle.std.proofs.Common.{◌≡◌, ℕ, ◌+◌, ◌*◌, ◌<◌, ◌≤◌, min, if◌then◌else◌, Bool, true, false, List, [], ◌∷◌, ◌++◌}
+use Rattle.std.proofs.Common.{length, refl, sym, ◌∙◌, ap, subst, arith}
 use Rattle.std.proofs.lemmas.List.{length-append}
 use Rattle.sdls_base.specs.KeyId.{end_of}
 use Rattle.sdls_base.specs.declared.change.Change.TheVariants.{Marks}
@@ -13,7 +14,8 @@ use Rattle.unit_state.proofs.Histories.{after_more, epochs_more}
 use Rattle.run_promise.specs.Legal.{IsReserve}
 use Rattle.run_promise.specs.Numbers.{mark_of, floor_of, reserve_of}
 use Rattle.unit_drill.proofs.Read.{sender_bare}
-use Rattle.unit_drill.proofs.Lanes.{begun, each, end_on, floor_on, four, key_lane, key_on, mark_on, marked_on, state_at, with_on}
+use Rattle.unit_drill.proofs.Lanes.{begun, each, end_on, floor_on, four, key_lane, key_on, mark_on, marked_on, state_at}
+use Rattle.unit_drill.proofs.Lanes.{with_on}
 
 abbrev pub sending : (ℕ → ℕ) → State
 sending marks = state_at 1 Send marks begun (each 0)
@@ -21,7 +23,8 @@ sending marks = state_at 1 Send marks begun (each 0)
 abbrev pub all_marks : (ℕ → ℕ) → ℕ
 all_marks marks = marks 0 + marks 1 + marks 2 + marks 3
 
--- After these entries the state has these marks, none above the bound by more than a block; each entry raised one by a block at
+-- After these entries the state has these marks, none above the bound by more than a block; each entry raised one by a
+-- block at
 -- least, and none counts for the epoch.
 pub record Reserved (es : List Entry) (bound : ℕ) : Type 0 where
   pub marks : ℕ → ℕ
@@ -56,20 +59,24 @@ same_reserve marks number lane low below =
 -- one reserve more
 pub reserved_more : (near : ℕ → ℕ → Type 0) (es : List Entry) (bound : ℕ) (entry : Entry) → bound ≤ 200000
     → ((lane number : ℕ) → lane < 4 → near (key_on lane) number → number ≤ bound)
-    → Reserved es bound → IsReserve near sender_bare (after (sending (each 1)) es) entry → Reserved (es ++ entry ∷ []) bound
+    → Reserved es bound → IsReserve near sender_bare (after (sending (each 1)) es) entry
+    → Reserved (es ++ entry ∷ []) bound
 reserved_more near es bound entry small near_low so_far reserves =
     let marks = so_far.marks in
-    let r : IsReserve near sender_bare (sending marks) entry = subst (λ (s : State). IsReserve near sender_bare s entry) so_far.is reserves in
+    let r : IsReserve near sender_bare (sending marks) entry =
+    subst (λ (s : State). IsReserve near sender_bare s entry) so_far.is reserves in
     let (lane, low, same) = key_lane 1 Send marks begun (each 0) r.key r.there in
     let number = r.number in
     let is_near : near (key_on lane) number = subst (λ (k : ℕ). near k number) (sym same) r.is_near in
     let most : number ≤ bound = near_low lane number low is_near in
-    let unmarked : mark_of (sending marks) (key_on lane) ≤ number = subst (λ (k : ℕ). mark_of (sending marks) k ≤ number) (sym same) r.unmarked in
+    let unmarked : mark_of (sending marks) (key_on lane) ≤ number =
+    subst (λ (k : ℕ). mark_of (sending marks) k ≤ number) (sym same) r.unmarked in
     let at_mark = mark_on 1 Send marks begun (each 0) lane low in
     let end = end_on lane low in
     let change : entry.change ≡ Marks (key_on lane) (number + 64) 0 =
     ap (λ (e : Entry). e.change) r.entry_is
-    ∙ (ap (λ (k : ℕ). (reserve_of sender_bare (sending marks) k number).change) (sym same) ∙ same_reserve marks number lane low (omega arith)) in
+    ∙ (ap (λ (k : ℕ). (reserve_of sender_bare (sending marks) k number).change) (sym same)
+    ∙ same_reserve marks number lane low (omega arith)) in
     let next : after (sending (each 1)) (es ++ entry ∷ []) ≡ sending (with_on lane (number + 64) marks) =
     after_more (sending (each 1)) es (entry ∷ [])
     ∙ (ap (λ (s : State). applied s entry.change) so_far.is

@@ -1,5 +1,7 @@
 -- What the sender of a drill answers: each frame is protected, if memory did not run out and its site did not fail.
-use Rattle.std.proofs.Common.{◌≡◌, ◌≢◌, ℕ, zero, suc, ◌+◌, ◌%◌, ◌<◌, ◌≤◌, Bool, true, false, List, [], ◌∷◌, ◌++◌, length, take, map, get_or, Option, None, Some, Ok, refl, sym, ◌∙◌, ap, subst, inl, inr, ⊎_elim, arith, cond}
+use Rattle.std.proofs.Common.{◌≡◌, ◌≢◌, ℕ, zero, suc, ◌+◌, ◌%◌, ◌<◌, ◌≤◌, Bool, true, false, List, [], ◌∷◌, ◌++◌}
+use Rattle.std.proofs.Common.{length, take, map, get_or, Option, None, Some, Ok, refl, sym, ◌∙◌, ap, subst, inl, inr}
+use Rattle.std.proofs.Common.{⊎_elim, arith, cond}
 use Rattle.std.specs.List.{All, slice_get}
 use Rattle.std.proofs.lemmas.List.{length-take, take_all, take_more}
 use Rattle.std.proofs.lemmas.List.Elements.{All-contains}
@@ -47,14 +49,15 @@ use Rattle.unit_drill.proofs.Lanes.{begun, each, end_on, key_on, mark_on, suite_
 use Rattle.unit_drill.proofs.Reserving.{Reserved, none_reserved, reserved_more, sending}
 
 -- the records that a unit handled since it was opened
-pub record Done (layout : Layout) (begin : Begin) (first now : View) (tasks : List Record) (deeds : List Deed) : Type 0 where
-  pub opened : IsJustOpened begin first
-  pub rows : begin.rows ≡ MOST_KEYS
-  pub handled : Handled layout begin first now tasks deeds
-  pub whole : IsWhole begin.rows now
-  pub plan_is : IsPlan begin.plan
-  pub rules : KeepsRules begin.start
-  pub once : (index : ℕ) → indexed index tasks ≤ 1
+pub record Done (layout : Layout) (begin : Begin) (first now : View) (tasks : List Record) (deeds : List Deed) : Type 0
+  where
+    pub opened : IsJustOpened begin first
+    pub rows : begin.rows ≡ MOST_KEYS
+    pub handled : Handled layout begin first now tasks deeds
+    pub whole : IsWhole begin.rows now
+    pub plan_is : IsPlan begin.plan
+    pub rules : KeepsRules begin.start
+    pub once : (index : ℕ) → indexed index tasks ≤ 1
 
 pub drawers_few : (tasks : List Record) → drawers tasks ≤ length tasks
 drawers_few [] = omega arith
@@ -89,10 +92,12 @@ pub record Sent (i : ℕ) (answer : Answer) : Type 0 where
   pub key : answer.key ≡ key_on (i % 4)
   pub least : 1 ≤ answer.number
   pub most : answer.number ≤ 100001
-  pub protects : Protects (bound_to 1 (i % 4 + 1) (suite_on (i % 4)) (key_on (i % 4)) (i % 4 + 1)) answer.number (clear_frame i) answer.body
+  pub protects : Protects (bound_to 1 (i % 4 + 1) (suite_on (i % 4)) (key_on (i % 4)) (i % 4 + 1)) answer.number
+      (clear_frame i) answer.body
 
 module _ (layout : Layout) (begin : Begin) (first now : View) (tasks : List Record) (deeds : List Deed)
-    (done : Done layout begin first now tasks deeds) (plan : begin.plan ≡ sender_bare) (start : begin.start ≡ sending (each 1))
+    (done : Done layout begin first now tasks deeds) (plan : begin.plan ≡ sender_bare)
+    (start : begin.start ≡ sending (each 1))
     (frames : All IsFrame tasks) (few : length tasks ≤ 100000) where
   abbrev pub entries : List Entry
   entries = entries_in now
@@ -102,10 +107,12 @@ module _ (layout : Layout) (begin : Begin) (first now : View) (tasks : List Reco
 
   kept : KeepsRules (after begin.start entries)
   kept = rules_at_end begin first now (map in_one tasks) deeds done.opened
-      (subst (λ (ts : List Record). Does begin first now ts deeds) (sym (records_back tasks)) done.handled.does) done.whole done.plan_is done.rules
+      (subst (λ (ts : List Record). Does begin first now ts deeds) (sym (records_back tasks)) done.handled.does)
+      done.whole done.plan_is done.rules
 
   history : IsHistory near begin tasks entries
-  history = legal begin first now tasks deeds done.opened done.handled.does done.whole done.rows done.rules kept done.once
+  history = legal begin first now tasks deeds done.opened done.handled.does done.whole done.rows done.rules kept
+      done.once
 
   near_low : (lane number : ℕ) → lane < 4 → near (key_on lane) number → number ≤ 1 + length tasks
   near_low lane number low is =
@@ -113,17 +120,20 @@ module _ (layout : Layout) (begin : Begin) (first now : View) (tasks : List Reco
       ∙ mark_on 1 Send (each 1) begun (each 0) lane low in
       let few_drawn = drawers_few tasks in
       let most = is.most in
-      ⊎_elim (λ (base : is.base ≡ mark_of begin.start (key_on lane)). (let e : number ≤ 1 + length tasks = omega arith in e))
+      ⊎_elim (λ (base : is.base ≡ mark_of begin.start (key_on lane)).
+      (let e : number ≤ 1 + length tasks = omega arith in e))
       (λ (asked : IsAskedFor begin.start entries tasks (key_on lane) is.base).
       let (i, same) = All-contains IsFrame tasks asked.task frames asked.there in
       let kind : Protect ≡ Command = sym (ap (λ (t : Record). t.kind) same) ∙ asked.kind_is in absurd (cc)) is.is_base
 
   -- each entry is a reserve
-  reserve_at : (p : ℕ) (entry : Entry) → slice_get entries p ≡ Some entry → IsReserve near sender_bare (after (sending (each 1)) (take p entries)) entry
+  reserve_at : (p : ℕ) (entry : Entry) → slice_get entries p ≡ Some entry
+      → IsReserve near sender_bare (after (sending (each 1)) (take p entries)) entry
   reserve_at p entry there =
       let legal_so : IsLegal near sender_bare (after (sending (each 1)) (take p entries)) tasks entry =
       subst (λ (s : State). IsLegal near sender_bare (after s (take p entries)) tasks entry) start
-      (subst (λ (l : PlanLines). IsLegal near l (after begin.start (take p entries)) tasks entry) plan (history.each p entry there)) in
+      (subst (λ (l : PlanLines). IsLegal near l (after begin.start (take p entries)) tasks entry) plan
+      (history.each p entry there)) in
       elim legal_so [
         | inl opening ↦
             let (i, same) = All-contains IsFrame tasks opening.task frames opening.there in
@@ -146,7 +156,8 @@ module _ (layout : Layout) (begin : Begin) (first now : View) (tasks : List Reco
       let entry = get_or entries p blank in
       let there : slice_get entries p ≡ Some entry = slice_get-get_or entries p blank (omega arith) in
       let next : take (suc p) entries ≡ take p entries ++ entry ∷ [] =
-      (let e : suc p ≡ p + 1 = omega arith in ap (λ (n : ℕ). take n entries) e) ∙ take_more entries p blank (omega arith) in
+      (let e : suc p ≡ p + 1 = omega arith in ap (λ (n : ℕ). take n entries) e)
+      ∙ take_more entries p blank (omega arith) in
       subst (λ (es : List Entry). Reserved es bound) (sym next)
       (reserved_more near (take p entries) bound entry (omega arith) near_low before (reserve_at p entry there))
 
@@ -179,14 +190,16 @@ module _ (layout : Layout) (begin : Begin) (first now : View) (tasks : List Reco
       ap (λ (e : ℕ). protect_reply begin.plan (at_epoch begin.start entries e) 0 (clear_frame i)) zero_is
       ∙ (ap (λ (s : State). protect_reply begin.plan s 0 (clear_frame i)) (first_epoch begin.start entries ∙ start)
       ∙ (ap (λ (l : PlanLines). protect_reply l (sending (each 1)) 0 (clear_frame i)) plan
-      ∙ (ap (protect_reply sender_bare (sending (each 1)) 0) (clear_is i) ∙ bound_on (i % 256) (field_octet i) (i % 4) (omega arith))))
+      ∙ (ap (protect_reply sender_bare (sending (each 1)) 0) (clear_is i) ∙ bound_on (i % 256) (field_octet i) (i % 4)
+      (omega arith))))
 
   abbrev ours : ℕ → Binding
   ours i = bound_to 1 (i % 4 + 1) (suite_on (i % 4)) (key_on (i % 4)) (i % 4 + 1)
 
   same_binding : (i : ℕ) (answer : Answer) (is : IsBound course (protect_task i) answer) → is.binding ≡ ours i
   same_binding i answer is =
-      let twice : ◌≡◌ {A = protecting.Answer} (Ok (Some is.binding)) (Ok (Some (ours i))) = sym is.bound ∙ bound_so i answer.position is.reached in cc
+      let twice : ◌≡◌ {A = protecting.Answer} (Ok (Some is.binding)) (Ok (Some (ours i))) =
+      sym is.bound ∙ bound_so i answer.position is.reached in cc
 
   sent_by : (i : ℕ) (answer : Answer) → IsProtected near course (protect_task i) answer → Sent i answer
   sent_by i answer is =
@@ -195,7 +208,8 @@ module _ (layout : Layout) (begin : Begin) (first now : View) (tasks : List Reco
       let is_near = subst (λ (k : ℕ). near k answer.number) key is.is_near in
       let low = near_low (i % 4) answer.number (omega arith) is_near in
       let first_mark : mark_of begin.start (key_on (i % 4)) ≡ 1 =
-      ap (λ (s : State). mark_of s (key_on (i % 4))) start ∙ mark_on 1 Send (each 1) begun (each 0) (i % 4) (omega arith) in
+      ap (λ (s : State). mark_of s (key_on (i % 4))) start ∙ mark_on 1 Send (each 1) begun (each 0) (i % 4)
+      (omega arith) in
       let least = is_near.least in
       record {
         code = ap (λ (t : Told). t.code) is.told;
@@ -207,7 +221,8 @@ module _ (layout : Layout) (begin : Begin) (first now : View) (tasks : List Reco
 
   not_unbound : (i : ℕ) (answer : Answer) → IsUnbound course (protect_task i) answer → ⊥
   not_unbound i answer is =
-      let none : ◌≡◌ {A = Option Told} None (Some (told_by answer)) = sym (ap unbound_told (bound_so i answer.position is.reached)) ∙ is.told in cc
+      let none : ◌≡◌ {A = Option Told} None (Some (told_by answer)) =
+      sym (ap unbound_told (bound_so i answer.position is.reached)) ∙ is.told in cc
 
   not_exhausted : (i : ℕ) (answer : Answer) → IsExhausted near course (protect_task i) answer → ⊥
   not_exhausted i answer is =
@@ -218,7 +233,8 @@ module _ (layout : Layout) (begin : Begin) (first now : View) (tasks : List Reco
       let high : end_of (key_on (i % 4)) ≤ answer.number = subst (λ (k : ℕ). end_of k ≤ answer.number) key is.at_end in
       omega arith
 
-  pub sent_so : (i : ℕ) (answer : Answer) → Fits near course (protect_task i) answer → answer.code ≢ codes_of.SITE_FAULT → answer.code ≢ codes_of.STOPPED
+  pub sent_so : (i : ℕ) (answer : Answer) → Fits near course (protect_task i) answer → answer.code ≢ codes_of.SITE_FAULT
+      → answer.code ≢ codes_of.STOPPED
       → answer.code ≢ codes_of.NO_MEMORY → Sent i answer
   sent_so i answer fits no_fault not_stopped not_wanting = elim fits [
     | inl is ↦ sent_by i answer is

@@ -18,8 +18,10 @@ use Rattle.unit_drill.specs.Chunks.{HandlesSegment}
 use Rattle.unit_drill.specs.UnitRun.{says_fault}
 use Rattle.unit_drill.proofs.Tasks.{OnLane, drill_layout, drill_lies}
 
-pub served : (v w : View) (tasks : List Record) (answers : List Answer) (full : Bool) (ahead : ℕ) → All (OnLane ahead) tasks
-    → ((begin : Begin) (layout : Layout) (number : ℕ) → BeganWith true begin v.turn.known.opening → LiesIn layout number tasks
+pub served : (v w : View) (tasks : List Record) (answers : List Answer) (full : Bool) (ahead : ℕ)
+    → All (OnLane ahead) tasks
+    → ((begin : Begin) (layout : Layout) (number : ℕ) → BeganWith true begin v.turn.known.opening
+    → LiesIn layout number tasks
     → Handled layout begin v w tasks (deeds_of number tasks answers))
     → ((begin : Begin) → BeganWith true begin v.turn.known.opening → EndsSegment begin v w tasks answers full)
     → list_any says_fault answers ≡ false → All IsAnswer answers → IsWhole MOST_KEYS w
@@ -48,7 +50,8 @@ begin_with opening = record { rows = MOST_KEYS; told = true; plan = opening.plan
 
 -- no more answers than records
 pub few_answers : (v w : View) (tasks : List Record) (answers : List Answer) (full : Bool)
-    → ((begin : Begin) → BeganWith true begin v.turn.known.opening → EndsSegment begin v w tasks answers full) → length answers ≤ length tasks
+    → ((begin : Begin) → BeganWith true begin v.turn.known.opening → EndsSegment begin v w tasks answers full)
+    → length answers ≤ length tasks
 few_answers v w tasks answers full ends =
     few (begin_with v.turn.known.opening) v w tasks answers full (ends (begin_with v.turn.known.opening)
     (record { rows = refl; tells = refl; plan = refl; start = refl }))

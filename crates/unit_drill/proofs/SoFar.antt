@@ -1,5 +1,6 @@
 -- What one unit of a drill did so far, segment by segment, and that it is a sound run: for `RunsSoundly`.
-use Rattle.std.proofs.Common.{◌≡◌, ℕ, zero, suc, ◌+◌, ◌*◌, ◌<◌, ◌≤◌, Bool, false, List, [], ◌∷◌, ◌++◌, length, map, get_or, refl, sym, ◌∙◌, ap, subst, arith, append-nil}
+use Rattle.std.proofs.Common.{◌≡◌, ℕ, zero, suc, ◌+◌, ◌*◌, ◌<◌, ◌≤◌, Bool, false, List, [], ◌∷◌, ◌++◌, length, map}
+use Rattle.std.proofs.Common.{get_or, refl, sym, ◌∙◌, ap, subst, arith, append-nil}
 use Rattle.std.specs.Prelude.{◌||◌}
 use Rattle.std.specs.List.{All, AllPairs, list_any}
 use Rattle.std.proofs.lemmas.List.{length-append, length-map}
@@ -54,16 +55,20 @@ task_there (place ∷ places) zero d = refl
 task_there (place ∷ places) (suc k) d = task_there places k d
 
 -- what holds of the records holds of the places
-places_all : (P : Record → Type 0) (places : List Place) → All P (records_of places) → All (λ (place : Place). P place.task) places
+places_all : (P : Record → Type 0) (places : List Place) → All P (records_of places)
+    → All (λ (place : Place). P place.task) places
 places_all P places all k d low =
     let size = records_length places in subst P (task_there places k d) (all k d.task (omega arith))
 
 places_up : (places : List Place) → Ascend (records_of places) → AllPairs IsBefore places
 places_up places up i j d before low =
     let size = records_length places in
-    let one : (get_or (records_of places) i d.task).index ≡ (get_or places i d).task.index = ap (λ (t : Record). t.index) (task_there places i d) in
-    let other : (get_or (records_of places) j d.task).index ≡ (get_or places j d).task.index = ap (λ (t : Record). t.index) (task_there places j d) in
-    let lower : (get_or (records_of places) i d.task).index < (get_or (records_of places) j d.task).index = up i j d.task before (omega arith) in
+    let one : (get_or (records_of places) i d.task).index ≡ (get_or places i d).task.index =
+    ap (λ (t : Record). t.index) (task_there places i d) in
+    let other : (get_or (records_of places) j d.task).index ≡ (get_or places j d).task.index =
+    ap (λ (t : Record). t.index) (task_there places j d) in
+    let lower : (get_or (records_of places) i d.task).index < (get_or (records_of places) j d.task).index =
+    up i j d.task before (omega arith) in
     let e : (get_or places i d).task.index < (get_or places j d).task.index = omega arith in e
 
 -- the records of a segment
@@ -76,41 +81,48 @@ records_in segment (task ∷ tasks) = ap (λ (ts : List Record). task ∷ ts) (r
 abbrev words_in : View → ℕ → ℕ
 words_in now row = 1 + amount row now.numbers.added
 
-ended : (begin : Begin) (first now : View) (places : List Place) (answers : List Answer) → IsFounded begin first → HasDone begin first now places answers
+ended : (begin : Begin) (first now : View) (places : List Place) (answers : List Answer) → IsFounded begin first
+    → HasDone begin first now places answers
     → IsWhole begin.rows now → AllPairs IsBefore places
     → EndsRun begin first now places (deeds_from places answers) (words_in now) [] now.turn.known.faults
 ended begin first now places answers founded done whole up =
     ends_run begin first now places answers founded done whole up (words_in now)
-    (λ row low. let (next, stand) = whole.rows row low in subst (λ (n : ℕ). RowStands row n now.numbers) stand.grown stand)
+    (λ row low. let (next, stand) =
+    whole.rows row low in subst (λ (n : ℕ). RowStands row n now.numbers) stand.grown stand)
     [] (λ p entry high there. absurd (
     let low = slice_get_within (entries_in now ++ []) p entry there in
     let size = ap length (append-nil (entries_in now)) in omega arith))
     now.turn.known.faults (omega arith) (λ rose. refl)
 
 -- at most two entries a record
-few_made : (begin : Begin) (first now : View) (places : List Place) (answers : List Answer) → IsFounded begin first → HasDone begin first now places answers
+few_made : (begin : Begin) (first now : View) (places : List Place) (answers : List Answer) → IsFounded begin first
+    → HasDone begin first now places answers
     → IsWhole begin.rows now → AllPairs IsBefore places → length (entries_in now) ≤ 2 * length places
 few_made begin first now places answers founded done whole up =
     let e = ended begin first now places answers founded done whole up in
-    let made = few_entries begin first now (records_of places) (deeds_from places answers) e.does e.whole (λ x. ap (stands x) done.none_made)
+    let made = few_entries begin first now (records_of places) (deeds_from places answers) e.does e.whole
+    (λ x. ap (stands x) done.none_made)
     (length (records_of places) + drawers (records_of places)) e.lined.few_entries in
     let drawn = drawers_few (records_of places) in
     let size = records_length places in
     omega arith
 
-none_reported : (before : List Noted) (places : List Place) (answers : List Answer) → All (λ (place : Place). IsPlain place.task) places
+none_reported : (before : List Noted) (places : List Place) (answers : List Answer)
+    → All (λ (place : Place). IsPlain place.task) places
     → AreReported before (deeds_from places answers)
 none_reported before [] answers plain = tt
 none_reported before (place ∷ places) [] plain = tt
 none_reported before (place ∷ places) (answer ∷ answers) plain = (
   λ is. absurd (All-head (λ (p : Place). IsPlain p.task) place places plain is),
-  none_reported (before ++ noted_of (deed_of place.segment place.task answer) ∷ []) places answers (All-tail (λ (p : Place). IsPlain p.task) place places plain),
+  none_reported (before ++ noted_of (deed_of place.segment place.task answer) ∷ []) places answers
+      (All-tail (λ (p : Place). IsPlain p.task) place places plain),
 )
 
 -- ---- segment by segment
 
 -- The unit handled the records of these places, and gave one answer for each. Their numbers ascend, below a bound.
-pub record RanSoFar (begin : Begin) (first now : View) (bound : ℕ) (places : List Place) (answers : List Answer) : Type 0 where
+pub record RanSoFar (begin : Begin) (first now : View) (bound : ℕ) (places : List Place) (answers : List Answer) : Type
+    0 where
   pub done : HasDone begin first now places answers
   pub answered : length answers ≡ length places
   pub whole : IsWhole MOST_KEYS now
@@ -121,7 +133,8 @@ pub record RanSoFar (begin : Begin) (first now : View) (bound : ℕ) (places : L
   pub widths : All IsAnswer answers
 
 -- nothing yet
-pub none_ran : (begin : Begin) (first : View) → IsJustOpened begin first → IsWhole MOST_KEYS first → RanSoFar begin first first 0 [] []
+pub none_ran : (begin : Begin) (first : View) → IsJustOpened begin first → IsWhole MOST_KEYS first
+    → RanSoFar begin first first 0 [] []
 none_ran begin first opened whole = record {
   done = record {
     none_made = opened.none_made;
@@ -145,16 +158,21 @@ none_ran begin first opened whole = record {
 }
 
 -- a segment more
-module _ (begin : Begin) (first now next : View) (bound further segment : ℕ) (places : List Place) (answers : List Answer)
-    (tasks : List Record) (more : List Answer) (founded : IsFounded begin first) (so_far : RanSoFar begin first now bound places answers)
-    (serves : HandlesSegment begin now next tasks more) (from : All (From bound) tasks) (below : All (Below further) tasks) (wider : bound ≤ further)
+module _ (begin : Begin) (first now next : View) (bound further segment : ℕ) (places : List Place)
+    (answers : List Answer)
+    (tasks : List Record) (more : List Answer) (founded : IsFounded begin first)
+    (so_far : RanSoFar begin first now bound places answers)
+    (serves : HandlesSegment begin now next tasks more) (from : All (From bound) tasks)
+    (below : All (Below further) tasks) (wider : bound ≤ further)
     (ascend : Ascend tasks) (plain : All IsPlain tasks) (few : length places + length tasks ≤ 400000) where
   abbrev new : List Place
   new = map (in_segment segment) tasks
 
-  handled_new : (layout : Layout) → LiesIn layout segment (records_of new) → Handled layout begin now next (records_of new) (deeds_of segment (records_of new) more)
+  handled_new : (layout : Layout) → LiesIn layout segment (records_of new)
+      → Handled layout begin now next (records_of new) (deeds_of segment (records_of new) more)
   handled_new =
-      subst (λ (ts : List Record). (layout : Layout) → LiesIn layout segment ts → Handled layout begin now next ts (deeds_of segment ts more))
+      subst (λ (ts : List Record). (layout : Layout) → LiesIn layout segment ts
+      → Handled layout begin now next ts (deeds_of segment ts more))
       (sym (records_in segment tasks)) (λ layout lies. serves.handled layout segment lies)
 
   new_segment : IsSegment segment places new
@@ -176,7 +194,8 @@ module _ (begin : Begin) (first now next : View) (bound further segment : ℕ) (
   tasks_are = records_both places new ∙ ap (λ (ts : List Record). records_of places ++ ts) (records_in segment tasks)
 
   up_more : Ascend (records_of (places ++ new))
-  up_more = subst Ascend (sym tasks_are) (ascend_then bound (records_of places) tasks so_far.below from so_far.up ascend)
+  up_more = subst Ascend (sym tasks_are)
+      (ascend_then bound (records_of places) tasks so_far.below from so_far.up ascend)
 
   many_places : length (places ++ new) ≡ length places + length tasks
   many_places =
@@ -201,10 +220,13 @@ module _ (begin : Begin) (first now next : View) (bound further segment : ℕ) (
         let many = many_places in omega arith);
     whole = serves.whole;
     up = up_more;
-    below = subst (λ (ts : List Record). All (Below further) ts) (sym tasks_are) (All-append (Below further) (records_of places) tasks
+    below = subst (λ (ts : List Record). All (Below further) ts) (sym tasks_are)
+        (All-append (Below further) (records_of places) tasks
         (further_below bound further (records_of places) wider so_far.below) below);
-    plain = subst (λ (ts : List Record). All IsPlain ts) (sym tasks_are) (All-append IsPlain (records_of places) tasks so_far.plain plain);
-    quiet = list_any-append says_fault answers more ∙ (ap (λ (b : Bool). b || list_any says_fault more) so_far.quiet ∙ serves.quiet);
+    plain = subst (λ (ts : List Record). All IsPlain ts) (sym tasks_are)
+        (All-append IsPlain (records_of places) tasks so_far.plain plain);
+    quiet = list_any-append says_fault answers more
+        ∙ (ap (λ (b : Bool). b || list_any says_fault more) so_far.quiet ∙ serves.quiet);
     widths = All-append IsAnswer answers more so_far.widths serves.widths;
   }
 
@@ -219,16 +241,22 @@ founded_so plan begin first opened = record {
   opened = opened.opened;
 }
 
-sound_so : (begin : Begin) (first now : View) (bound : ℕ) (places : List Place) (answers : List Answer) → IsFounded begin first
-    → RanSoFar begin first now bound places answers → IsSound (course_at_end begin now [] now.turn.known.faults) places (deeds_from places answers)
+sound_so : (begin : Begin) (first now : View) (bound : ℕ) (places : List Place) (answers : List Answer)
+    → IsFounded begin first
+    → RanSoFar begin first now bound places answers → IsSound (course_at_end begin now [] now.turn.known.faults) places
+    (deeds_from places answers)
 sound_so begin first now bound places answers founded ran =
-    let e = ended begin first now places answers founded ran.done (subst (λ (rows : ℕ). IsWhole rows now) (sym founded.rows) ran.whole)
+    let e = ended begin first now places answers founded ran.done
+    (subst (λ (rows : ℕ). IsWhole rows now) (sym founded.rows) ran.whole)
     (places_up places ran.up) in
-    sound_run begin first now places (deeds_from places answers) e.opened e.does e.whole e.rows e.plan_is e.rules e.left (words_in now) e.words_are [] e.releases_are
-    e.pieces e.lined e.once e.ascend now.turn.known.faults e.fewer e.stopped (none_reported [] places answers (places_all IsPlain places ran.plain))
+    sound_run begin first now places (deeds_from places answers) e.opened e.does e.whole e.rows e.plan_is e.rules e.left
+    (words_in now) e.words_are [] e.releases_are
+    e.pieces e.lined e.once e.ascend now.turn.known.faults e.fewer e.stopped
+    (none_reported [] places answers (places_all IsPlain places ran.plain))
     (answers_all IsAnswer places answers ran.widths)
 
-pub runs_soundly : (plan : List ℕ) (begin : Begin) (first now : View) (bound : ℕ) (places : List Place) (answers : List Answer)
+pub runs_soundly : (plan : List ℕ) (begin : Begin) (first now : View) (bound : ℕ) (places : List Place)
+    (answers : List Answer)
     → UnitIsOpened plan begin first → RanSoFar begin first now bound places answers → RunsSoundly plan places answers
 runs_soundly plan begin first now bound places answers opened ran = record {
   lines = opened.lines;

@@ -19,14 +19,16 @@ use Rattle.unit_plan.specs.declared.plan_error.PlanCause.{PlanCause}
 use Rattle.unit_plan.specs.PlanError.{◌>>=◌, check}
 use Rattle.unit_state.specs.declared.state.State.{State}
 use Rattle.unit_state.specs.Applied.{applied}
-use Rattle.unit_state.specs.Initial.{activated_if, association_made, bare, created, initial, in_order, key_made, keyed, lines_made, loaded, OfKey, started}
+use Rattle.unit_state.specs.Initial.{activated_if, association_made, bare, created, initial, in_order, key_made, keyed}
+use Rattle.unit_state.specs.Initial.{lines_made, loaded, OfKey, started}
 use Rattle.unit_state.specs.Restart.{restarted}
 use Rattle.unit_state.proofs.Lines.{count_before, made_in_turns}
 use Rattle.unit_drill.specs.Plans.{key_of, receiver_lines, sender_lines}
 use Rattle.law_image.proofs.Planned.{behind, no_fault, ok_of, same_ok}
 
 -- behind a check
-checked : (line : ℕ) (cause : PlanCause) (b : Bool) (x y : State) → (check line cause b >>= λ taken. Ok x) ≡ ok_of y → x ≡ y
+checked : (line : ℕ) (cause : PlanCause) (b : Bool) (x y : State) → (check line cause b >>= λ taken. Ok x) ≡ ok_of y
+    → x ≡ y
 checked line cause true x y h = same_ok x y h
 checked line cause false x y h = absurd (no_fault _ y h)
 
@@ -44,48 +46,60 @@ with_keys state (key ∷ more) = with_keys (made_active (applied state (Load (ke
 
 abbrev with_association : State → PlanSa → State
 with_association state found =
-    applied (applied (applied state (Create found.sa)) (Rekey found.sa.spi found.key found.number)) (SaTo found.sa.spi (Some Operational))
+    applied (applied (applied state (Create found.sa)) (Rekey found.sa.spi found.key found.number))
+    (SaTo found.sa.spi (Some Operational))
 
 abbrev with_lines : State → List PlanKey → List PlanSa → State
 with_lines state keys [] = with_keys state keys
 with_lines state keys (found ∷ associations) =
-    with_lines (with_association (with_keys state (take (count_before found.line keys) keys)) found) (drop (count_before found.line keys) keys) associations
+    with_lines (with_association (with_keys state (take (count_before found.line keys) keys)) found)
+    (drop (count_before found.line keys) keys) associations
 
-active_is : (state next : State) (key : PlanKey) (to : KeyState) → activated_if state key to ≡ Ok next → made_active state key to ≡ next
+active_is : (state next : State) (key : PlanKey) (to : KeyState) → activated_if state key to ≡ Ok next
+    → made_active state key to ≡ next
 active_is state next key keys.Active h = checked _ _ _ _ next h
 active_is state next key keys.PreActive h = same_ok state next h
 active_is state next key keys.Deactivated h = same_ok state next h
 active_is state next key keys.Destroyed h = same_ok state next h
 
-keys_are : (state next : State) (keys : List PlanKey) → lines_made state (map OfKey keys) ≡ Ok next → with_keys state keys ≡ next
+keys_are : (state next : State) (keys : List PlanKey) → lines_made state (map OfKey keys) ≡ Ok next
+    → with_keys state keys ≡ next
 keys_are state next [] h = same_ok state next h
 keys_are state next (key ∷ more) h =
     let one = behind (key_made state key) (λ (next : State). lines_made next (map OfKey more)) next h in
     let two = behind (loaded state key) (λ (next : State). activated_if next key key.state) one.0 one.1 in
     let same : applied state (Load (key.item ∷ [])) ≡ two.0 = checked _ _ _ _ two.0 two.1 in
     let active = active_is two.0 one.0 key key.state two.2 in
-    ap (λ (s : State). with_keys s more) (ap (λ (s : State). made_active s key key.state) same ∙ active) ∙ keys_are one.0 next more one.2
+    ap (λ (s : State). with_keys s more) (ap (λ (s : State). made_active s key key.state) same ∙ active)
+    ∙ keys_are one.0 next more one.2
 
-association_is : (state next : State) (found : PlanSa) → association_made state found ≡ Ok next → with_association state found ≡ next
+association_is : (state next : State) (found : PlanSa) → association_made state found ≡ Ok next
+    → with_association state found ≡ next
 association_is state next found h =
-    let unkeyed = behind (created state found) (λ (s : State). keyed s found >>= λ (t : State). started t found) next h in
+    let unkeyed = behind (created state found) (λ (s : State). keyed s found >>= λ (t : State). started t found) next
+    h in
     let stopped = behind (keyed unkeyed.0 found) (λ (t : State). started t found) next unkeyed.2 in
     let one : applied state (Create found.sa) ≡ unkeyed.0 = checked _ _ _ _ unkeyed.0 unkeyed.1 in
-    let two : applied unkeyed.0 (Rekey found.sa.spi found.key found.number) ≡ stopped.0 = checked _ _ _ _ stopped.0 stopped.1 in
+    let two : applied unkeyed.0 (Rekey found.sa.spi found.key found.number) ≡ stopped.0 =
+    checked _ _ _ _ stopped.0 stopped.1 in
     let three : applied stopped.0 (SaTo found.sa.spi (Some Operational)) ≡ next = checked _ _ _ _ next stopped.2 in
     ap (λ (s : State). applied s (SaTo found.sa.spi (Some Operational)))
     (ap (λ (s : State). applied s (Rekey found.sa.spi found.key found.number)) one ∙ two) ∙ three
 
-lines_are : (state next : State) (keys : List PlanKey) (associations : List PlanSa) → lines_made state (in_order keys associations) ≡ Ok next
+lines_are : (state next : State) (keys : List PlanKey) (associations : List PlanSa)
+    → lines_made state (in_order keys associations) ≡ Ok next
     → with_lines state keys associations ≡ next
 lines_are state next keys [] h = keys_are state next keys h
 lines_are state next keys (found ∷ associations) h =
     let count = count_before found.line keys in
     let ready = behind (lines_made state (map OfKey (take count keys)))
-    (λ (s : State). association_made s found >>= λ (t : State). lines_made t (in_order (drop count keys) associations)) next (sym (made_in_turns state keys found associations) ∙ h) in
-    let one = behind (association_made ready.0 found) (λ (t : State). lines_made t (in_order (drop count keys) associations)) next ready.2 in
+    (λ (s : State). association_made s found >>= λ (t : State). lines_made t (in_order (drop count keys) associations))
+    next (sym (made_in_turns state keys found associations) ∙ h) in
+    let one = behind (association_made ready.0 found)
+    (λ (t : State). lines_made t (in_order (drop count keys) associations)) next ready.2 in
     ap (λ (s : State). with_lines s (drop count keys) associations)
-    (ap (λ (s : State). with_association s found) (keys_are state ready.0 (take count keys) ready.1) ∙ association_is ready.0 one.0 found one.1)
+    (ap (λ (s : State). with_association s found) (keys_are state ready.0 (take count keys) ready.1)
+    ∙ association_is ready.0 one.0 found one.1)
     ∙ lines_are one.0 next (drop count keys) associations one.2
 
 -- ---- the states of a drill's units
@@ -133,7 +147,9 @@ first_state digit direction = record {
 }
 
 pub sender_starts : (first : State) → initial sender_lines ≡ Ok first → restarted first ≡ first_state 1 Send
-sender_starts first h = ap restarted (sym (lines_are (bare sender_lines) first sender_lines.keys sender_lines.associations h))
+sender_starts first h = ap restarted
+    (sym (lines_are (bare sender_lines) first sender_lines.keys sender_lines.associations h))
 
 pub receiver_starts : (first : State) → initial receiver_lines ≡ Ok first → restarted first ≡ first_state 2 Receive
-receiver_starts first h = ap restarted (sym (lines_are (bare receiver_lines) first receiver_lines.keys receiver_lines.associations h))
+receiver_starts first h = ap restarted
+    (sym (lines_are (bare receiver_lines) first receiver_lines.keys receiver_lines.associations h))

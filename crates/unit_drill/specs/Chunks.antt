@@ -88,7 +88,8 @@ GoOn R old new = (one other : Begin)
     → BeganWith true other (view old.receiver.worker).turn.known.opening
     → BeganWith true one (view new.sender.worker).turn.known.opening
     × BeganWith true other (view new.receiver.worker).turn.known.opening
-    × R one other (view old.sender.worker) (view new.sender.worker) (view old.receiver.worker) (view new.receiver.worker)
+    × R one other (view old.sender.worker) (view new.sender.worker) (view old.receiver.worker)
+    (view new.receiver.worker)
 
 -- the counts of one chunk
 pub record AreFew (counts : Counts) : Type 0 where

@@ -13,15 +13,18 @@ loop-chunk-preserved g c = record {
       let step = c.in_ok-more.ensures.chunk one other so_far.0 so_far.1 in
       let next : suc c.loop-chunk.chunk ≡ c.loop-chunk.chunk + 1 = omega arith in
       let chunk = subst (λ (end : ℕ). IsChunk one other c.loop-chunk.chunk end (view c.loop-chunk.pair.sender.worker)
-      (view c.serve_chunk.new.self.sender.worker) (view c.loop-chunk.pair.receiver.worker) (view c.serve_chunk.new.self.receiver.worker)
+      (view c.serve_chunk.new.self.sender.worker) (view c.loop-chunk.pair.receiver.worker)
+      (view c.serve_chunk.new.self.receiver.worker)
       c.in_ok-more.more) c.end_of-end.ensures step.2 in
       let answers : List Answer = so_far.2.0 ++ (chunk.sent ++ (chunk.opened ++ chunk.again)) in (
         step.0,
         step.1,
         (
           answers,
-          subst (λ (n : ℕ). AreChunks one other c.args.number (view c.in_ok-pair.pair.sender.worker) (view c.in_ok-pair.pair.receiver.worker) n
-              (view c.serve_chunk.new.self.sender.worker) (view c.serve_chunk.new.self.receiver.worker) answers c.plus-counts.result) next (
+          subst (λ (n : ℕ). AreChunks one other c.args.number (view c.in_ok-pair.pair.sender.worker)
+              (view c.in_ok-pair.pair.receiver.worker) n
+              (view c.serve_chunk.new.self.sender.worker) (view c.serve_chunk.new.self.receiver.worker) answers
+              c.plus-counts.result) next (
                 view c.loop-chunk.pair.sender.worker,
                 view c.loop-chunk.pair.receiver.worker,
                 so_far.2.0,
@@ -59,8 +62,10 @@ returns g c =
         w = view c.loop-chunk.pair.receiver.worker;
         sends = opened.sends;
         receives = opened.receives;
-        chunks = subst (λ (n : ℕ). AreChunks opened.one opened.other c.args.number (view c.in_ok-pair.pair.sender.worker)
-            (view c.in_ok-pair.pair.receiver.worker) n (view c.loop-chunk.pair.sender.worker) (view c.loop-chunk.pair.receiver.worker)
+        chunks = subst (λ (n : ℕ). AreChunks opened.one opened.other c.args.number
+            (view c.in_ok-pair.pair.sender.worker)
+            (view c.in_ok-pair.pair.receiver.worker) n (view c.loop-chunk.pair.sender.worker)
+            (view c.loop-chunk.pair.receiver.worker)
             chunks.2.0 c.loop-chunk.counts) last chunks.2.1;
       },
     )

@@ -12,4 +12,5 @@ returns g c =
     let handled = c.in_ok-counts.ensures in
     let drilled : IsDrilled number counts = c.drill_is_sound.ensures number handled.0 counts c.requires handled.1 in
     IfOk-weaker c.drill_line.result (λ line. line.items ≡ drill_text number counts)
-    (λ line. (counts : Counts) × IsDrilled number counts × (line.items ≡ drill_text number counts)) (λ line is. (counts, drilled, is)) c.drill_line.ensures
+    (λ line. (counts : Counts) × IsDrilled number counts × (line.items ≡ drill_text number counts))
+    (λ line is. (counts, drilled, is)) c.drill_line.ensures

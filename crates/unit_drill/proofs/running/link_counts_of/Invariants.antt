@@ -7,7 +7,8 @@ use Rattle.unit_drill.proofs.running.link_counts_of.Given as goal
 abbrev pub invariant-loop-chunk : goal.invariant-loop-chunk
 invariant-loop-chunk g l = record {
   ready : MayServeBoth l.pair;
-  chunks : GoOn (λ one other s t v w. (answers : List Answer) × AreLinkChunks one other l.number s v l.chunk t w answers l.counts) l.initial.pair l.pair;
+  chunks : GoOn (λ one other s t v w. (answers : List Answer) × AreLinkChunks one other l.number s v l.chunk t w answers
+      l.counts) l.initial.pair l.pair;
   protected : l.counts.protected ≤ 1024 * l.chunk;
   lost : l.counts.lost ≤ 1024 * l.chunk;
   accepted : l.counts.accepted ≤ 1024 * l.chunk;

@@ -10,6 +10,8 @@ returns-clause-opened g c =
     record {
       one = sends.0;
       other = receives.0;
-      sends = subst (λ (plan : List ℕ). UnitIsOpened plan sends.0 (view c.in_ok-open.field-0.worker)) c.sender_plan.ensures.lines sends.1;
-      receives = subst (λ (plan : List ℕ). UnitIsOpened plan receives.0 (view c.in_ok-open-2.field-0.worker)) c.receiver_plan.ensures.lines receives.1;
+      sends = subst (λ (plan : List ℕ). UnitIsOpened plan sends.0 (view c.in_ok-open.field-0.worker))
+          c.sender_plan.ensures.lines sends.1;
+      receives = subst (λ (plan : List ℕ). UnitIsOpened plan receives.0 (view c.in_ok-open-2.field-0.worker))
+          c.receiver_plan.ensures.lines receives.1;
     }

@@ -12,21 +12,30 @@ use Rattle.unit_drill.proofs.ArrivedRecords.{arrived_ascends, arrived_lanes, arr
 use Rattle.unit_drill.proofs.chunk.Pair.serve_link_chunk.Goals as goal
 
 pub serve-requires-clause-lanes : goal.serve-requires-clause-lanes
-serve-requires-clause-lanes g c κs within =
-    (0, subst (λ (l : List Record). All (OnLane 0) l) (sym (c.deref.ensures.value ∙ c.in_ok-tasks.ensures.items)) (protect_lanes _ _))
+serve-requires-clause-lanes g c κs within = (
+  0,
+  subst (λ (l : List Record). All (OnLane 0) l) (sym (c.deref.ensures.value ∙ c.in_ok-tasks.ensures.items))
+      (protect_lanes _ _),
+)
 
 pub serve-requires-clause-plain : goal.serve-requires-clause-plain
-serve-requires-clause-plain g c κs within = subst (All IsPlain) (sym (c.deref.ensures.value ∙ c.in_ok-tasks.ensures.items)) (protect_plain _ _)
+serve-requires-clause-plain g c κs within =
+    subst (All IsPlain) (sym (c.deref.ensures.value ∙ c.in_ok-tasks.ensures.items)) (protect_plain _ _)
 
 pub serve-requires-clause-ascend : goal.serve-requires-clause-ascend
-serve-requires-clause-ascend g c κs within = subst Ascend (sym (c.deref.ensures.value ∙ c.in_ok-tasks.ensures.items)) (protect_ascends _ _)
+serve-requires-clause-ascend g c κs within =
+    subst Ascend (sym (c.deref.ensures.value ∙ c.in_ok-tasks.ensures.items)) (protect_ascends _ _)
 
 pub serve-requires-2-clause-lanes : goal.serve-requires-2-clause-lanes
-serve-requires-2-clause-lanes g c κs within =
-    (0, subst (λ (l : List Record). All (OnLane 0) l) (sym (c.deref-5.ensures.value ∙ c.in_ok-received.ensures.items)) (arrived_lanes _ _ _ _))
+serve-requires-2-clause-lanes g c κs within = (
+  0,
+  subst (λ (l : List Record). All (OnLane 0) l) (sym (c.deref-5.ensures.value ∙ c.in_ok-received.ensures.items))
+      (arrived_lanes _ _ _ _),
+)
 
 pub serve-requires-2-clause-plain : goal.serve-requires-2-clause-plain
-serve-requires-2-clause-plain g c κs within = subst (All IsPlain) (sym (c.deref-5.ensures.value ∙ c.in_ok-received.ensures.items)) (arrived_plain _ _ _ _)
+serve-requires-2-clause-plain g c κs within =
+    subst (All IsPlain) (sym (c.deref-5.ensures.value ∙ c.in_ok-received.ensures.items)) (arrived_plain _ _ _ _)
 
 pub serve-requires-2-clause-ascend : goal.serve-requires-2-clause-ascend
 serve-requires-2-clause-ascend g c κs within =
@@ -41,7 +50,8 @@ returns-clause-chunk g c = λ one other began_one began_other.
     let is_arrived : c.in_ok-arrived.arrived.items ≡ arrived_frames first sent =
     c.in_ok-arrived.ensures.frames ∙ ap (arrived_frames first) c.deref-2.ensures.value in
     let is_received : c.in_ok-received.received.items ≡ arrived_tasks place first sent (arrived_frames first sent) =
-    c.in_ok-received.ensures.items ∙ (ap (λ (l : List Answer). arrived_tasks place first l c.deref-4.result.now) c.deref-3.ensures.value
+    c.in_ok-received.ensures.items ∙
+    (ap (λ (l : List Answer). arrived_tasks place first l c.deref-4.result.now) c.deref-3.ensures.value
     ∙ ap (arrived_tasks place first sent) (c.deref-4.ensures.value ∙ is_arrived)) in
     let protects = c.in_ok-sent.ensures.serves one began_one in
     let opens = c.in_ok-opened.ensures.serves other began_other in (
@@ -50,9 +60,11 @@ returns-clause-chunk g c = λ one other began_one began_other.
       record {
         sent = sent;
         opened = opened;
-        protects = subst (λ (l : List Record). HandlesSegment one (view c.args.self.now.sender.worker) (view c.serve.new.self.worker) l sent)
+        protects = subst (λ (l : List Record). HandlesSegment one (view c.args.self.now.sender.worker)
+            (view c.serve.new.self.worker) l sent)
             (c.deref.ensures.value ∙ c.in_ok-tasks.ensures.items) protects.0;
-        opens = subst (λ (l : List Record). HandlesSegment other (view c.args.self.now.receiver.worker) (view c.serve-2.new.self.worker) l opened)
+        opens = subst (λ (l : List Record). HandlesSegment other (view c.args.self.now.receiver.worker)
+            (view c.serve-2.new.self.worker) l opened)
             (c.deref-5.ensures.value ∙ is_received) opens.0;
         protected = c.count_code.ensures.count ∙ ap (count_code 0) c.deref-6.ensures.value;
         lost = c.count_lost.ensures.count ∙ ap count_lost c.deref-7.ensures.value;

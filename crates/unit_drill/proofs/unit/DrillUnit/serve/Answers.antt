@@ -11,8 +11,10 @@ returns-clause-serves g c =
     let same = c.deref.ensures.value in
     let test = c.if-has_fault.ensures in
     let quiet : list_any says_fault c.in_ok-segment.segment.answers.items ≡ false = cc in
-    served (view c.args.self.now.worker) (view c.run_segment.new.worker) c.args.records.now c.in_ok-segment.segment.answers.items
-    c.in_ok-segment.segment.full c.requires.lanes.0 c.requires.lanes.1 c.in_ok-segment.ensures.handled c.in_ok-segment.ensures.full quiet
+    served (view c.args.self.now.worker) (view c.run_segment.new.worker) c.args.records.now
+    c.in_ok-segment.segment.answers.items
+    c.in_ok-segment.segment.full c.requires.lanes.0 c.requires.lanes.1 c.in_ok-segment.ensures.handled
+    c.in_ok-segment.ensures.full quiet
     (subst (All IsAnswer) c.deref-2.ensures.value c.answers_have_widths.ensures)
     (c.in_ok-segment.ensures.whole c.requires.may.shares)
 
