@@ -1,5 +1,7 @@
 -- What an audit knows behind one more answer, and what it tells of it, for `feed`.
-use Rattle.std.proofs.Common.{◌≡◌, ◌≢◌, ◌⊎◌, ℕ, ◌+◌, ◌<◌, ◌≤◌, ◌==◌, ◌&&◌, ◌||◌, not, Bool, true, false, cond, if◌then◌else◌, List, [], ◌∷◌, ◌++◌, length, take, Option, Some, None, inl, inr, refl, sym, ap, ◌∙◌, subst, arith, length-append}
+use Rattle.std.proofs.Common.{◌≡◌, ◌≢◌, ◌⊎◌, ℕ, ◌+◌, ◌<◌, ◌≤◌, ◌==◌, ◌&&◌, ◌||◌, not, Bool, true, false, cond}
+use Rattle.std.proofs.Common.{if◌then◌else◌, List, [], ◌∷◌, ◌++◌, length, take, Option, Some, None, inl, inr, refl, sym}
+use Rattle.std.proofs.Common.{ap, ◌∙◌, subst, arith, length-append}
 use Rattle.std.specs.Prelude.{MatchOption, unwrap_or}
 use Rattle.std.specs.List.{All, count_by, slice_index_or}
 use Rattle.std.specs.BTreeMap.{BTreeMap}
@@ -15,12 +17,14 @@ use Rattle.pair_audit.specs.declared.audit.Repeat.{Repeat}
 use Rattle.pair_audit.specs.Marks.{IsUse, IsAcceptance, SaysAcceptance, SaysUse}
 use Rattle.pair_audit.specs.Places.{place_in}
 use Rattle.pair_audit.specs.Repeats.{AreUnlike}
-use Rattle.pair_audit.specs.Audit.{Says, is_use, is_acceptance, StandsFirst, KnowsFirst, KnowsAudit, TellsOf, EntersPlace, repeat_at, FeedsUse, FeedsAcceptance, IsAsBefore}
+use Rattle.pair_audit.specs.Audit.{Says, is_use, is_acceptance, StandsFirst, KnowsFirst, KnowsAudit, TellsOf}
+use Rattle.pair_audit.specs.Audit.{EntersPlace, repeat_at, FeedsUse, FeedsAcceptance, IsAsBefore}
 use Rattle.pair_audit.proofs.Seen.{get_left, get_seam, take_seam, match_more, place_none, place_same}
 
 -- ---- where a number stands first
 
-first_more : (Does : Answer → ℕ → ℕ → Type 0) (fed : List Answer) (answer : Answer) (k n p : ℕ) → StandsFirst Does fed k n p
+first_more : (Does : Answer → ℕ → ℕ → Type 0) (fed : List Answer) (answer : Answer) (k n p : ℕ)
+    → StandsFirst Does fed k n p
     → StandsFirst Does (fed ++ answer ∷ []) k n p
 first_more Does fed answer k n p s =
     let low : p < length fed = slice_get_within fed p s.answer s.at_place in
@@ -28,20 +32,25 @@ first_more Does fed answer k n p s =
       answer = s.answer;
       at_place = get_left fed (answer ∷ []) p low ∙ s.at_place;
       does = s.does;
-      none_before = subst (λ (l : List Answer). All (λ (a : Answer). ¬ Does a k n) l) (sym (take-append-le p fed (answer ∷ []) (omega arith))) s.none_before;
+      none_before = subst (λ (l : List Answer). All (λ (a : Answer). ¬ Does a k n) l)
+          (sym (take-append-le p fed (answer ∷ []) (omega arith))) s.none_before;
     }
 
 -- of no answers
-none_known : (Does : Answer → ℕ → ℕ → Type 0) (places : BTreeMap (ℕ × ℕ) ℕ) → places.entries ≡ [] → KnowsFirst Does [] places
+none_known : (Does : Answer → ℕ → ℕ → Type 0) (places : BTreeMap (ℕ × ℕ) ℕ) → places.entries ≡ []
+    → KnowsFirst Does [] places
 none_known Does places empty = λ k n.
-    subst (λ (o : Option ℕ). MatchOption o (All (λ (a : Answer). ¬ Does a k n) []) (StandsFirst Does [] k n)) (sym (place_none places empty k n))
+    subst (λ (o : Option ℕ). MatchOption o (All (λ (a : Answer). ¬ Does a k n) []) (StandsFirst Does [] k n))
+    (sym (place_none places empty k n))
     (All-nil (λ (a : Answer). ¬ Does a k n))
 
 -- of maps with the same entries
-known_still : (Does : Answer → ℕ → ℕ → Type 0) (fed : List Answer) (old new : BTreeMap (ℕ × ℕ) ℕ) → new.entries ≡ old.entries → KnowsFirst Does fed old
+known_still : (Does : Answer → ℕ → ℕ → Type 0) (fed : List Answer) (old new : BTreeMap (ℕ × ℕ) ℕ)
+    → new.entries ≡ old.entries → KnowsFirst Does fed old
     → KnowsFirst Does fed new
 known_still Does fed old new same knows = λ k n.
-    subst (λ (o : Option ℕ). MatchOption o (All (λ (a : Answer). ¬ Does a k n) fed) (StandsFirst Does fed k n)) (sym (place_same old new same k n)) (knows k n)
+    subst (λ (o : Option ℕ). MatchOption o (All (λ (a : Answer). ¬ Does a k n) fed) (StandsFirst Does fed k n))
+    (sym (place_same old new same k n)) (knows k n)
 
 pub knows_still : (fed : List Answer) (old new : Audit) → IsAsBefore old new → KnowsAudit fed old → KnowsAudit fed new
 knows_still fed old new same knows = record {
@@ -52,7 +61,8 @@ knows_still fed old new same knows = record {
   count = same.count ∙ knows.count;
 }
 
-pub knows_nothing : (audit : Audit) → audit.uses.entries ≡ [] → audit.acceptances.entries ≡ [] → audit.use_count ≡ 0 → audit.acceptance_count ≡ 0
+pub knows_nothing : (audit : Audit) → audit.uses.entries ≡ [] → audit.acceptances.entries ≡ [] → audit.use_count ≡ 0
+    → audit.acceptance_count ≡ 0
     → audit.fed ≡ 0 → KnowsAudit [] audit
 knows_nothing audit uses acceptances use_count acceptance_count fed = record {
   uses = none_known Uses audit.uses uses;
@@ -67,44 +77,53 @@ knows_kept : (Does : Answer → ℕ → ℕ → Type 0) (fed : List Answer) (ans
     → ((k n : ℕ) → ¬ Does answer k n) → KnowsFirst Does fed places → KnowsFirst Does (fed ++ answer ∷ []) places
 knows_kept Does fed answer places none knows = λ k n.
     match_more (place_in places k n)
-    (λ (all : All (λ (a : Answer). ¬ Does a k n) fed). All-push (λ (a : Answer). ¬ Does a k n) fed answer all (none k n))
+    (λ (all : All (λ (a : Answer). ¬ Does a k n) fed). All-push (λ (a : Answer). ¬ Does a k n) fed answer all
+    (none k n))
     (λ (p : ℕ) (s : StandsFirst Does fed k n p). first_more Does fed answer k n p s) (knows k n)
 
 -- one that does so with this number
-module _ (Does : Answer → ℕ → ℕ → Type 0) (fed : List Answer) (answer : Answer) (key number : ℕ) (does : Does answer key number)
+module _ (Does : Answer → ℕ → ℕ → Type 0) (fed : List Answer) (answer : Answer) (key number : ℕ)
+    (does : Does answer key number)
     (one : (k n : ℕ) → Does answer k n → (key ≡ k) × (number ≡ n)) where
-  place_or : (o : Option ℕ) → MatchOption o (All (λ (a : Answer). ¬ Does a key number) fed) (StandsFirst Does fed key number)
+  place_or : (o : Option ℕ) → MatchOption o (All (λ (a : Answer). ¬ Does a key number) fed)
+      (StandsFirst Does fed key number)
       → StandsFirst Does (fed ++ answer ∷ []) key number (unwrap_or o (length fed))
   place_or None none = record {
     answer = answer;
     at_place = get_seam fed answer [];
     does = does;
-    none_before = subst (λ (l : List Answer). All (λ (a : Answer). ¬ Does a key number) l) (sym (take_seam fed (answer ∷ []))) none;
+    none_before = subst (λ (l : List Answer). All (λ (a : Answer). ¬ Does a key number) l)
+        (sym (take_seam fed (answer ∷ []))) none;
   }
   place_or (Some p) s = first_more Does fed answer key number p s
 
   abbrev Known : ℕ → ℕ → Option ℕ → Type 0
-  Known k n o = MatchOption o (All (λ (a : Answer). ¬ Does a k n) (fed ++ answer ∷ [])) (StandsFirst Does (fed ++ answer ∷ []) k n)
+  Known k n o = MatchOption o (All (λ (a : Answer). ¬ Does a k n) (fed ++ answer ∷ []))
+      (StandsFirst Does (fed ++ answer ∷ []) k n)
 
   other_known : (k n : ℕ) (o : Option ℕ) → ¬ ((key ≡ k) × (number ≡ n))
       → MatchOption o (All (λ (a : Answer). ¬ Does a k n) fed) (StandsFirst Does fed k n) → Known k n o
   other_known k n o apart is =
       match_more o
-      (λ (all : All (λ (a : Answer). ¬ Does a k n) fed). All-push (λ (a : Answer). ¬ Does a k n) fed answer all (λ d. apart (one k n d)))
+      (λ (all : All (λ (a : Answer). ¬ Does a k n) fed). All-push (λ (a : Answer). ¬ Does a k n) fed answer all
+      (λ d. apart (one k n d)))
       (λ (p : ℕ) (s : StandsFirst Does fed k n p). first_more Does fed answer k n p s) is
 
   same_known : (k n : ℕ) (o : Option ℕ) → key ≡ k → number ≡ n
-      → MatchOption o (All (λ (a : Answer). ¬ Does a key number) fed) (StandsFirst Does fed key number) → Known k n (Some (unwrap_or o (length fed)))
+      → MatchOption o (All (λ (a : Answer). ¬ Does a key number) fed) (StandsFirst Does fed key number)
+      → Known k n (Some (unwrap_or o (length fed)))
   same_known k n o same_key same_number is =
       subst (λ (m : ℕ). Known k m (Some (unwrap_or o (length fed)))) same_number
       (subst (λ (m : ℕ). Known m number (Some (unwrap_or o (length fed)))) same_key (place_or o is))
 
-  known_by : (k n : ℕ) (o before : Option ℕ) (same_key same_number : Bool) → (k == key) ≡ same_key → (n == number) ≡ same_number
+  known_by : (k n : ℕ) (o before : Option ℕ) (same_key same_number : Bool) → (k == key) ≡ same_key
+      → (n == number) ≡ same_number
       → MatchOption before (All (λ (a : Answer). ¬ Does a key number) fed) (StandsFirst Does fed key number)
       → MatchOption o (All (λ (a : Answer). ¬ Does a k n) fed) (StandsFirst Does fed k n)
       → Known k n (if same_key && same_number then Some (unwrap_or before (length fed)) else o)
   known_by k n o before true true e f here is =
-      same_known k n before (let g : key ≡ k = grind (arith, nat_tests) in g) (let g : number ≡ n = grind (arith, nat_tests) in g) here
+      same_known k n before (let g : key ≡ k = grind (arith, nat_tests) in g)
+      (let g : number ≡ n = grind (arith, nat_tests) in g) here
   known_by k n o before true false e f here is =
       other_known k n o (λ same. let g : number ≡ n = same.1 in let h : ⊥ = grind (arith, nat_tests) in h) is
   known_by k n o before false same_number e f here is =
@@ -114,7 +133,8 @@ module _ (Does : Answer → ℕ → ℕ → Type 0) (fed : List Answer) (answer 
       → KnowsFirst Does (fed ++ answer ∷ []) new
   knows_entered old new knows entered = λ k n.
       subst (Known k n) (sym (entered k n))
-      (known_by k n (place_in old k n) (place_in old key number) (k == key) (n == number) refl refl (knows key number) (knows k n))
+      (known_by k n (place_in old k n) (place_in old key number) (k == key) (n == number) refl refl (knows key number)
+      (knows k n))
 
 -- ---- what is told
 
@@ -142,29 +162,36 @@ neither_unlike b no_use no_acceptance a (inl (k, n, one, other)) = no_use other.
 neither_unlike b no_use no_acceptance a (inr (k, n, one, other)) = no_acceptance other.0
 
 use_told : (fed : List Answer) (answer : Answer) (count : ℕ) (o : Option ℕ) → IsUse answer → count ≡ length fed
-    → MatchOption o (All (λ (a : Answer). ¬ Uses a answer.key answer.number) fed) (StandsFirst Uses fed answer.key answer.number)
+    → MatchOption o (All (λ (a : Answer). ¬ Uses a answer.key answer.number) fed)
+    (StandsFirst Uses fed answer.key answer.number)
     → TellsOf fed answer (repeat_at true answer.key answer.number count o)
 use_told fed answer count None is size none =
-    All-weaker (λ (a : Answer). ¬ Uses a answer.key answer.number) (λ (a : Answer). AreUnlike a answer) (use_unlike answer is) fed none
+    All-weaker (λ (a : Answer). ¬ Uses a answer.key answer.number) (λ (a : Answer). AreUnlike a answer)
+    (use_unlike answer is) fed none
 use_told fed answer count (Some p) is size s = record {
   second = size;
   one = s.answer;
   at_first = s.at_place;
   both = inl (refl, s.does, (is, refl, refl));
-  none_before = All-weaker (λ (a : Answer). ¬ Uses a answer.key answer.number) (λ (a : Answer). AreUnlike a answer) (use_unlike answer is) (take p fed) s.none_before;
+  none_before = All-weaker (λ (a : Answer). ¬ Uses a answer.key answer.number) (λ (a : Answer). AreUnlike a answer)
+      (use_unlike answer is) (take p fed) s.none_before;
 }
 
-acceptance_told : (fed : List Answer) (answer : Answer) (count : ℕ) (o : Option ℕ) → IsAcceptance answer → count ≡ length fed
-    → MatchOption o (All (λ (a : Answer). ¬ Accepts a answer.key answer.number) fed) (StandsFirst Accepts fed answer.key answer.number)
+acceptance_told : (fed : List Answer) (answer : Answer) (count : ℕ) (o : Option ℕ) → IsAcceptance answer
+    → count ≡ length fed
+    → MatchOption o (All (λ (a : Answer). ¬ Accepts a answer.key answer.number) fed)
+    (StandsFirst Accepts fed answer.key answer.number)
     → TellsOf fed answer (repeat_at false answer.key answer.number count o)
 acceptance_told fed answer count None is size none =
-    All-weaker (λ (a : Answer). ¬ Accepts a answer.key answer.number) (λ (a : Answer). AreUnlike a answer) (acceptance_unlike answer is) fed none
+    All-weaker (λ (a : Answer). ¬ Accepts a answer.key answer.number) (λ (a : Answer). AreUnlike a answer)
+    (acceptance_unlike answer is) fed none
 acceptance_told fed answer count (Some p) is size s = record {
   second = size;
   one = s.answer;
   at_first = s.at_place;
   both = inr (refl, s.does, (is, refl, refl));
-  none_before = All-weaker (λ (a : Answer). ¬ Accepts a answer.key answer.number) (λ (a : Answer). AreUnlike a answer) (acceptance_unlike answer is) (take p fed) s.none_before;
+  none_before = All-weaker (λ (a : Answer). ¬ Accepts a answer.key answer.number) (λ (a : Answer). AreUnlike a answer)
+      (acceptance_unlike answer is) (take p fed) s.none_before;
 }
 
 -- ---- how many
@@ -174,11 +201,14 @@ count_more : (p : Answer → Bool) (fed : List Answer) (answer : Answer) (b : Bo
 count_more p fed answer b is =
     sum_by_push (λ (x : Answer). cond (p x) 1 0) fed answer ∙ ap (λ (c : Bool). count_by p fed + cond c 1 0) is
 
-pub one_more : (p : Answer → Bool) (fed : List Answer) (answer : Answer) (old new : ℕ) → p answer ≡ true → old ≡ count_by p fed → new ≡ old + 1
+pub one_more : (p : Answer → Bool) (fed : List Answer) (answer : Answer) (old new : ℕ) → p answer ≡ true
+    → old ≡ count_by p fed → new ≡ old + 1
     → new ≡ count_by p (fed ++ answer ∷ [])
-one_more p fed answer old new is counted more = more ∙ ap (λ (n : ℕ). n + 1) counted ∙ sym (count_more p fed answer true is)
+one_more p fed answer old new is counted more =
+    more ∙ ap (λ (n : ℕ). n + 1) counted ∙ sym (count_more p fed answer true is)
 
-pub no_more : (p : Answer → Bool) (fed : List Answer) (answer : Answer) (old new : ℕ) → p answer ≡ false → old ≡ count_by p fed → new ≡ old
+pub no_more : (p : Answer → Bool) (fed : List Answer) (answer : Answer) (old new : ℕ) → p answer ≡ false
+    → old ≡ count_by p fed → new ≡ old
     → new ≡ count_by p (fed ++ answer ∷ [])
 no_more p fed answer old new is counted same =
     let more = count_more p fed answer false is in omega arith
@@ -221,7 +251,8 @@ use_is_no_acceptance answer (inr (code, some)) is = omega arith
 
 -- ---- one more answer
 
-more_fed : (fed : List Answer) (answer : Answer) (old new : ℕ) → old ≡ length fed → new ≡ old + 1 → new ≡ length (fed ++ answer ∷ [])
+more_fed : (fed : List Answer) (answer : Answer) (old new : ℕ) → old ≡ length fed → new ≡ old + 1
+    → new ≡ length (fed ++ answer ∷ [])
 more_fed fed answer old new counted more = let size = length-append fed (answer ∷ []) in omega arith
 
 uses_one : (answer : Answer) (k n : ℕ) → Uses answer k n → (answer.key ≡ k) × (answer.number ≡ n)
@@ -230,61 +261,77 @@ uses_one answer k n uses = (uses.1, uses.2)
 accepts_one : (answer : Answer) (k n : ℕ) → Accepts answer k n → (answer.key ≡ k) × (answer.number ≡ n)
 accepts_one answer k n accepts = (accepts.1, accepts.2)
 
-pub knows_use : (fed : List Answer) (answer : Answer) (old new : Audit) (told : Option Repeat) → IsUse answer → KnowsAudit fed old
+pub knows_use : (fed : List Answer) (answer : Answer) (old new : Audit) (told : Option Repeat) → IsUse answer
+    → KnowsAudit fed old
     → FeedsUse old new answer.key answer.number told → KnowsAudit (fed ++ answer ∷ []) new
 knows_use fed answer old new told is knows feeds = record {
-  uses = knows_entered Uses fed answer answer.key answer.number (is, refl, refl) (uses_one answer) old.uses new.uses knows.uses
+  uses = knows_entered Uses fed answer answer.key answer.number (is, refl, refl) (uses_one answer) old.uses new.uses
+      knows.uses
       (subst (EntersPlace old.uses new.uses answer.key answer.number) knows.count feeds.entered);
   acceptances = subst (KnowsFirst Accepts (fed ++ answer ∷ [])) (sym feeds.acceptances)
       (knows_kept Accepts fed answer old.acceptances (use_apart answer answer is) knows.acceptances);
-  use_count = one_more is_use fed answer old.use_count new.use_count (use_passes answer is) knows.use_count feeds.use_count;
+  use_count = one_more is_use fed answer old.use_count new.use_count (use_passes answer is) knows.use_count
+      feeds.use_count;
   acceptance_count = no_more is_acceptance fed answer old.acceptance_count new.acceptance_count
       (no_acceptance_passes answer (use_is_no_acceptance answer is)) knows.acceptance_count feeds.acceptance_count;
   count = more_fed fed answer old.fed new.fed knows.count feeds.count;
 }
 
-pub tells_use : (fed : List Answer) (answer : Answer) (old new : Audit) (told : Option Repeat) → IsUse answer → KnowsAudit fed old
+pub tells_use : (fed : List Answer) (answer : Answer) (old new : Audit) (told : Option Repeat) → IsUse answer
+    → KnowsAudit fed old
     → FeedsUse old new answer.key answer.number told → TellsOf fed answer told
 tells_use fed answer old new told is knows feeds =
     subst (TellsOf fed answer) (sym feeds.told_is)
-    (use_told fed answer old.fed (place_in old.uses answer.key answer.number) is knows.count (knows.uses answer.key answer.number))
+    (use_told fed answer old.fed (place_in old.uses answer.key answer.number) is knows.count
+    (knows.uses answer.key answer.number))
 
-pub knows_acceptance : (fed : List Answer) (answer : Answer) (old new : Audit) (told : Option Repeat) → IsAcceptance answer → KnowsAudit fed old
+pub knows_acceptance : (fed : List Answer) (answer : Answer) (old new : Audit) (told : Option Repeat)
+    → IsAcceptance answer → KnowsAudit fed old
     → FeedsAcceptance old new answer.key answer.number told → KnowsAudit (fed ++ answer ∷ []) new
 knows_acceptance fed answer old new told is knows feeds = record {
   uses = subst (KnowsFirst Uses (fed ++ answer ∷ [])) (sym feeds.uses)
       (knows_kept Uses fed answer old.uses (acceptance_apart answer is) knows.uses);
-  acceptances = knows_entered Accepts fed answer answer.key answer.number (is, refl, refl) (accepts_one answer) old.acceptances new.acceptances knows.acceptances
+  acceptances = knows_entered Accepts fed answer answer.key answer.number (is, refl, refl)
+      (accepts_one answer) old.acceptances new.acceptances knows.acceptances
       (subst (EntersPlace old.acceptances new.acceptances answer.key answer.number) knows.count feeds.entered);
   use_count = no_more is_use fed answer old.use_count new.use_count
       (none_passes answer (λ other. use_is_no_acceptance answer other is)) knows.use_count feeds.use_count;
-  acceptance_count = one_more is_acceptance fed answer old.acceptance_count new.acceptance_count (acceptance_passes answer is) knows.acceptance_count feeds.acceptance_count;
+  acceptance_count = one_more is_acceptance fed answer old.acceptance_count new.acceptance_count
+      (acceptance_passes answer is) knows.acceptance_count feeds.acceptance_count;
   count = more_fed fed answer old.fed new.fed knows.count feeds.count;
 }
 
-pub tells_acceptance : (fed : List Answer) (answer : Answer) (old new : Audit) (told : Option Repeat) → IsAcceptance answer → KnowsAudit fed old
+pub tells_acceptance : (fed : List Answer) (answer : Answer) (old new : Audit) (told : Option Repeat)
+    → IsAcceptance answer → KnowsAudit fed old
     → FeedsAcceptance old new answer.key answer.number told → TellsOf fed answer told
 tells_acceptance fed answer old new told is knows feeds =
     subst (TellsOf fed answer) (sym feeds.told_is)
-    (acceptance_told fed answer old.fed (place_in old.acceptances answer.key answer.number) is knows.count (knows.acceptances answer.key answer.number))
+    (acceptance_told fed answer old.fed (place_in old.acceptances answer.key answer.number) is knows.count
+    (knows.acceptances answer.key answer.number))
 
 -- an answer that neither uses nor accepts a number
-pub knows_neither : (fed : List Answer) (answer : Answer) (old new : Audit) → ¬ IsUse answer → ¬ IsAcceptance answer → KnowsAudit fed old
-    → new.uses ≡ old.uses → new.acceptances ≡ old.acceptances → new.use_count ≡ old.use_count → new.acceptance_count ≡ old.acceptance_count
+pub knows_neither : (fed : List Answer) (answer : Answer) (old new : Audit) → ¬ IsUse answer → ¬ IsAcceptance answer
+    → KnowsAudit fed old
+    → new.uses ≡ old.uses → new.acceptances ≡ old.acceptances → new.use_count ≡ old.use_count
+    → new.acceptance_count ≡ old.acceptance_count
     → new.fed ≡ old.fed + 1 → KnowsAudit (fed ++ answer ∷ []) new
 knows_neither fed answer old new no_use no_acceptance knows uses acceptances use_count acceptance_count more = record {
   uses = subst (KnowsFirst Uses (fed ++ answer ∷ [])) (sym uses)
       (knows_kept Uses fed answer old.uses (λ k n is. no_use is.0) knows.uses);
   acceptances = subst (KnowsFirst Accepts (fed ++ answer ∷ [])) (sym acceptances)
       (knows_kept Accepts fed answer old.acceptances (λ k n accepts. no_acceptance accepts.0) knows.acceptances);
-  use_count = no_more is_use fed answer old.use_count new.use_count (none_passes answer no_use) knows.use_count use_count;
-  acceptance_count = no_more is_acceptance fed answer old.acceptance_count new.acceptance_count (no_acceptance_passes answer no_acceptance)
+  use_count = no_more is_use fed answer old.use_count new.use_count (none_passes answer no_use) knows.use_count
+      use_count;
+  acceptance_count = no_more is_acceptance fed answer old.acceptance_count new.acceptance_count
+      (no_acceptance_passes answer no_acceptance)
       knows.acceptance_count acceptance_count;
   count = more_fed fed answer old.fed new.fed knows.count more;
 }
 
-pub tells_neither : (fed : List Answer) (answer : Answer) → ¬ IsUse answer → ¬ IsAcceptance answer → TellsOf fed answer None
-tells_neither fed answer no_use no_acceptance = λ k d low. neither_unlike answer no_use no_acceptance (slice_index_or fed k d)
+pub tells_neither : (fed : List Answer) (answer : Answer) → ¬ IsUse answer → ¬ IsAcceptance answer
+    → TellsOf fed answer None
+tells_neither fed answer no_use no_acceptance =
+    λ k d low. neither_unlike answer no_use no_acceptance (slice_index_or fed k d)
 
 -- ---- an answer that says so
 
@@ -292,69 +339,95 @@ use_as : (code key number : ℕ) (answer : Answer) → Says code key number answ
 use_as code key number answer says is =
     subst (λ (c : ℕ). SaysUse c answer.key) (sym says.code_is) (subst (SaysUse code) (sym says.key_is) is)
 
-feeds_use_as : (old new : Audit) (code key number : ℕ) (answer : Answer) (told : Option Repeat) → Says code key number answer
+feeds_use_as : (old new : Audit) (code key number : ℕ) (answer : Answer) (told : Option Repeat)
+    → Says code key number answer
     → FeedsUse old new key number told → FeedsUse old new answer.key answer.number told
 feeds_use_as old new code key number answer told says feeds =
     subst (λ (k : ℕ). FeedsUse old new k answer.number told) (sym says.key_is)
     (subst (λ (n : ℕ). FeedsUse old new key n told) (sym says.number_is) feeds)
 
-feeds_acceptance_as : (old new : Audit) (code key number : ℕ) (answer : Answer) (told : Option Repeat) → Says code key number answer
+feeds_acceptance_as : (old new : Audit) (code key number : ℕ) (answer : Answer) (told : Option Repeat)
+    → Says code key number answer
     → FeedsAcceptance old new key number told → FeedsAcceptance old new answer.key answer.number told
 feeds_acceptance_as old new code key number answer told says feeds =
     subst (λ (k : ℕ). FeedsAcceptance old new k answer.number told) (sym says.key_is)
     (subst (λ (n : ℕ). FeedsAcceptance old new key n told) (sym says.number_is) feeds)
 
-pub knows_use_as : (fed : List Answer) (answer : Answer) (code key number : ℕ) (old new : Audit) (told : Option Repeat) → Says code key number answer
+pub knows_use_as : (fed : List Answer) (answer : Answer) (code key number : ℕ) (old new : Audit) (told : Option Repeat)
+    → Says code key number answer
     → SaysUse code key → KnowsAudit fed old → FeedsUse old new key number told → KnowsAudit (fed ++ answer ∷ []) new
 knows_use_as fed answer code key number old new told says is knows feeds =
-    knows_use fed answer old new told (use_as code key number answer says is) knows (feeds_use_as old new code key number answer told says feeds)
+    knows_use fed answer old new told (use_as code key number answer says is) knows
+    (feeds_use_as old new code key number answer told says feeds)
 
-pub tells_use_as : (fed : List Answer) (answer : Answer) (code key number : ℕ) (old new : Audit) (told : Option Repeat) → Says code key number answer
+pub tells_use_as : (fed : List Answer) (answer : Answer) (code key number : ℕ) (old new : Audit) (told : Option Repeat)
+    → Says code key number answer
     → SaysUse code key → KnowsAudit fed old → FeedsUse old new key number told → TellsOf fed answer told
 tells_use_as fed answer code key number old new told says is knows feeds =
-    tells_use fed answer old new told (use_as code key number answer says is) knows (feeds_use_as old new code key number answer told says feeds)
+    tells_use fed answer old new told (use_as code key number answer says is) knows
+    (feeds_use_as old new code key number answer told says feeds)
 
-pub knows_acceptance_as : (fed : List Answer) (answer : Answer) (code key number : ℕ) (old new : Audit) (told : Option Repeat)
-    → Says code key number answer → SaysAcceptance code → KnowsAudit fed old → FeedsAcceptance old new key number told → KnowsAudit (fed ++ answer ∷ []) new
+pub knows_acceptance_as : (fed : List Answer) (answer : Answer) (code key number : ℕ) (old new : Audit)
+    (told : Option Repeat)
+    → Says code key number answer → SaysAcceptance code → KnowsAudit fed old → FeedsAcceptance old new key number told
+    → KnowsAudit (fed ++ answer ∷ []) new
 knows_acceptance_as fed answer code key number old new told says is knows feeds =
-    knows_acceptance fed answer old new told (says.code_is ∙ is) knows (feeds_acceptance_as old new code key number answer told says feeds)
+    knows_acceptance fed answer old new told (says.code_is ∙ is) knows
+    (feeds_acceptance_as old new code key number answer told says feeds)
 
-pub tells_acceptance_as : (fed : List Answer) (answer : Answer) (code key number : ℕ) (old new : Audit) (told : Option Repeat)
-    → Says code key number answer → SaysAcceptance code → KnowsAudit fed old → FeedsAcceptance old new key number told → TellsOf fed answer told
+pub tells_acceptance_as : (fed : List Answer) (answer : Answer) (code key number : ℕ) (old new : Audit)
+    (told : Option Repeat)
+    → Says code key number answer → SaysAcceptance code → KnowsAudit fed old → FeedsAcceptance old new key number told
+    → TellsOf fed answer told
 tells_acceptance_as fed answer code key number old new told says is knows feeds =
-    tells_acceptance fed answer old new told (says.code_is ∙ is) knows (feeds_acceptance_as old new code key number answer told says feeds)
+    tells_acceptance fed answer old new told (says.code_is ∙ is) knows
+    (feeds_acceptance_as old new code key number answer told says feeds)
 
-neither_use : (code key number : ℕ) (answer : Answer) → Says code key number answer → ¬ SaysUse code key → ¬ IsUse answer
+neither_use : (code key number : ℕ) (answer : Answer) → Says code key number answer → ¬ SaysUse code key
+    → ¬ IsUse answer
 neither_use code key number answer says none is =
     none (subst (SaysUse code) says.key_is (subst (λ (c : ℕ). SaysUse c answer.key) says.code_is is))
 
-pub knows_neither_as : (fed : List Answer) (answer : Answer) (code key number : ℕ) (audit : Audit) → Says code key number answer → ¬ SaysUse code key
-    → ¬ SaysAcceptance code → KnowsAudit fed audit → KnowsAudit (fed ++ answer ∷ []) (record audit { fed = audit.fed + 1 })
+pub knows_neither_as : (fed : List Answer) (answer : Answer) (code key number : ℕ) (audit : Audit)
+    → Says code key number answer → ¬ SaysUse code key
+    → ¬ SaysAcceptance code → KnowsAudit fed audit
+    → KnowsAudit (fed ++ answer ∷ []) (record audit { fed = audit.fed + 1 })
 knows_neither_as fed answer code key number audit says no_use no_acceptance knows =
-    knows_neither fed answer audit (record audit { fed = audit.fed + 1 }) (neither_use code key number answer says no_use)
+    knows_neither fed answer audit (record audit { fed = audit.fed + 1 })
+    (neither_use code key number answer says no_use)
     (λ is. no_acceptance (sym says.code_is ∙ is)) knows refl refl refl refl refl
 
-pub tells_neither_as : (fed : List Answer) (answer : Answer) (code key number : ℕ) → Says code key number answer → ¬ SaysUse code key
+pub tells_neither_as : (fed : List Answer) (answer : Answer) (code key number : ℕ) → Says code key number answer
+    → ¬ SaysUse code key
     → ¬ SaysAcceptance code → TellsOf fed answer None
 tells_neither_as fed answer code key number says no_use no_acceptance =
-    tells_neither fed answer (neither_use code key number answer says no_use) (λ is. no_acceptance (sym says.code_is ∙ is))
+    tells_neither fed answer (neither_use code key number answer says no_use)
+    (λ is. no_acceptance (sym says.code_is ∙ is))
 
 -- the counts leave room for one more
 pub use_room : (fed : List Answer) (audit : Audit) → KnowsAudit fed audit → audit.use_count ≤ audit.fed
-use_room fed audit knows = let few = count_by-le-length is_use fed in let count = knows.use_count in let all = knows.count in omega arith
+use_room fed audit knows = let few = count_by-le-length is_use fed in let count = knows.use_count in let all =
+    knows.count in omega arith
 
 pub acceptance_room : (fed : List Answer) (audit : Audit) → KnowsAudit fed audit → audit.acceptance_count ≤ audit.fed
 acceptance_room fed audit knows =
-    let few = count_by-le-length is_acceptance fed in let count = knows.acceptance_count in let all = knows.count in omega arith
+    let few = count_by-le-length is_acceptance fed in let count = knows.acceptance_count in let all =
+    knows.count in omega arith
 
 -- ---- a number entered
 
-pub entered_from : (old new : BTreeMap (ℕ × ℕ) ℕ) (key number place : ℕ) (before : Option ℕ) → before ≡ place_in old key number
-    → ((k n : ℕ) → place_in new k n ≡ (if (k == key) && (n == number) then Some (unwrap_or before place) else place_in old k n))
+pub entered_from : (old new : BTreeMap (ℕ × ℕ) ℕ) (key number place : ℕ) (before : Option ℕ)
+    → before ≡ place_in old key number
+    → ((k n : ℕ) → place_in new k n
+    ≡ (if (k == key) && (n == number) then Some (unwrap_or before place) else place_in old k n))
     → EntersPlace old new key number place
 entered_from old new key number place before found entered =
-    subst (λ (o : Option ℕ). (k n : ℕ) → place_in new k n ≡ (if (k == key) && (n == number) then Some (unwrap_or o place) else place_in old k n)) found entered
+    subst (λ (o : Option ℕ). (k n : ℕ)
+    → place_in new k n ≡ (if (k == key) && (n == number) then Some (unwrap_or o place) else place_in old k n)) found
+    entered
 
-pub told_from : (pair : Bool) (old : BTreeMap (ℕ × ℕ) ℕ) (key number second : ℕ) (before : Option ℕ) (told : Option Repeat) → before ≡ place_in old key number
+pub told_from : (pair : Bool) (old : BTreeMap (ℕ × ℕ) ℕ) (key number second : ℕ) (before : Option ℕ)
+    (told : Option Repeat) → before ≡ place_in old key number
     → told ≡ repeat_at pair key number second before → told ≡ repeat_at pair key number second (place_in old key number)
-told_from pair old key number second before told found is = is ∙ ap (λ (o : Option ℕ). repeat_at pair key number second o) found
+told_from pair old key number second before told found is =
+    is ∙ ap (λ (o : Option ℕ). repeat_at pair key number second o) found

@@ -13,7 +13,8 @@ pairs_tail R x xs h i j d lt low = h (suc i) (suc j) d (omega arith) (omega arit
 pub pairs_none : {X : Type 0} (R : X → X → Type 0) → AllPairs R []
 pairs_none R i j d lt low = absurd (omega arith)
 
-pub pairs_append : {X : Type 0} (R : X → X → Type 0) (xs ys : List X) → AllPairs R xs → AllPairs R ys → All (λ (x : X). All (R x) ys) xs → AllPairs R (xs ++ ys)
+pub pairs_append : {X : Type 0} (R : X → X → Type 0) (xs ys : List X) → AllPairs R xs → AllPairs R ys
+    → All (λ (x : X). All (R x) ys) xs → AllPairs R (xs ++ ys)
 pairs_append {X} R [] ys first second cross = second
 pairs_append {X} R (x ∷ xs) ys first second cross =
     AllPairs-cons R x (xs ++ ys) (All-append (R x) xs ys (pairs_head R x xs first) (cross 0 x (omega arith)))
@@ -30,18 +31,22 @@ all_right P (x ∷ xs) ys h = all_right P xs ys (All-tail P x (xs ++ ys) h)
 pub pairs_left : {X : Type 0} (R : X → X → Type 0) (xs ys : List X) → AllPairs R (xs ++ ys) → AllPairs R xs
 pairs_left R [] ys h = pairs_none R
 pairs_left R (x ∷ xs) ys h =
-    AllPairs-cons R x xs (all_left (R x) xs ys (pairs_head R x (xs ++ ys) h)) (pairs_left R xs ys (pairs_tail R x (xs ++ ys) h))
+    AllPairs-cons R x xs (all_left (R x) xs ys (pairs_head R x (xs ++ ys) h))
+    (pairs_left R xs ys (pairs_tail R x (xs ++ ys) h))
 
 pub pairs_right : {X : Type 0} (R : X → X → Type 0) (xs ys : List X) → AllPairs R (xs ++ ys) → AllPairs R ys
 pairs_right R [] ys h = h
 pairs_right R (x ∷ xs) ys h = pairs_right R xs ys (pairs_tail R x (xs ++ ys) h)
 
-pub pairs_cross : {X : Type 0} (R : X → X → Type 0) (xs ys : List X) → AllPairs R (xs ++ ys) → All (λ (x : X). All (R x) ys) xs
+pub pairs_cross : {X : Type 0} (R : X → X → Type 0) (xs ys : List X) → AllPairs R (xs ++ ys)
+    → All (λ (x : X). All (R x) ys) xs
 pairs_cross {X} R [] ys h = All-nil (λ (x : X). All (R x) ys)
 pairs_cross {X} R (x ∷ xs) ys h =
-    All-cons (λ (x : X). All (R x) ys) x xs (all_right (R x) xs ys (pairs_head R x (xs ++ ys) h)) (pairs_cross R xs ys (pairs_tail R x (xs ++ ys) h))
+    All-cons (λ (x : X). All (R x) ys) x xs (all_right (R x) xs ys (pairs_head R x (xs ++ ys) h))
+    (pairs_cross R xs ys (pairs_tail R x (xs ++ ys) h))
 
-pub pairs_push : {X : Type 0} (R : X → X → Type 0) (xs : List X) (y : X) → AllPairs R xs → All (λ (x : X). R x y) xs → AllPairs R (xs ++ y ∷ [])
+pub pairs_push : {X : Type 0} (R : X → X → Type 0) (xs : List X) (y : X) → AllPairs R xs → All (λ (x : X). R x y) xs
+    → AllPairs R (xs ++ y ∷ [])
 pairs_push {X} R xs y pairs last =
     pairs_append R xs (y ∷ []) pairs (AllPairs-cons R y [] (All-nil (R y)) (pairs_none R))
     (λ k d low. All-cons (R (slice_index_or xs k d)) y [] (last k d low) (All-nil (R (slice_index_or xs k d))))

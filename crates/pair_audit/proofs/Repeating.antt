@@ -28,5 +28,6 @@ first_told fed answer later repeat nothing told =
       repeats = both_repeat repeat told.one answer told.both;
       least_first = subst (λ (l : List Answer). All (λ (a : Answer). AreUnlike a answer) l)
           (sym (take-append-le repeat.first fed (answer ∷ later) (omega arith))) told.none_before;
-      least_second = subst RepeatNothing (sym (ap (λ (n : ℕ). take n (fed ++ answer ∷ later)) second ∙ take_seam fed (answer ∷ later))) nothing;
+      least_second = subst RepeatNothing
+          (sym (ap (λ (n : ℕ). take n (fed ++ answer ∷ later)) second ∙ take_seam fed (answer ∷ later))) nothing;
     }

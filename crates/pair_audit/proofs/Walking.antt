@@ -1,5 +1,6 @@
 -- How an audit comes through a recording, for the functions of `walk`.
-use Rattle.std.proofs.Common.{◌≡◌, ◌⊎◌, ℕ, ◌+◌, ◌-◌, ◌<◌, ◌≤◌, List, [], ◌∷◌, ◌++◌, length, take, drop, Option, Some, None, inl, inr, refl, sym, ap, ◌∙◌, subst, arith, append_assoc, length-append}
+use Rattle.std.proofs.Common.{◌≡◌, ◌⊎◌, ℕ, ◌+◌, ◌-◌, ◌<◌, ◌≤◌, List, [], ◌∷◌, ◌++◌, length, take, drop, Option, Some}
+use Rattle.std.proofs.Common.{None, inl, inr, refl, sym, ap, ◌∙◌, subst, arith, append_assoc, length-append}
 use Rattle.std.specs.Prelude.{slice_get}
 use Rattle.std.specs.List.{All}
 use Rattle.std.proofs.Math.Seq.{take-add, take-append-add}
@@ -8,7 +9,8 @@ use Rattle.std.proofs.lemmas.List.{append-nil, take-append-drop, take-append-le,
 use Rattle.std.proofs.lemmas.List.Elements.{All-nil, All-push}
 use Rattle.std.proofs.lemmas.Option.{slice_get_within}
 use Rattle.record_io.specs.declared.answers.Answer.{Answer}
-use Rattle.record_io.specs.Answers.{Header, Cut, HasWidths, IsAnswer, IsCut, answer_octets, answers_octets, header_octets, header_of}
+use Rattle.record_io.specs.Answers.{Header, Cut, HasWidths, IsAnswer, IsCut, answer_octets, answers_octets}
+use Rattle.record_io.specs.Answers.{header_octets, header_of}
 use Rattle.pair_audit.specs.declared.audit.Audit.{Audit}
 use Rattle.pair_audit.specs.declared.audit.Repeat.{Repeat}
 use Rattle.pair_audit.specs.Audit.{KnowsAudit, TellsOf, TellsRepeat}
@@ -39,12 +41,14 @@ the_repeat fed answer repeat nothing told =
         repeats = both_repeat repeat told.one answer told.both;
         least_first = subst (λ (l : List Answer). All (λ (a : Answer). AreUnlike a answer) l)
             (sym (take-append-le repeat.first fed (answer ∷ []) (omega arith))) told.none_before;
-        least_second = subst RepeatNothing (sym (ap (λ (n : ℕ). take n (fed ++ answer ∷ [])) second ∙ take_seam fed (answer ∷ []))) nothing;
+        least_second = subst RepeatNothing
+            (sym (ap (λ (n : ℕ). take n (fed ++ answer ∷ [])) second ∙ take_seam fed (answer ∷ []))) nothing;
       };
       both = told.both;
     }
 
-still_the_repeat : (fed more : List Answer) (repeat : Repeat) → IsTheRepeat fed repeat → IsTheRepeat (fed ++ more) repeat
+still_the_repeat : (fed more : List Answer) (repeat : Repeat) → IsTheRepeat fed repeat
+    → IsTheRepeat (fed ++ more) repeat
 still_the_repeat fed more repeat is =
     let f = is.is_first in
     let low : repeat.second < length fed = slice_get_within fed repeat.second f.other f.at_second in
@@ -64,7 +68,8 @@ still_the_repeat fed more repeat is =
       both = is.both;
     }
 
-outcome_more : (fed : List Answer) (answer : Answer) (first told : Option Repeat) → IsOutcome fed first → TellsOf fed answer told
+outcome_more : (fed : List Answer) (answer : Answer) (first told : Option Repeat) → IsOutcome fed first
+    → TellsOf fed answer told
     → IsOutcome (fed ++ answer ∷ []) (earlier_of first told)
 outcome_more fed answer None None nothing unlike = pairs_push AreUnlike fed answer nothing unlike
 outcome_more fed answer None (Some repeat) nothing tells = the_repeat fed answer repeat nothing tells
@@ -72,7 +77,8 @@ outcome_more fed answer (Some repeat) told is tells = still_the_repeat fed (answ
 
 pub takes_one : (old new : Audit) (answer : Answer) (first later told : Option Repeat)
     → ((fed : List Answer) → KnowsAudit fed old → KnowsAudit (fed ++ answer ∷ []) new)
-    → ((fed : List Answer) → KnowsAudit fed old → TellsOf fed answer told) → later ≡ earlier_of first told → Takes old new first later (answer ∷ [])
+    → ((fed : List Answer) → KnowsAudit fed old → TellsOf fed answer told) → later ≡ earlier_of first told
+    → Takes old new first later (answer ∷ [])
 takes_one old new answer first later told knows tells is = record {
   knows = knows;
   outcome = λ fed known outcome.
@@ -85,10 +91,12 @@ takes_none audit first = record {
   outcome = λ fed known outcome. subst (λ (l : List Answer). IsOutcome l first) (sym (append-nil fed)) outcome;
 }
 
-pub takes_more : (old middle new : Audit) (first next later : Option Repeat) (own more : List Answer) → Takes old middle first next own
+pub takes_more : (old middle new : Audit) (first next later : Option Repeat) (own more : List Answer)
+    → Takes old middle first next own
     → Takes middle new next later more → Takes old new first later (own ++ more)
 takes_more old middle new first next later own more x y = record {
-  knows = λ fed known. subst (λ (l : List Answer). KnowsAudit l new) (append_assoc fed own more) (y.knows (fed ++ own) (x.knows fed known));
+  knows = λ fed known. subst (λ (l : List Answer). KnowsAudit l new) (append_assoc fed own more)
+      (y.knows (fed ++ own) (x.knows fed known));
   outcome = λ fed known outcome.
       subst (λ (l : List Answer). IsOutcome l later) (append_assoc fed own more)
       (y.outcome (fed ++ own) (x.knows fed known) (x.outcome fed known outcome));
@@ -112,18 +120,24 @@ pub record InFront (octets : List ℕ) (answer : Answer) (count : ℕ) : Type 0 
   pub within : count ≤ length octets
   pub some : 0 < count
   pub told : (IsAnswer answer × (take count octets ≡ answer_octets answer))
-      ⊎ ((count ≡ length octets) × (cut : Cut) × IsCut cut × (octets ≡ header_octets cut.header ++ cut.front) × (answer ≡ as_answer cut))
+      ⊎ ((count ≡ length octets) × (cut : Cut) × IsCut cut × (octets ≡ header_octets cut.header ++ cut.front)
+      × (answer ≡ as_answer cut))
 
-in_front : (octets : List ℕ) (answer : Answer) (count : ℕ) → StandsInFront octets answer count → InFront octets answer count
+in_front : (octets : List ℕ) (answer : Answer) (count : ℕ) → StandsInFront octets answer count
+    → InFront octets answer count
 unfolding answer_octets
 in_front octets answer count s =
     let is = s.is_behind in
-    let size : length octets ≡ 24 + length s.behind = ap length s.spelled ∙ length-append (header_octets s.header) s.behind in
-    let body : length answer.body ≡ length (take s.header.octets s.behind) = ap (λ (a : Answer). length a.body) is.answer_is in
+    let size : length octets ≡ 24 + length s.behind =
+    ap length s.spelled ∙ length-append (header_octets s.header) s.behind in
+    let body : length answer.body ≡ length (take s.header.octets s.behind) =
+    ap (λ (a : Answer). length a.body) is.answer_is in
     by_size size body (cases_lt (length s.behind) s.header.octets)
   where
-    front_is : (n : ℕ) → length (take n s.behind) ≡ n → count ≡ 24 + n → take count octets ≡ header_octets s.header ++ take n s.behind
-    front_is n size is = ap (λ (m : ℕ). take m octets) is ∙ ap (take (24 + n)) s.spelled ∙ take-append-add (header_octets s.header) s.behind n
+    front_is : (n : ℕ) → length (take n s.behind) ≡ n → count ≡ 24 + n → take count octets ≡ header_octets s.header
+        ++ take n s.behind
+    front_is n size is = ap (λ (m : ℕ). take m octets) is ∙ ap (take (24 + n)) s.spelled
+        ∙ take-append-add (header_octets s.header) s.behind n
 
     by_size : length octets ≡ 24 + length s.behind → length answer.body ≡ length (take s.header.octets s.behind)
         → (length s.behind < s.header.octets) ⊎ (s.header.octets ≤ length s.behind) → InFront octets answer count
@@ -143,7 +157,8 @@ in_front octets answer count s =
           );
         }
     by_size size body (inr high) =
-        let whole : length (take s.header.octets s.behind) ≡ s.header.octets = length-take-le s.header.octets s.behind high in
+        let whole : length (take s.header.octets s.behind) ≡ s.header.octets =
+        length-take-le s.header.octets s.behind high in
         let count_is = s.is_behind.count_is in
         let made : Answer = as_answer (record { header = s.header; front = take s.header.octets s.behind }) in
         let header_same : header_of made ≡ s.header = ap (λ (n : ℕ). record {
@@ -159,7 +174,8 @@ in_front octets answer count s =
           some = omega arith;
           told = inl (
             subst IsAnswer (sym s.is_behind.answer_is) (subst HasWidths (sym header_same) s.widths),
-            front_is s.header.octets whole (omega arith) ∙ sym (ap (λ (h : Header). header_octets h ++ take s.header.octets s.behind) header_same)
+            front_is s.header.octets whole (omega arith)
+                ∙ sym (ap (λ (h : Header). header_octets h ++ take s.header.octets s.behind) header_same)
                 ∙ ap answer_octets (sym s.is_behind.answer_is),
           );
         }
@@ -167,14 +183,17 @@ in_front octets answer count s =
 octets-push : (xs : List Answer) (x : Answer) → answers_octets (xs ++ x ∷ []) ≡ answers_octets xs ++ answer_octets x
 octets-push [] x = append-nil (answer_octets x)
 octets-push (y ∷ xs) x =
-    ap (λ (l : List ℕ). answer_octets y ++ l) (octets-push xs x) ∙ sym (append_assoc (answer_octets y) (answers_octets xs) (answer_octets x))
+    ap (λ (l : List ℕ). answer_octets y ++ l) (octets-push xs x)
+    ∙ sym (append_assoc (answer_octets y) (answers_octets xs) (answer_octets x))
 
 code_in_front : (octets : List ℕ) (answer : Answer) (count : ℕ) → StandsInFront octets answer count → HasCode answer
 code_in_front octets answer count s = subst HasCode (sym s.is_behind.answer_is) s.known
 
-pub walked_more : (octets : List ℕ) (place : ℕ) (own : List Answer) (answer : Answer) (count : ℕ) → place < length octets → Walked octets place own
+pub walked_more : (octets : List ℕ) (place : ℕ) (own : List Answer) (answer : Answer) (count : ℕ)
+    → place < length octets → Walked octets place own
     → StandsInFront (drop place octets) answer count → Walked octets (place + count) (own ++ answer ∷ [])
-walked_more octets place own answer count low walked s = by_told walked.told (in_front (drop place octets) answer count s)
+walked_more octets place own answer count low walked s =
+    by_told walked.told (in_front (drop place octets) answer count s)
   where
     left : length (drop place octets) ≡ length octets - place
     left = length-drop place octets
@@ -185,14 +204,16 @@ walked_more octets place own answer count low walked s = by_told walked.told (in
     few : 0 < count → length (own ++ answer ∷ []) ≤ place + count
     few some = let size = length-append own (answer ∷ []) in let few = walked.few in omega arith
 
-    by_told : ((All IsAnswer own × (take place octets ≡ answers_octets own)) ⊎ ((place ≡ length octets) × CountsAnswers octets own))
+    by_told : ((All IsAnswer own × (take place octets ≡ answers_octets own))
+        ⊎ ((place ≡ length octets) × CountsAnswers octets own))
         → InFront (drop place octets) answer count → Walked octets (place + count) (own ++ answer ∷ [])
     by_told (inr (end, counts)) f = absurd (omega arith)
     by_told (inl (are, front)) f = by_front f f.told
       where
         by_front : (f : InFront (drop place octets) answer count)
             → ((IsAnswer answer × (take count (drop place octets) ≡ answer_octets answer))
-            ⊎ ((count ≡ length (drop place octets)) × (cut : Cut) × IsCut cut × (drop place octets ≡ header_octets cut.header ++ cut.front) × (answer ≡ as_answer cut)))
+            ⊎ ((count ≡ length (drop place octets)) × (cut : Cut) × IsCut cut
+            × (drop place octets ≡ header_octets cut.header ++ cut.front) × (answer ≡ as_answer cut)))
             → Walked octets (place + count) (own ++ answer ∷ [])
         by_front f (inl (is, octets_are)) =
             let within = f.within in
@@ -230,10 +251,12 @@ walked_more octets place own answer count low walked s = by_told walked.told (in
               );
             }
 
-pub walked_end : (octets : List ℕ) (place : ℕ) (own : List Answer) → Walked octets place own → length (drop place octets) < 24 → CountsAnswers octets own
+pub walked_end : (octets : List ℕ) (place : ℕ) (own : List Answer) → Walked octets place own
+    → length (drop place octets) < 24 → CountsAnswers octets own
 walked_end octets place own walked short = by_told walked.told
   where
-    by_told : ((All IsAnswer own × (take place octets ≡ answers_octets own)) ⊎ ((place ≡ length octets) × CountsAnswers octets own)) → CountsAnswers octets own
+    by_told : ((All IsAnswer own × (take place octets ≡ answers_octets own))
+        ⊎ ((place ≡ length octets) × CountsAnswers octets own)) → CountsAnswers octets own
     by_told (inr (end, counts)) = counts
     by_told (inl (are, front)) = record {
       whole = own;
@@ -251,7 +274,8 @@ pub walked_unknown : (octets : List ℕ) (place : ℕ) (own : List Answer) → p
     → UnknownInFront (drop place octets) → UnknownAt octets place
 walked_unknown octets place own low walked unknown = by_told walked.told
   where
-    by_told : ((All IsAnswer own × (take place octets ≡ answers_octets own)) ⊎ ((place ≡ length octets) × CountsAnswers octets own)) → UnknownAt octets place
+    by_told : ((All IsAnswer own × (take place octets ≡ answers_octets own))
+        ⊎ ((place ≡ length octets) × CountsAnswers octets own)) → UnknownAt octets place
     by_told (inr (end, counts)) = absurd (omega arith)
     by_told (inl (are, front)) = record {
       answers = own;
@@ -264,4 +288,5 @@ walked_unknown octets place own low walked unknown = by_told walked.told
 
 -- the octets from a place on, as a range
 pub rest_range : (octets : List ℕ) (place : ℕ) → take (length octets - place) (drop place octets) ≡ drop place octets
-rest_range octets place = take_all (length octets - place) (drop place octets) (let size = length-drop place octets in omega arith)
+rest_range octets place = take_all (length octets - place) (drop place octets)
+    (let size = length-drop place octets in omega arith)

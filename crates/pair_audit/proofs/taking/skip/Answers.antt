@@ -16,7 +16,8 @@ returns-then-count-most-clause-taken g c =
     let few : most ≤ c.args.len - c.pieces.skipped = search rules in
     let low = c.pieces-test.true in
     let less = c.if-count-most.true in
-    let now : Taking g.S.Source.told (c.args.taken + c.pieces.skipped) most piece (g.S.Source.left c.pieces.source) (g.S.Source.left c.fill.new.source) = rw room at c.in_ok-count.ensures.taken in
+    let now : Taking g.S.Source.told (c.args.taken + c.pieces.skipped) most piece (g.S.Source.left c.pieces.source)
+    (g.S.Source.left c.fill.new.source) = rw room at c.in_ok-count.ensures.taken in
     let whole = length-append so_far.0 piece in (
       so_far.0 ++ piece,
       whole ∙ ap (λ n. n + length piece) so_far.1 ∙ ap (λ n. c.pieces.skipped + n) size,
@@ -37,7 +38,8 @@ pieces-preserved g c =
     let few : most ≤ c.args.len - c.pieces.skipped = search rules in
     let low = c.pieces-test.true in
     let all : c.in_ok-count.count ≡ most = let not_less = c.if-count-most.false in omega arith in
-    let now : Taking g.S.Source.told (c.args.taken + c.pieces.skipped) most piece (g.S.Source.left c.pieces.source) (g.S.Source.left c.fill.new.source) = rw room at c.in_ok-count.ensures.taken in
+    let now : Taking g.S.Source.told (c.args.taken + c.pieces.skipped) most piece (g.S.Source.left c.pieces.source)
+    (g.S.Source.left c.fill.new.source) = rw room at c.in_ok-count.ensures.taken in
     let whole = length-append so_far.0 piece in (
       omega arith,
       search rules,
@@ -45,7 +47,9 @@ pieces-preserved g c =
       (
         so_far.0 ++ piece,
         whole ∙ ap (λ n. n + length piece) so_far.1 ∙ ap (λ n. c.pieces.skipped + n) size,
-        subst (λ n. Taking g.S.Source.told c.args.taken (c.pieces.skipped + n) (so_far.0 ++ piece) (g.S.Source.left c.args.source.now) (g.S.Source.left c.fill.new.source))
-            (sym all) (taking_then g.S.Source.told c.args.taken c.pieces.skipped most so_far.0 piece _ _ _ so_far.2 so_far.1 now),
+        subst (λ n. Taking g.S.Source.told c.args.taken (c.pieces.skipped + n) (so_far.0 ++ piece)
+            (g.S.Source.left c.args.source.now) (g.S.Source.left c.fill.new.source))
+            (sym all) (taking_then g.S.Source.told c.args.taken c.pieces.skipped most so_far.0 piece _ _ _ so_far.2
+            so_far.1 now),
       ),
     )

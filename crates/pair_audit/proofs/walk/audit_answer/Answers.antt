@@ -12,7 +12,8 @@ returns-then-branch-len-clause-said g c =
     let header = c.fill.new.room in
     let size : length header ≡ 24 = search rules in
     let all : c.in_ok-fill.field-0 ≡ 24 = search rules in
-    let begun : Taking g.S.Source.told c.args.taken 24 header (g.S.Source.left c.args.source.now) (g.S.Source.left c.fill.new.source) = search rules in
+    let begun : Taking g.S.Source.told c.args.taken 24 header (g.S.Source.left c.args.source.now)
+    (g.S.Source.left c.fill.new.source) = search rules in
     let less = c.if-branch-len.true in
     let few : c.min-len.result ≤ c.args.left - 24 = search rules in
     let enough = c.requires.room.1 in
@@ -33,7 +34,8 @@ returns-clause-said g c =
     let header = c.fill.new.room in
     let size : length header ≡ 24 = search rules in
     let all : c.in_ok-fill.field-0 ≡ 24 = search rules in
-    let begun : Taking g.S.Source.told c.args.taken 24 header (g.S.Source.left c.args.source.now) (g.S.Source.left c.fill.new.source) = search rules in
+    let begun : Taking g.S.Source.told c.args.taken 24 header (g.S.Source.left c.args.source.now)
+    (g.S.Source.left c.fill.new.source) = search rules in
     let within_left : c.min-len.result ≤ c.args.left - 24 = search rules in
     let within_head : c.min-len.result ≤ c.in-Some.head.len = search rules in
     let full : (c.min-len.result ≡ c.in-Some.head.len) ⊎ (c.min-len.result ≡ c.args.left - 24) = search rules in
@@ -51,7 +53,8 @@ returns-clause-said g c =
         omega arith,
         (
           answer,
-          stands_within c.args.left c.min-len.result header behind.0 c.in-Some.head known size enough body_size within_head within_left full,
+          stands_within c.args.left c.min-len.result header behind.0 c.in-Some.head known size enough body_size
+              within_head within_left full,
           takes_one c.args.audit.now c.feed_header.new.self answer c.args.first c.earlier.result c.in_ok-told.told
               (λ fed knows. c.in_ok-told.ensures.knows fed answer (says_head c.in-Some.head behind.0) knows)
               (λ fed knows. c.in_ok-told.ensures.told fed answer (says_head c.in-Some.head behind.0) knows)

@@ -10,5 +10,9 @@ pub returns-clause-found : goal.returns-clause-found
 returns-clause-found g c =
     let is : IsTrue c.in_ok-begin.field-0 = search rules in
     ok_more c.audit_runs.result _ _
-    (λ end found. (found.0, (λ told. found.1 told ∙ ap (take MOST_OCTETS) (sym (c.in_ok-begin.ensures.begun is told))), found.2))
+    (λ end found. (
+      found.0,
+      (λ told. found.1 told ∙ ap (take MOST_OCTETS) (sym (c.in_ok-begin.ensures.begun is told))),
+      found.2,
+    ))
     c.audit_runs.ensures.found

@@ -8,9 +8,11 @@ pub returns-clause-knows : goal.returns-clause-knows
 returns-clause-knows c =
     let answer = c.args.answer.now in
     ok_more c.feed_header.result
-    (λ told. (fed : List Answer) (other : Answer) → Says answer.code answer.key answer.number other → KnowsAudit fed c.args.self.now
+    (λ told. (fed : List Answer) (other : Answer) → Says answer.code answer.key answer.number other
+    → KnowsAudit fed c.args.self.now
     → KnowsAudit (fed ++ other ∷ []) c.feed_header.new.self)
-    (λ told. (fed : List Answer) → KnowsAudit fed c.args.self.now → KnowsAudit (fed ++ answer ∷ []) c.feed_header.new.self)
+    (λ told. (fed : List Answer) → KnowsAudit fed c.args.self.now
+    → KnowsAudit (fed ++ answer ∷ []) c.feed_header.new.self)
     (λ told feeds fed knows. feeds fed answer (record { code_is = refl; key_is = refl; number_is = refl }) knows)
     c.feed_header.ensures.knows
 
@@ -18,7 +20,8 @@ pub returns-clause-told : goal.returns-clause-told
 returns-clause-told c =
     let answer = c.args.answer.now in
     ok_more c.feed_header.result
-    (λ told. (fed : List Answer) (other : Answer) → Says answer.code answer.key answer.number other → KnowsAudit fed c.args.self.now
+    (λ told. (fed : List Answer) (other : Answer) → Says answer.code answer.key answer.number other
+    → KnowsAudit fed c.args.self.now
     → TellsOf fed other told)
     (λ told. (fed : List Answer) → KnowsAudit fed c.args.self.now → TellsOf fed answer told)
     (λ told feeds fed knows. feeds fed answer (record { code_is = refl; key_is = refl; number_is = refl }) knows)
