@@ -1,4 +1,5 @@
-/// What a caller may see of the work while it goes on: called before and after each record.
+/// What a caller may see of the work while it goes on: called before and after each record that a lane handles. A
+/// monitoring message is none: it is answered between segments, and no gate is called for it.
 ///
 /// `lane` is the lane of the record, `index` its number in the input. The unit relies on nothing that these calls do.
 pub trait Gate {

@@ -24,7 +24,7 @@ use unit_session::{Gate, run_recorded};
 /// `run` reads recorded records from the source: frames to protect, frames to open, and commands. It has them handled
 /// by the unit of the site's image, the lanes of a segment at once, and writes one answer for each, in their order, and
 /// an End answer behind them. What an answer rests on is stored in the image before it is written. The gate is called
-/// before and after each record.
+/// before and after each record that a lane handles: each but a monitoring message, which is answered between segments.
 ///
 /// `drill N` makes two units in memory and N frames from their numbers, has the one protect them and the other open
 /// them, on four lanes, and writes one line. It reads nothing from the source, and leaves the image as it was.
