@@ -5,7 +5,7 @@
 //! is no record. Each change has one record, and each record one change.
 //!
 //! [`write_key_row`], [`read_key_row`], [`write_sa_row`] and [`read_sa_row`] do the same for rows. What is written is
-//! borrowed. No image has a bank yet, so no command writes a row.
+//! borrowed. `image_content` puts the rows together, and each bank of an image holds them.
 #![tactic(auto)]
 
 mod data;

@@ -1,4 +1,4 @@
--- The octets of a header are those of its fields, for `head_of` and `audit_answer`.
+-- The octets of a header are those of its fields, for `answer_head` and `known_head`.
 use Rattle.std.proofs.Common.{◌≡◌, ℕ, ◌≤◌, List, [], ◌∷◌, ◌++◌, length, drop, sym, ap, ◌∙◌, arith}
 use Rattle.std.specs.Int.{w16, w32, w64, to_be_bytes}
 use Rattle.std.proofs.lemmas.List.{append-nil, drop_all}
