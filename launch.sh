@@ -188,6 +188,7 @@ find_input() {
     "sdls_text records") reads="lines of text" call="sdls_text records < TEXT > INPUT" ;;
     "sdls_text show") reads="recorded input" call="sdls_text show < INPUT" ;;
     "sdls_text answers") reads="answers" call="sdls_text answers < ANSWERS" ;;
+    "sdls_text state") reads="what \`sdls stat\` prints" call="sdls_text state < STATE" ;;
     "sdls_text plan") reads="a plan" call="sdls_text plan < PLAN" ;;
     esac
 }
@@ -201,7 +202,8 @@ find_fault() {
     "$name ") fault="a word is missing" ;;
     "sdls check") find_key_fault "$@" ;;
     "sdls drill") find_number_fault "$@" ;;
-    "sdls init" | "sdls stat" | "sdls run" | "sdls audit" | "sdls_text records" | "sdls_text show" | "sdls_text plan")
+    "sdls init" | "sdls stat" | "sdls run" | "sdls audit" | "sdls_text records" | "sdls_text show" | \
+        "sdls_text state" | "sdls_text plan")
         [ "$#" = 1 ] || fault="$1 takes no further word${call:+, and reads standard input: \`$call\`}"
         ;;
     "sdls_text answers")

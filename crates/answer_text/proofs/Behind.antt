@@ -10,7 +10,8 @@ use Rattle.answer_text.specs.declared.form.Form.{Form}
 use Rattle.answer_text.specs.declared.form.Form.TheVariants.{Words, Json}
 use Rattle.record_io.specs.declared.answers.Answer.{Answer}
 use Rattle.ep_codec.specs.declared.reply_pdu.ReplyPdu.{ReplyPdu}
-use Rattle.answer_text.specs.Part.{Part, member, part_text, parts_text, quoted}
+use Rattle.text_words.specs.Members.{member, quoted}
+use Rattle.answer_text.specs.Part.{Part, part_text, parts_text}
 use Rattle.text_words.specs.Words.{spaced}
 use Rattle.answer_text.specs.Part.Part.{named}
 use Rattle.answer_text.specs.Code.{code_word}

@@ -18,7 +18,8 @@ use Rattle.answer_text.specs.declared.form.Form.TheVariants as forms
 use Rattle.answer_text.specs.Code.{code_word, layout_details, state_details, refusal_details, end_numbers}
 use Rattle.record_io.specs.Codes.{code_at}
 use Rattle.answer_text.specs.Code.{word_of}
-use Rattle.answer_text.specs.Part.{Part, member, parts_text, quoted}
+use Rattle.text_words.specs.Members.{member, quoted}
+use Rattle.answer_text.specs.Part.{Part, parts_text}
 use Rattle.text_words.specs.Words.{spaced}
 use Rattle.answer_text.specs.Part.Part.{named, number, word, octets}
 use Rattle.answer_text.specs.Reply.{reply_name, reply_values}

@@ -3,6 +3,7 @@ use Rattle.std.specs.Prelude.{ℕ, zero, suc, codes, decimal, List, [], ◌∷�
 use Rattle.std.specs.List.{flat_map}
 use Rattle.hex.specs.Hex.{encode_lower}
 use Rattle.sdls_base.specs.declared.states.KeyState.{KeyState}
+use Rattle.text_words.specs.Members.{member, quoted}
 use Rattle.text_words.specs.Words.{octets_word, key_state_word, spaced}
 use Rattle.ep_codec.specs.Field.{number_at, octet_at}
 use Rattle.fsr_log.specs.declared.events.Event.{Event}
@@ -60,14 +61,6 @@ words_text (octets name body) = spaced name ++ spaced (octets_word body)
 words_text (drawn key count) = spaced (codes "drawn") ++ (spaced (decimal key) ++ spaced (decimal count))
 words_text (rows keys) = flat_map row_words keys
 words_text (events count carried) = events_words count carried
-
--- a text between quotation marks
-abbrev pub quoted : List ℕ → List ℕ
-quoted text = codes "\"" ++ (text ++ codes "\"")
-
--- a member of a JSON object: its name, and its value as it is printed
-abbrev pub member : List ℕ → List ℕ → List ℕ
-member name value = codes "\"" ++ (name ++ (codes "\":" ++ value))
 
 -- a key with its state, as a JSON object
 abbrev pub row_object : ℕ × KeyState → List ℕ

@@ -5,12 +5,11 @@ ghost use Rattle.answer_text.specs.Line.{HasLine, LacksLine, end_text, front_tex
 use crate::codes::code_word;
 use crate::error::TextError;
 use crate::form::Form;
-use crate::putting::{put_number_member, put_word_member};
 use crate::values::put_values;
 use record_io::{Answer, AnswerCode};
 use sdls_base::NoMemory;
 use std::alloc::Global;
-use text_words::{put_decimal, put_octets, put_spaced};
+use text_words::{put_decimal, put_number_member, put_octets, put_spaced, put_word_member};
 
 /// Puts how a line begins: the number of the record and the code, and of End the code alone.
 fn put_front(text: &mut Vec<u8>, form: Form, index: u64, code: AnswerCode) -> Result<(), NoMemory>

@@ -10,7 +10,7 @@ ghost use Rattle.answer_text.specs.Monitor.{monitor_values, reply_at, report_par
 
 use crate::codes::code_word;
 use crate::form::Form;
-use crate::putting::{put_name, put_named, put_named_octets, put_number_member, put_word_member};
+use crate::putting::{put_named, put_named_octets};
 use ep_codec::{number_at, word_at};
 use fsr_log::{
     ALARM_RESET, DUMP_LOG, ERASE_LOG, Event, LOG_STATUS, PING, REPLY, REPORT_WORD, SELF_TEST,
@@ -19,7 +19,10 @@ use fsr_log::{
 use record_io::AnswerCode;
 use sdls_base::NoMemory;
 use std::alloc::Global;
-use text_words::{MessageName, put_octets, put_spaced, put_spaced_number};
+use text_words::{
+    MessageName, put_name, put_number_member, put_octets, put_spaced, put_spaced_number,
+    put_word_member,
+};
 
 /// The octets of an event in a dump.
 const EVENT: usize = 18;

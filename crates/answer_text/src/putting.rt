@@ -1,53 +1,18 @@
 //! The parts of a line, each put behind a text in either form.
 #![tactic(auto, unfolding(crate::specs::Part::part_text))]
 
-ghost use Rattle.std.specs.Prelude.{◌≡◌, ◌++◌, codes, decimal, OnOk};
+ghost use Rattle.std.specs.Prelude.{◌≡◌, ◌++◌, OnOk};
 ghost use Rattle.hex.specs.Hex.{encode_lower};
-ghost use Rattle.text_words.specs.Words.{octets_word};
-ghost use Rattle.answer_text.specs.Part.{Part, drawn_object, member, part_text, quoted};
+ghost use Rattle.text_words.specs.Members.{member, quoted};
+ghost use Rattle.answer_text.specs.Part.{Part, drawn_object, part_text};
 
 use crate::form::Form;
 use sdls_base::NoMemory;
 use std::alloc::Global;
-use text_words::{put_decimal, put_octets, put_spaced, put_spaced_number, put_spaced_octets};
-
-/// Puts a text between quotation marks. None that is put has a mark of its own.
-pub(crate) fn put_quoted(text: &mut Vec<u8>, word: &[u8]) -> Result<(), NoMemory>
-    ensures { OnOk result (text.new.items ≡ text.old.items ++ quoted word.now) }
-{
-    put_octets(text, b"\"")?;
-    put_octets(text, word)?;
-    put_octets(text, b"\"")
-}
-
-/// Puts the name of a member, and the colon.
-pub(crate) fn put_name(text: &mut Vec<u8>, name: &[u8]) -> Result<(), NoMemory>
-    ensures { OnOk result (text.new.items ≡ text.old.items ++ (codes "\"" ++ (name.now ++ codes "\":"))) }
-{
-    put_octets(text, b"\"")?;
-    put_octets(text, name)?;
-    put_octets(text, b"\":")
-}
-
-/// Puts a member whose value is a number.
-pub(crate) fn put_number_member(
-    text: &mut Vec<u8>,
-    name: &[u8],
-    number: u64,
-) -> Result<(), NoMemory>
-    ensures { OnOk result (text.new.items ≡ text.old.items ++ member name.now (decimal number)) }
-{
-    put_name(text, name)?;
-    put_decimal(text, number)
-}
-
-/// Puts a member whose value is a string.
-pub(crate) fn put_word_member(text: &mut Vec<u8>, name: &[u8], word: &[u8]) -> Result<(), NoMemory>
-    ensures { OnOk result (text.new.items ≡ text.old.items ++ member name.now (quoted word.now)) }
-{
-    put_name(text, name)?;
-    put_quoted(text, word)
-}
+use text_words::{
+    put_name, put_number_member, put_octets, put_spaced, put_spaced_number, put_spaced_octets,
+    put_word_member,
+};
 
 /// Puts a member whose value are hexadecimal digits.
 fn put_octets_member(

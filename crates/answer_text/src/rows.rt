@@ -6,9 +6,11 @@ ghost use Rattle.std.specs.List.{flat_map};
 ghost use Rattle.answer_text.specs.Part.{Part, further_row, part_text, row_object, row_objects, row_words};
 
 use crate::form::Form;
-use crate::putting::{put_name, put_number_member, put_word_member};
 use sdls_base::{KeyId, KeyState, NoMemory};
-use text_words::{key_state_word, put_octets, put_spaced, put_spaced_number};
+use text_words::{
+    key_state_word, put_name, put_number_member, put_octets, put_spaced, put_spaced_number,
+    put_word_member,
+};
 
 /// Puts a key and its state, in words.
 fn put_row(text: &mut Vec<u8>, row: &(KeyId, KeyState)) -> Result<(), NoMemory>

@@ -29,7 +29,7 @@ fn write_end(answer: &mut String, end: AnswersEnd) -> Result<(), AllocError> {
 }
 
 /// Writes lines one behind the other with `|` where one ends.
-fn write_lines(answer: &mut String, text: &mut [u8]) -> Result<(), AllocError> {
+pub(crate) fn write_lines(answer: &mut String, text: &mut [u8]) -> Result<(), AllocError> {
     for octet in text.iter_mut() {
         if *octet == b'\n' {
             *octet = b'|';

@@ -14,13 +14,12 @@ ghost use Rattle.input_text.specs.Fields.{AnswersField, IsFault, IsNoMemory, Are
 use crate::fault::{Expected, LineError, LineFault};
 use crate::seen::Seen;
 use hex::FromHexError;
-use itoa::Buffer;
 use record_io::MOST_RECORD_OCTETS;
 use replay_window::{MOST_BACK, window_field};
 use sdls_base::{KeyId, MOST_WINDOW, Octets, Spi};
 use std::alloc::{AllocError, Global};
 use std::marker::Model;
-use std::str;
+use text_words::number_spelled;
 use unit_plan::Words;
 
 /// Where a part of a line stands, for messages.
@@ -110,24 +109,6 @@ impl<'a> Model for Fields<'a> {
 
     ghost view = { λ fields. option_map_or (λ word. word.now ∷ said_words fields.words) fields.ahead
         (said_words fields.words) };
-}
-
-/// The number that the word spells in decimal digits.
-fn number_of(word: &[u8]) -> Option<u64>
-    ensures read { IfSome result (λ n. word.now ≡ decimal n) }
-    ensures only { (n : ℕ) → n < 2 ^ 64 → word.now ≡ decimal n → result ≡ Some n }
-{
-    let Ok(text) = str::from_utf8(word) else {
-        return None;
-    };
-    let Ok(n) = text.parse::<u64>() else {
-        return None;
-    };
-    if Buffer::new().format(n).as_bytes() == word {
-        Some(n)
-    } else {
-        None
-    }
 }
 
 /// The octets that the word spells in hexadecimal digits.
@@ -250,7 +231,7 @@ impl<'a> Fields<'a> {
         let Some(word) = self.next() else {
             return Err(self.fault(expected));
         };
-        match number_of(word) {
+        match number_spelled(word) {
             Some(n) => Ok(n),
             None => Err(self.fault(expected)),
         }
@@ -289,7 +270,7 @@ impl<'a> Fields<'a> {
         ensures read { IfOk result (λ n. (word.now ≡ decimal n) × IsTrue (is_key n)) }
         ensures only { (n : ℕ) → IsTrue (is_key n) → word.now ≡ decimal n → AnswersField result n }
     {
-        match number_of(word) {
+        match number_spelled(word) {
             Some(n) if n <= 65_535 => match KeyId::new(n as u16) {
                 Some(key) => Ok(key),
                 None => Err(self.fault(Expected::Key)),
@@ -303,7 +284,7 @@ impl<'a> Fields<'a> {
         ensures read { IfOk result (λ n. (word.now ≡ decimal n) × (n ≤ 63)) }
         ensures only { (n : ℕ) → n ≤ 63 → word.now ≡ decimal n → AnswersField result n }
     {
-        match number_of(word) {
+        match number_spelled(word) {
             Some(n) if n <= 63 => Ok(n as u8),
             _ => Err(self.fault(Expected::Channel)),
         }

@@ -21,6 +21,7 @@ use crate::lists::{channels, keys};
 use ep_codec::Command;
 use sdls_base::{Direction, KeyId, NewSa, Octets, Suite};
 use std::alloc::Global;
+use text_words::{direction_named, suite_named};
 
 /// A key, and a number, the last words.
 fn key_and_number(fields: &mut Fields<'_>) -> Result<(KeyId, u64), LineError>
@@ -185,10 +186,12 @@ fn direction(fields: &mut Fields<'_>) -> Result<Direction, LineError>
     ensures only { (direction : Direction) (rest : List (List ℕ)) → fields.old ≡ direction_word direction ∷ rest
         → AnswersField result direction }
 {
-    match fields.next() {
-        Some(word) if word == b"send".as_slice() => Ok(Direction::Send),
-        Some(word) if word == b"receive".as_slice() => Ok(Direction::Receive),
-        _ => Err(fields.fault(Expected::Direction)),
+    let Some(word) = fields.next() else {
+        return Err(fields.fault(Expected::Direction));
+    };
+    match direction_named(word) {
+        Some(direction) => Ok(direction),
+        None => Err(fields.fault(Expected::Direction)),
     }
 }
 
@@ -197,10 +200,12 @@ fn suite(fields: &mut Fields<'_>) -> Result<Suite, LineError>
     ensures only { (suite : Suite) (rest : List (List ℕ)) → fields.old ≡ suite_word suite ∷ rest
         → AnswersField result suite }
 {
-    match fields.next() {
-        Some(word) if word == b"cmac".as_slice() => Ok(Suite::Cmac),
-        Some(word) if word == b"gcm".as_slice() => Ok(Suite::Gcm),
-        _ => Err(fields.fault(Expected::Suite)),
+    let Some(word) = fields.next() else {
+        return Err(fields.fault(Expected::Suite));
+    };
+    match suite_named(word) {
+        Some(suite) => Ok(suite),
+        None => Err(fields.fault(Expected::Suite)),
     }
 }
 

@@ -1,7 +1,8 @@
 //! The program `sdls_text`: recorded input and answers as text. `sdls_text records` reads lines from standard input and
 //! writes the recorded input that they say; `sdls_text show` prints the lines of recorded input; `sdls_text answers`
 //! reads answers and prints their lines, and behind `--json` each as a JSON object. `text_streams` decides what is
-//! written. `sdls_text plan` reads a plan and prints its lines at fault, or the state that it makes, as `plan_text`
+//! written. `sdls_text state` reads what `sdls stat` prints, and prints a JSON object for each line. `text_streams`
+//! decides that too. `sdls_text plan` reads a plan and prints its lines at fault, or the state that it makes, as `plan_text`
 //! says. `sdls_text recording FILE..` reads the files that it names, and writes them as a recording, as `text_streams`
 //! says too.
 #![tactic(auto)]
@@ -15,13 +16,14 @@ use std::alloc::AllocError;
 use std::process::ExitCode;
 use std::rt::Env;
 use std::{env, io};
-use text_streams::{End, Form, put_answers, put_lines, put_records};
+use text_streams::{End, Form, StateEnd, put_answers, put_lines, put_records, put_state_objects};
 
 /// The page of help. The launcher prints it from here, without a build.
 const HELP: &str = "\
 usage: sdls_text records < TEXT > INPUT
        sdls_text show < INPUT > TEXT
        sdls_text answers [--json] < ANSWERS > TEXT
+       sdls_text state < STATE > TEXT
        sdls_text plan < PLAN
        sdls_text recording FILE.. > RECORDING
 Recorded input and answers of `sdls run`, as text.
@@ -29,6 +31,7 @@ Recorded input and answers of `sdls run`, as text.
   records      reads lines of text, and writes the recorded input that they say
   show         reads recorded input, and prints its lines
   answers      reads answers, and prints a line for each; with --json each line is a JSON object
+  state        reads what `sdls stat` prints, and prints a JSON object for each line
   plan         reads a plan, and prints each line at fault, or the state that the plan makes
   recording    reads files, each the answers that a run wrote, and writes them as the input of `sdls audit`
   --help       prints this page
@@ -51,6 +54,7 @@ Examples:
   sdls_text show < input.bin
   sdls run < input.bin | sdls_text answers
   sdls run < input.bin | sdls_text answers --json
+  sdls stat | sdls_text state
   sdls_text plan < plan.txt && sdls init < plan.txt
   sdls_text recording monday.bin tuesday.bin | sdls audit";
 
@@ -63,6 +67,7 @@ enum Mode {
     Records,
     Show,
     Answers(Form),
+    State,
     Plan,
     Recording,
     Help,
@@ -94,6 +99,7 @@ fn asked(words: &[String]) -> Option<Mode> {
         "records" => Some(Mode::Records),
         "show" => Some(Mode::Show),
         "answers" => Some(Mode::Answers(Form::Words)),
+        "state" => Some(Mode::State),
         "plan" => Some(Mode::Plan),
         "--help" => Some(Mode::Help),
         "--version" => Some(Mode::Version),
@@ -115,6 +121,26 @@ fn print_end(rt: &HostRuntime, end: End) -> io::Result<u8> {
         End::NoMemory => eprintln!(rt; "sdls_text: out of memory")?,
     }
     Ok(end.status())
+}
+
+/// How the run of `state` ends, if another run can end so.
+fn common_end(end: StateEnd) -> Option<End> {
+    match end {
+        StateEnd::Done => Some(End::Done),
+        StateEnd::NoLine(_) => None,
+        StateEnd::LongLine(line) => Some(End::LongLine(line)),
+        StateEnd::SourceFault => Some(End::SourceFault),
+        StateEnd::OutputFault => Some(End::OutputFault),
+        StateEnd::NoMemory => Some(End::NoMemory),
+    }
+}
+
+/// Says on standard error which line `stat` does not print, and answers the status.
+fn print_no_line(rt: &HostRuntime, end: StateEnd) -> u8 {
+    if let StateEnd::NoLine(line) = end {
+        let _ = eprintln!(rt; "sdls_text: line {line}: not what `sdls stat` prints, or cut off");
+    }
+    end.status()
 }
 
 /// Prints a page on standard output, and answers the status.
@@ -143,6 +169,13 @@ fn main(rt: HostRuntime) -> ExitCode {
         Mode::Records => put_records(alloc, &mut source, &mut FileSite::new(rt)),
         Mode::Show => put_lines(alloc, &mut source, &mut FileSite::new(rt)),
         Mode::Answers(form) => put_answers(alloc, form, &mut source, &mut FileSite::new(rt)),
+        Mode::State => {
+            let end = put_state_objects(alloc, &mut source, &mut FileSite::new(rt));
+            match common_end(end) {
+                Some(end) => end,
+                None => return ExitCode::from(print_no_line(&rt, end)),
+            }
+        }
         Mode::Plan => match put_plan(alloc, &mut source, &mut FileSite::new(rt)) {
             PlanEnd::Plan => End::Done,
             end @ PlanEnd::NoPlan => return ExitCode::from(end.status()),

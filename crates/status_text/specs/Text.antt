@@ -1,6 +1,10 @@
 -- The text that tells the state of a unit (profile): the slots, each key, each association, a line each.
 use Rattle.std.specs.Prelude.{ℕ, ◌+◌, ◌==◌, if◌then◌else◌, List, [], ◌∷◌, ◌++◌, suc, zero, codes, decimal, unwrap_or}
 use Rattle.std.specs.Option.{option_map_or}
+use Rattle.sdls_base.specs.declared.states.KeyState.{KeyState}
+use Rattle.sdls_base.specs.declared.states.SaState.{SaState}
+use Rattle.sdls_base.specs.declared.states.Direction.{Direction}
+use Rattle.sdls_base.specs.declared.states.Suite.{Suite}
 use Rattle.text_words.specs.Words.{direction_word, key_state_word, sa_state_word, suite_word}
 use Rattle.key_book.specs.declared.key_row.KeyRow.{KeyRow}
 use Rattle.key_book.specs.KeyBook.{row_of}
@@ -11,25 +15,38 @@ use Rattle.unit_state.specs.declared.state.State.{State}
 unfoldable pub slots_line : ℕ → ℕ → List ℕ
 slots_line used slots = codes "slots " ++ decimal used ++ codes " of " ++ decimal slots ++ codes "\n"
 
+-- a key with this identifier, in this state, has this mark and this floor
+unfoldable pub key_text : ℕ → KeyState → ℕ → ℕ → List ℕ
+key_text id state mark floor = codes "key " ++ decimal id ++ codes " " ++ key_state_word state ++ codes " mark "
+    ++ decimal mark
+    ++ codes " floor " ++ decimal floor ++ codes "\n"
+
 unfoldable pub key_line : KeyRow → List ℕ
-key_line row = codes "key " ++ decimal row.id ++ codes " " ++ key_state_word row.state ++ codes " mark "
-    ++ decimal row.mark
-    ++ codes " floor " ++ decimal row.floor ++ codes "\n"
+key_line row = key_text row.id row.state row.mark row.floor
 
 -- a back window, if there is one
 abbrev pub back_text : ℕ → List ℕ
 back_text back = if back == 0 then [] else codes " back " ++ decimal back
 
--- the key of an association, 0 if it has none, and its window
-unfoldable pub key_and_window : SaRow → List ℕ
-key_and_window row = codes " key " ++ decimal (unwrap_or row.key 0) ++ codes " window " ++ decimal row.window.width
-    ++ back_text row.window.back
+-- the key of an association, 0 if it has none, and its window: the width, and the back window
+unfoldable pub held_text : ℕ → ℕ → ℕ → List ℕ
+held_text key width back = codes " key " ++ decimal key ++ codes " window " ++ decimal width ++ back_text back
+
+-- an association, in the order of its words: SPI, direction, suite, state, key, width of the window, back window
+unfoldable pub association_text : ℕ → Direction → Suite → SaState → ℕ → ℕ → ℕ → List ℕ
+association_text spi direction suite state key width back = codes "sa " ++ decimal spi ++ codes " "
+    ++ direction_word direction ++ codes " "
+    ++ suite_word suite
+    ++ codes " " ++ sa_state_word state ++ held_text key width back
+    ++ codes "\n"
+
+-- the key and the window of a row
+abbrev pub key_and_window : SaRow → List ℕ
+key_and_window row = held_text (unwrap_or row.key 0) row.window.width row.window.back
 
 unfoldable pub association_line : SaRow → List ℕ
-association_line row = codes "sa " ++ decimal row.spi ++ codes " " ++ direction_word row.direction ++ codes " "
-    ++ suite_word row.suite
-    ++ codes " " ++ sa_state_word row.state ++ key_and_window row
-    ++ codes "\n"
+association_line row = association_text row.spi row.direction row.suite row.state (unwrap_or row.key 0)
+    row.window.width row.window.back
 
 -- a line for each key whose identifier is one of so many from the first on, ascending
 unfoldable pub keys_text : List KeyRow → ℕ → ℕ → List ℕ

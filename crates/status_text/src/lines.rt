@@ -20,7 +20,7 @@ pub(crate) fn put_slots(text: &mut Vec<u8>, used: u32, slots: u32) -> Result<(),
     put_octets(text, b"\n")
 }
 
-#[tactic(auto, unfolding(crate::specs::Text::key_line))]
+#[tactic(auto, unfolding(crate::specs::Text::key_line, crate::specs::Text::key_text))]
 pub(crate) fn put_key(text: &mut Vec<u8>, row: &KeyRow) -> Result<(), NoMemory>
     ensures { OnOk result (text.new.items ≡ text.old.items ++ key_line row.now) }
 {
@@ -47,7 +47,7 @@ fn put_back(text: &mut Vec<u8>, back: u8) -> Result<(), NoMemory>
 }
 
 /// Puts the key of an association, and its window.
-#[tactic(auto, unfolding(crate::specs::Text::key_and_window))]
+#[tactic(auto, unfolding(crate::specs::Text::held_text))]
 fn put_key_and_window(text: &mut Vec<u8>, row: &SaRow) -> Result<(), NoMemory>
     ensures { OnOk result (text.new.items ≡ text.old.items ++ key_and_window row.now) }
 {
@@ -59,7 +59,7 @@ fn put_key_and_window(text: &mut Vec<u8>, row: &SaRow) -> Result<(), NoMemory>
     put_back(text, row.window.back)
 }
 
-#[tactic(auto, unfolding(crate::specs::Text::association_line))]
+#[tactic(auto, unfolding(crate::specs::Text::association_line, crate::specs::Text::association_text))]
 pub(crate) fn put_association(text: &mut Vec<u8>, row: &SaRow) -> Result<(), NoMemory>
     ensures { OnOk result (text.new.items ≡ text.old.items ++ association_line row.now) }
 {

@@ -1,6 +1,6 @@
 -- The first line of a text, for `next_line`.
 use Rattle.std.proofs.Common.{◌≡◌, ◌≢◌, ℕ, ◌+◌, ◌<◌, ◌≤◌, Bool, true, false, List, [], ◌∷◌, ◌++◌, length, refl, sym, ap, ◌∙◌, arith, append_assoc}
-use Rattle.std.specs.Prelude.{◌==◌, if◌then◌else◌}
+use Rattle.std.specs.Prelude.{◌==◌, if◌then◌else◌, codes}
 use Rattle.std.specs.List.{onto_first}
 use Rattle.std.proofs.lemmas.Bool.Decides.{nat_tests}
 use Rattle.std.proofs.lemmas.List.{append-nil}
@@ -31,9 +31,10 @@ one_taken left part new left_now left_new octet are taken pushed =
     are ∙ ap (λ left. part ++ left) taken ∙ sym (append_assoc part (octet ∷ []) left_new) ∙ ap (λ part. part ++ left_new) (sym pushed)
 
 pub fed : (left part left_now rest : List ℕ) (octet : ℕ) → lacks 10 part ≡ true → left ≡ part ++ left_now → left_now ≡ octet ∷ rest
-    → octet ≡ 10 → lines_of left ≡ part ∷ lines_of rest
+    → octet ≡ 10 → (lines_of left ≡ part ∷ lines_of rest) × (left ≡ part ++ (codes "\n" ++ rest))
 fed left part left_now rest octet plain are taken is =
-    ap lines_of (are ∙ ap (λ left. part ++ left) (taken ∙ ap (λ octet. octet ∷ rest) is)) ∙ part_then 10 part rest [] plain
+    let whole = are ∙ ap (λ left. part ++ left) (taken ∙ ap (λ octet. octet ∷ rest) is) in
+    (ap lines_of whole ∙ part_then 10 part rest [] plain, whole)
 
 before_last : (b : Bool) (x : ℕ) → b ≡ false → (if b then [] ∷ [] else onto_first x []) ≡ (x ∷ []) ∷ []
 before_last true x apart = absurd cc
@@ -53,8 +54,11 @@ ended left (x ∷ xs) rest some plain is none =
 
 pub last_taken : (next : NextLine) (left part left_now left_new : List ℕ) → lacks 10 part ≡ true → left ≡ part ++ left_now
     → left_now ≡ [] → left_new ≡ [] → IsLast part next → TakesLine left left_new next
-last_taken (next.Line text) left part left_now left_new plain are none none_new last =
-    ended left part left_new last.1 plain (are ∙ ap (λ rest. part ++ rest) (none ∙ sym none_new)) none_new ∙ ap (λ line. line ∷ lines_of left_new) (sym last.0)
+last_taken (next.Line text) left part left_now left_new plain are none none_new last = absurd last
+last_taken (next.Last text) left part left_now left_new plain are none none_new last = (
+  ended left part left_new last.1 plain (are ∙ ap (λ rest. part ++ rest) (none ∙ sym none_new)) none_new ∙ ap (λ line. line ∷ lines_of left_new) (sym last.0),
+  are ∙ ap (λ rest. part ++ rest) none ∙ append-nil part ∙ sym last.0,
+)
 last_taken next.End left part left_now left_new plain are none none_new last = are ∙ ap (λ part. part ++ left_now) last ∙ none
 last_taken next.Long left part left_now left_new plain are none none_new last = absurd last
 last_taken next.SourceFault left part left_now left_new plain are none none_new last = absurd last

@@ -7,4 +7,7 @@ pub mod Items
 pub mod Progress
 mod AnswerProgress
 mod ItemProgress
-mod Writing
+pub mod Writing
+mod StateWords
+mod StateLineTexts
+mod ObjectProgress

@@ -4,3 +4,6 @@ pub mod AnswerLines
 pub mod ItemLines
 pub mod Status
 pub mod Recording
+pub mod StateText
+pub mod StateObject
+pub mod StateStream

@@ -1,5 +1,5 @@
 -- The lines of a text, and the recorded input that is made of them (profile).
-use Rattle.std.specs.Prelude.{◌≡◌, ◌≢◌, ⊤, ℕ, ◌+◌, ◌-◌, ◌^◌, ◌<◌, ◌≤◌, ◌++◌, ◌∷◌, ◌⊎◌, [], IsTrue, List, length}
+use Rattle.std.specs.Prelude.{◌≡◌, ◌≢◌, ⊤, ℕ, ◌+◌, ◌-◌, ◌^◌, ◌<◌, ◌≤◌, ◌++◌, ◌∷◌, ◌⊎◌, [], codes, IsTrue, List, length}
 use Rattle.sdls_outside.specs.Moments.{Between}
 use Rattle.unit_plan.specs.Lines.{lines_of}
 use Rattle.record_io.specs.Input.{Item, beginning, item_octets, items_octets}
@@ -23,14 +23,18 @@ pub record BeginsLong (left : List ℕ) : Type 0 where
 
 -- what stands behind the last line feed is the last line, unless nothing does
 abbrev pub IsLast : List ℕ → NextLine → Type 0
-IsLast part (next.Line text) = (text.items ≡ part) × (0 < length part)
+IsLast part (next.Line text) = ⊥
+IsLast part (next.Last text) = (text.items ≡ part) × (0 < length part)
 IsLast part next.End = part ≡ []
 IsLast part next.Long = ⊥
 IsLast part next.SourceFault = ⊥
 
--- the first line was taken, or there was none, or it is too long
+-- the first line was taken, with its line feed or, as the last one that lacks it, with all that was left; or there was
+-- none, or it is too long
 abbrev pub TakesLine : List ℕ → List ℕ → NextLine → Type 0
-TakesLine left left_new (next.Line text) = lines_of left ≡ text.items ∷ lines_of left_new
+TakesLine left left_new (next.Line text) = (lines_of left ≡ text.items ∷ lines_of left_new)
+    × (left ≡ text.items ++ (codes "\n" ++ left_new))
+TakesLine left left_new (next.Last text) = (lines_of left ≡ text.items ∷ lines_of left_new) × (left ≡ text.items)
 TakesLine left left_new next.End = left ≡ []
 TakesLine left left_new next.Long = BeginsLong left
 TakesLine left left_new next.SourceFault = ⊤
@@ -164,6 +168,7 @@ pub record PutsRecords (left old new : List ℕ) (end : End) : Type 0 where
 -- where the source failed this holds
 abbrev pub IfSourceFault : NextLine → Type 0 → Type 0
 IfSourceFault (next.Line text) P = ⊤
+IfSourceFault (next.Last text) P = ⊤
 IfSourceFault next.End P = ⊤
 IfSourceFault next.Long P = ⊤
 IfSourceFault next.SourceFault P = P

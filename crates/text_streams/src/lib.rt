@@ -8,6 +8,12 @@
 //! The line of one item is put by [`put_record`] and [`put_fence`]. [`line_says_itself`] is the law that the words of a
 //! line say this line, and [`items_said_again`] the law that the lines of items say these items.
 //!
+//! [`next_line`] takes a line of text.
+//!
+//! [`put_state_objects`] puts a JSON object for each line of what the word `stat` prints, and says by its [`StateEnd`]
+//! why the input was read no further. [`read_state_line`] reads one line, and [`put_state_object`] puts the object of
+//! one. [`rows_have_lines`] is the law that what `stat` prints of keys and associations are such lines.
+//!
 //! A recording is what the word `audit` reads: [`begin_recording`] puts the octets that it begins with, and [`put_run`]
 //! a run, which is the length of what the run wrote in 4 octets, and that.
 #![tactic(auto)]
@@ -23,6 +29,12 @@ mod recording;
 mod records;
 mod run_fault;
 mod show;
+mod state_ends;
+mod state_laws;
+mod state_line;
+mod state_object;
+mod state_reading;
+mod state_stream;
 mod values;
 mod words;
 
@@ -30,8 +42,15 @@ pub use answer_text::Form;
 pub use answers::put_answers;
 pub use ends::End;
 pub use laws::{items_said_again, line_says_itself};
+pub use lines::{NextLine, next_line};
 pub use printing::{put_fence, put_record};
 pub use recording::{begin_recording, put_run};
 pub use records::put_records;
 pub use run_fault::RunFault;
 pub use show::put_lines;
+pub use state_ends::StateEnd;
+pub use state_laws::rows_have_lines;
+pub use state_line::StateLine;
+pub use state_object::put_state_object;
+pub use state_reading::read_state_line;
+pub use state_stream::put_state_objects;

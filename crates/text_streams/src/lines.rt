@@ -14,6 +14,8 @@ const MOST_LINE: usize = 8192;
 pub enum NextLine {
     /// A line, without its line feed.
     Line(Vec<u8>),
+    /// The last line, which lacks its line feed.
+    Last(Vec<u8>),
     /// Nothing stands behind the last line feed.
     End,
     /// The line has more than 8,192 octets.
@@ -42,7 +44,7 @@ fn last_line(line: Vec<u8>) -> NextLine
     if line.is_empty() {
         NextLine::End
     } else {
-        NextLine::Line(line)
+        NextLine::Last(line)
     }
 }
 

@@ -58,7 +58,12 @@ fn take_next<S: Source>(
     ensures later { S.faults source.old ≤ S.faults source.new }
 {
     match next_line(alloc, source) {
-        Ok(NextLine::Line(text)) => take_line(alloc, out, number, text.as_slice()),
+        Ok(NextLine::Line(text) | NextLine::Last(text)) => take_line(
+            alloc,
+            out,
+            number,
+            text.as_slice(),
+        ),
         Ok(NextLine::End) => Some(End::Done),
         Ok(NextLine::Long) => Some(End::LongLine(number)),
         Ok(NextLine::SourceFault) => Some(End::SourceFault),

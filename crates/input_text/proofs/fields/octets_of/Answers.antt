@@ -1,7 +1,8 @@
 use Rattle.std.proofs.Common.{◌≡◌, sym, ap, ◌∙◌, rules, inl, inr}
 use Rattle.hex.specs.Hex.{encode_lower}
 use Rattle.hex.proofs.HexLemmas.{decode_of-ok}
-use Rattle.input_text.proofs.Texts.{octets_decoded, ok_is}
+use Rattle.text_words.proofs.Numbers.{ok_is}
+use Rattle.input_text.proofs.Texts.{octets_decoded}
 use Rattle.input_text.proofs.fields.octets_of.Goals as goal
 
 pub returns-then-eq-clause-read : goal.returns-then-eq-clause-read

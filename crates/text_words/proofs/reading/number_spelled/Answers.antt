@@ -1,7 +1,7 @@
 use Rattle.std.proofs.Common.{◌≡◌, sym, ap, ◌∙◌, rules, Some}
 use Rattle.std.specs.Fmt.{decimal}
-use Rattle.input_text.proofs.Texts.{number_is_text, number_is_parsed, ok_is}
-use Rattle.input_text.proofs.fields.number_of.Goals as goal
+use Rattle.text_words.proofs.Numbers.{number_is_text, number_is_parsed, ok_is}
+use Rattle.text_words.proofs.reading.number_spelled.Goals as goal
 
 pub returns-in_default-clause-only : goal.returns-in_default-clause-only
 returns-in_default-clause-only c n small is = absurd (c.in_default.ensures.cases.0 (number_is_text n c.args.word.now small is))
