@@ -1,20 +1,17 @@
 ghost use Rattle.std.specs.Prelude.{◌≡◌};
 ghost use Rattle.input_text.specs.declared.fault.LineError.TheVariants.{NoMemory};
 
+use crate::listed::{Directions, Kinds, Messages, Procedures, Suites};
 use crate::seen::Seen;
 use std::alloc::{AllocError, AllocFailed};
 use thiserror::Error;
 
-/// The word of a Self test: within an attribute it would name a test of the crate.
-const SELF_TEST: &str = "self-test";
-
 /// What was expected at a word.
 #[derive(Clone, Copy, Debug, Error)]
 pub enum Expected {
-    #[error("protect, open, command, fence or at, or a monitoring message, which is ping, log-status, dump-log, erase-log, \
-         {name}, alarm-reset or monitor", name = SELF_TEST)]
+    #[error("{kinds}, or a monitoring message, which is {messages}", kinds = Kinds, messages = Messages)]
     Kind,
-    #[error("ping, log-status, dump-log, erase-log, {name}, alarm-reset or monitor", name = SELF_TEST)]
+    #[error("{messages}", messages = Messages)]
     Message,
     #[error("a lane, 0 to 15")]
     Lane,
@@ -26,8 +23,7 @@ pub enum Expected {
     Asked,
     #[error("a link, 0 to 255")]
     Link,
-    #[error("octets or a procedure, which are rekeying, activate, deactivate, verify, destroy, inventory, compose, \
-         read-number, create, delete, set-window, rekey, expire, set-number, start, stop and status")]
+    #[error("octets or a procedure, which are {procedures}", procedures = Procedures)]
     Procedure,
     #[error("an index, 1 to 65534")]
     Spi,
@@ -39,9 +35,9 @@ pub enum Expected {
     First,
     #[error("a number from the first on, at most 65535")]
     Last,
-    #[error("send or receive")]
+    #[error("{directions}", directions = Directions)]
     Direction,
-    #[error("cmac or gcm")]
+    #[error("{suites}", suites = Suites)]
     Suite,
     #[error("a window, 1 to 4294967296")]
     Window,

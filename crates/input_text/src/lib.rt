@@ -9,6 +9,7 @@ mod fault;
 mod fields;
 mod item;
 mod line;
+mod listed;
 mod lists;
 mod plain;
 mod seen;

@@ -10,7 +10,8 @@ mod words;
 
 pub use members::{put_name, put_number_member, put_quoted, put_word_member};
 pub use names::{
-    MessageName, item_word, message_named, message_word, procedure_named, procedure_word,
+    MessageName, item_word, message_named, message_word, messages, procedure_named, procedure_word,
+    procedures,
 };
 pub use putting::{
     put_decimal, put_octets, put_spaced, put_spaced_digits, put_spaced_number, put_spaced_octets,

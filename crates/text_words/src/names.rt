@@ -1,7 +1,8 @@
 //! The names of items, procedures and monitoring messages.
-ghost use Rattle.std.specs.Prelude.{◌≡◌};
+ghost use Rattle.std.specs.Prelude.{◌≡◌, ◌++◌};
 ghost use Rattle.std.specs.Str.{bytes_eq};
-ghost use Rattle.text_words.specs.Names.{association_procedures, item_word, key_procedures, message_named, message_word};
+ghost use Rattle.text_words.specs.Names.{all_messages, association_procedures, item_word, key_procedures};
+ghost use Rattle.text_words.specs.Names.{message_named, message_word};
 ghost use Rattle.text_words.specs.Names.{procedure_among, procedure_named, procedure_word};
 
 use ep_codec::Procedure;
@@ -29,6 +30,45 @@ pub fn item_word(kind: ItemKind) -> &'static [u8]
         ItemKind::Recorded(RecordKind::Command) => b"command",
         ItemKind::Recorded(RecordKind::Monitor) => b"monitor",
     }
+}
+
+/// All procedures: those that manage keys, and behind them those that manage associations.
+pub fn procedures() -> [Procedure; 17]
+    ensures { result ≡ key_procedures ++ association_procedures }
+{
+    [
+        Procedure::Rekeying,
+        Procedure::Activate,
+        Procedure::Deactivate,
+        Procedure::Verify,
+        Procedure::Destroy,
+        Procedure::Inventory,
+        Procedure::Compose,
+        Procedure::ReadNumber,
+        Procedure::Create,
+        Procedure::Delete,
+        Procedure::SetWindow,
+        Procedure::Rekey,
+        Procedure::Expire,
+        Procedure::SetNumber,
+        Procedure::Start,
+        Procedure::Stop,
+        Procedure::Status,
+    ]
+}
+
+/// All monitoring messages.
+pub fn messages() -> [MessageName; 6]
+    ensures { result ≡ all_messages }
+{
+    [
+        MessageName::Ping,
+        MessageName::LogStatus,
+        MessageName::DumpLog,
+        MessageName::EraseLog,
+        MessageName::SelfTest,
+        MessageName::AlarmReset,
+    ]
 }
 
 /// The name of a procedure.
