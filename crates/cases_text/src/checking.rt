@@ -36,7 +36,8 @@ impl Faults {
 
 fn end_name(end: PlanEnd) -> &'static str {
     match end {
-        PlanEnd::Plan => "a plan",
+        PlanEnd::Plan(None) => "a plan",
+        PlanEnd::Plan(Some(_)) => "a plan with a note",
         PlanEnd::NoPlan => "no plan",
         PlanEnd::SourceFault => "source fault",
         PlanEnd::OutputFault => "output fault",
@@ -53,7 +54,11 @@ fn check_source(
 ) -> Result<(), AllocError> {
     let end = put_plan(alloc, source, sink);
     answer.push_str(str::from_utf8(sink.sunk()).unwrap_or("no text\n"))?;
-    write!(answer, "{}, status {}", end_name(end), end.status())
+    answer.push_str(end_name(end))?;
+    if let PlanEnd::Plan(Some(line)) = end {
+        write!(answer, " on line {line}")?;
+    }
+    write!(answer, ", status {}", end.status())
 }
 
 /// Writes what is put for a text, and how the check of it ends.

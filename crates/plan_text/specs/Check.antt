@@ -9,6 +9,7 @@ use Rattle.unit_plan.specs.Plan.{plan_of}
 use Rattle.unit_state.specs.declared.state.State.{State}
 use Rattle.unit_state.specs.Initial.{initial}
 use Rattle.status_text.specs.Text.{status_text}
+use Rattle.plan_text.specs.Moved.{moved_line}
 use Rattle.plan_text.specs.declared.check.Checked.{Checked}
 use Rattle.plan_text.specs.declared.check.Checked.TheVariants.{Plan, NoPlan}
 
@@ -30,12 +31,13 @@ Judges text (Err errors.NoMemory) = ⊤
 
 -- what is said of a text that is no plan: the first line that is named is that of its first fault
 abbrev pub SaysFault : PlanFault → Checked → Type 0
-SaysFault fault (Plan summary) = ⊥
+SaysFault fault (Plan summary moved) = ⊥
 SaysFault fault (NoPlan first others) = first.line ≡ fault.line
 
--- What is said of a text: the summary of its state, of whose image no slot is used, if it is a plan that makes a state;
--- notes, the first of them on the line of the first fault, if it has one.
+-- What is said of a text: the summary of its state, of whose image no slot is used, and the line of the first
+-- association whose frames can be changed into others, if it is a plan that makes a state; notes, the first of them on
+-- the line of the first fault, if it has one.
 abbrev pub Tells : List ℕ → Checked → Type 0
-Tells text (Plan summary) = (plan : PlanLines) × (state : State) × Makes text plan state
-    × (summary.items ≡ status_text state 0 plan.slots)
+Tells text (Plan summary moved) = (plan : PlanLines) × (state : State) × Makes text plan state
+    × (summary.items ≡ status_text state 0 plan.slots) × (moved ≡ moved_line text plan)
 Tells text (NoPlan first others) = (fault : PlanFault) × (state_of text ≡ Err fault) × (first.line ≡ fault.line)

@@ -1,3 +1,4 @@
 pub mod Check
+pub mod Moved
 pub mod Put
 pub mod Wanted

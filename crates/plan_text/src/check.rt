@@ -5,6 +5,7 @@ ghost use Rattle.plan_text.specs.Check.{Judges, SaysFault, Tells};
 use crate::above::Above;
 use crate::books::refused_lines;
 use crate::mending::plan_without;
+use crate::moved::moved_line;
 use crate::note::{PlanNote, note_of};
 use crate::reader::Fault;
 use crate::wanted::Wanted;
@@ -17,8 +18,12 @@ use unit_state::State;
 /// What a text is as a plan.
 #[derive(Drop)]
 pub enum Checked {
-    /// A plan, which makes a state: the text that `stat` prints of it.
-    Plan(Vec<u8>),
+    /// A plan, which makes a state: the text that `stat` prints of it. If an association under CMAC covers a channel of
+    /// a TM link whose mask leaves out the secondary header flag, the line of the first one.
+    Plan {
+        summary: Vec<u8>,
+        moved: Option<u32>,
+    },
     /// No plan: the line that `init` names, and the others that are at fault. Of these the ones stand first that
     /// reading finds, and behind them those that the books refuse, each in the order of the lines.
     NoPlan {
@@ -134,7 +139,11 @@ pub fn check_plan(alloc: Global, text: &[u8]) -> Result<Checked, NoMemory>
     ensures { IfOk result (Tells text.now) }
 {
     match judge(alloc, text) {
-        Ok((plan, state)) => Ok(Checked::Plan(status_text(alloc, &state, 0, plan.slots())?)),
+        Ok((plan, state)) => {
+            let summary = status_text(alloc, &state, 0, plan.slots())?;
+            let moved = moved_line(text, &plan);
+            Ok(Checked::Plan { summary, moved })
+        }
         Err(PlanError::Refused(fault)) => say(alloc, text, fault),
         Err(PlanError::NoMemory) => Err(NoMemory),
     }

@@ -4,7 +4,8 @@
 //! [`check_plan`] checks a text, and [`put_plan`] what a source gives. Whether a text is a plan is decided by
 //! `unit_plan` and `unit_state`. What is said of a line at fault is found by a second reading, which decides nothing:
 //! `line` tests a line from left to right, `books` asks the books of keys and associations about a plan that was read,
-//! and `phrases` has the words for what was expected.
+//! and `phrases` has the words for what was expected. `moved` looks for an association whose frames can be changed into
+//! others, for what the mask of its link leaves out.
 #![tactic(auto)]
 
 mod above;
@@ -12,6 +13,7 @@ mod books;
 mod check;
 mod line;
 mod mending;
+mod moved;
 mod note;
 mod phrases;
 mod put;

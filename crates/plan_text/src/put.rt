@@ -16,8 +16,9 @@ use unit_plan::MOST_OCTETS;
 /// How the check of a plan ends.
 #[derive(Clone, Copy, Debug, PartialEq, Eq)]
 pub enum PlanEnd {
-    /// It is a plan, and what `stat` prints of its state was put.
-    Plan,
+    /// It is a plan, and what `stat` prints of its state was put. If an association under CMAC covers a channel of a TM
+    /// link whose mask leaves out the secondary header flag, the line of the first one.
+    Plan(Option<u32>),
     /// It is none, and a line was put for each line at fault.
     NoPlan,
     SourceFault,
@@ -31,7 +32,7 @@ impl PlanEnd {
         ensures { result ≡ plan_status self }
     {
         match self {
-            PlanEnd::Plan => DONE,
+            PlanEnd::Plan(_) => DONE,
             PlanEnd::NoPlan => MALFORMED,
             PlanEnd::SourceFault => SOURCE_FAULT,
             PlanEnd::OutputFault => SITE_FAULT,
@@ -76,7 +77,7 @@ fn said(alloc: Global, text: &[u8]) -> Result<(PlanEnd, Vec<u8>), NoMemory>
     ensures { IfOk result (λ said. EndsPlan text.now said.1.items said.0) }
 {
     match check_plan(alloc, text)? {
-        Checked::Plan(summary) => Ok((PlanEnd::Plan, summary)),
+        Checked::Plan { summary, moved } => Ok((PlanEnd::Plan(moved), summary)),
         Checked::NoPlan { first, others } => {
             Ok((
                 PlanEnd::NoPlan,

@@ -61,6 +61,11 @@ Examples:
 /// What the program is; from what it was built its launcher says.
 const VERSION: &str = "sdls_text for recorded input SDLSREC1";
 
+/// What is noted of an association under CMAC on a TM link whose mask leaves out the secondary header flag.
+const MOVED: &str = "\
+under CMAC a bit that the mask of a TM link leaves out moves the header: give the link the mask fffe00008000, \
+or never use a key under a second SPI";
+
 /// What the words ask for.
 #[derive(Clone, Copy)]
 enum Mode {
@@ -143,6 +148,13 @@ fn print_no_line(rt: &HostRuntime, end: StateEnd) -> u8 {
     end.status()
 }
 
+/// Notes on standard error the line of an association whose frames can be changed into others, if there is one.
+fn note_moved(rt: &HostRuntime, moved: Option<u32>) {
+    if let Some(line) = moved {
+        let _ = eprintln!(rt; "sdls_text: note: line {line}: {MOVED}");
+    }
+}
+
 /// Prints a page on standard output, and answers the status.
 fn print_page(rt: &HostRuntime, page: &str) -> u8 {
     match println!(rt; "{page}") {
@@ -177,7 +189,10 @@ fn main(rt: HostRuntime) -> ExitCode {
             }
         }
         Mode::Plan => match put_plan(alloc, &mut source, &mut FileSite::new(rt)) {
-            PlanEnd::Plan => End::Done,
+            PlanEnd::Plan(moved) => {
+                note_moved(&rt, moved);
+                End::Done
+            }
             end @ PlanEnd::NoPlan => return ExitCode::from(end.status()),
             PlanEnd::SourceFault => End::SourceFault,
             PlanEnd::OutputFault => End::OutputFault,
