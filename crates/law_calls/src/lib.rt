@@ -2,14 +2,10 @@
 //! answer that its record has (profile).
 //!
 //! There is no code to run here: definitions stand in `specs`, and the functions are laws over them, with an empty
-//! body. Each takes what a call of `shared_unit` ensures, and tells the piece of work that it is. Read
-//! [`protecting_answers`] first.
+//! body. Each law takes what a call of `shared_unit` ensures, and tells the piece of work that it is. Those of calls
+//! that answer a record are lemmas of `proofs`, which those of other crates cite: read `protecting_answers` first.
 #![tactic(auto)]
 
-mod answering;
-mod exactly;
 mod putting;
 
-pub use answering::{commanding_answers, opening_answers, protecting_answers, unserved_answers};
-pub use exactly::{commanding_is_exact, opening_is_exact, protecting_is_exact, unserved_is_exact};
 pub use putting::{putting_settles, putting_works, visiting_works};

@@ -1,5 +1,5 @@
 -- What was settled stays so while the run goes on, and a segment's answers are settled at the first put behind it.
-use Rattle.std.proofs.Common.{◌≡◌, ℕ, suc, ◌+◌, ◌<◌, ◌≤◌, List, [], ◌∷◌, ◌++◌, length, take, IsTrue, refl, sym, ◌∙◌, ap, subst, arith, le_trans, append_assoc, append-nil, length-append}
+use Rattle.std.proofs.Common.{◌≡◌, ℕ, suc, ◌+◌, ◌<◌, ◌≤◌, List, [], ◌∷◌, ◌++◌, length, take, IsTrue, refl, sym, ◌∙◌, ap, subst, arith, le_trans, append_assoc, length-append}
 use Rattle.std.specs.List.{All, slice_index_or}
 use Rattle.std.proofs.lemmas.List.{take-append-le, take_all}
 use Rattle.sdls_base.specs.Numbers.{times}
@@ -16,12 +16,12 @@ use Rattle.run_promise.specs.Fits.{Course}
 use Rattle.run_promise.specs.Begin.{Begin}
 use Rattle.law_workers.specs.Views.{log_of, entries_in, KnowsMore}
 use Rattle.run_promise.specs.Deed.{Deed, tells_entry, epoch_told}
-use Rattle.law_workers.specs.Deeds.{Does, AllBoth, course_in}
+use Rattle.law_workers.specs.Deeds.{Does, course_in}
 use Rattle.law_workers.proofs.Logs.{entries_low, told_kept, times_both}
 use Rattle.law_workers.proofs.Working.{grown_entries, row_later, told_later}
-use Rattle.law_workers.proofs.Joining.{does_then, grows_itself, grows_further}
+use Rattle.law_workers.proofs.Joining.{grows_itself}
 use Rattle.run_promise.specs.Sound.{deeds_octets, IsCoveredBy}
-use Rattle.law_runs.specs.Settled.{AnswerIsSettled, AreSettled, UnderWay}
+use Rattle.law_runs.specs.Settled.{AnswerIsSettled, AreSettled}
 use Rattle.law_workers.specs.Settles.{SettlesAt}
 
 pub octets_both : (a b : List Deed) → deeds_octets (a ++ b) ≡ deeds_octets a ++ deeds_octets b
@@ -79,25 +79,6 @@ settled_both course stored log at next [] es is a b = subst (λ (n : ℕ). AreSe
 settled_both course stored log at next (d ∷ ds) es is a b =
     let size = length-append (answer_octets d.answer) (deeds_octets ds) in
     (a.0, settled_both course stored log (at + length (answer_octets d.answer)) next ds es (omega arith) a.1 b)
-
--- A segment was handled, and its answers were put: the run is under way with them. W is the view after the segment, z the
--- one after the puts, of which nothing but the pieces was made.
-pub goes_on : (begin : Begin) (first v w z : View) (stored more : ℕ) (ts us : List Record) (ds es : List Deed) → UnderWay begin first v stored ts ds
-    → Does begin v w us es → AllBoth (λ (d e : Deed). d.task.index < e.task.index) ds es → Does begin w z [] []
-    → pieces_of (log_of z) ≡ pieces_of (log_of v) ++ deeds_octets es → stored ≤ more
-    → AreSettled (course_in begin z) more (log_of z) (length (deeds_octets ds)) es
-    → UnderWay begin first z more (ts ++ us) (ds ++ es)
-goes_on begin first v w z stored more ts us ds es way segment turns puts put fewer settled =
-    let both : Does begin first w (ts ++ us) (ds ++ es) = does_then begin first v w ts us ds es way.does segment turns in
-    let all : Does begin first z ((ts ++ us) ++ []) ((ds ++ es) ++ []) =
-    does_then begin first w z (ts ++ us) [] (ds ++ es) [] both puts (λ i d l j e m. absurd (omega arith)) in
-    record {
-      does = subst (λ (l : List Record). Does begin first z l (ds ++ es)) (append-nil (ts ++ us))
-          (subst (Does begin first z ((ts ++ us) ++ [])) (append-nil (ds ++ es)) all);
-      put = put ∙ (ap (λ (l : List ℕ). l ++ deeds_octets es) way.put ∙ sym (octets_both ds es));
-      settled = settled_both (course_in begin z) more (log_of z) 0 (length (deeds_octets ds)) ds es (omega arith)
-          (settled_later begin v z (grows_further v w z segment.grows puts.grows) stored more fewer 0 ds way.settled) settled;
-    }
 
 module _ (begin : Begin) (u v z : View) (us : List Record) (es : List Deed) (d : Does begin u v us es) (grows : KnowsMore v z)
     (stored s count : ℕ) (tells : SettlesAt begin v z stored s count)

@@ -1,16 +1,11 @@
 -- That an answer is settled before an octet of it is put (profile).
-use Rattle.std.specs.Prelude.{◌≡◌, ⊤, ℕ, ◌+◌, ◌≤◌, List, [], ◌∷◌, length, take}
+use Rattle.std.specs.Prelude.{⊤, ℕ, ◌+◌, ◌≤◌, List, [], ◌∷◌, length, take}
 use Rattle.sdls_base.specs.declared.entry.Logged.{Logged}
-use Rattle.record_io.specs.declared.records.Record.{Record}
 use Rattle.record_io.specs.Answers.{answer_octets}
-use Rattle.counter_table.specs.declared.view.View.{View}
 use Rattle.run_promise.specs.Log.{entries_of, pieces_of}
 use Rattle.run_promise.specs.Fits.{Course}
-use Rattle.run_promise.specs.Begin.{Begin}
-use Rattle.law_workers.specs.Views.{log_of}
 use Rattle.run_promise.specs.Deed.{Deed}
-use Rattle.law_workers.specs.Deeds.{Does, course_in}
-use Rattle.run_promise.specs.Sound.{deeds_octets, IsCoveredBy}
+use Rattle.run_promise.specs.Sound.{IsCoveredBy}
 
 -- The answer was settled before an octet of it was put: so many lines of the log stood then, and so many entries were
 -- stored, whose state covers it. The first octet of the answer is the one at this place among the octets put.
@@ -29,11 +24,3 @@ AreSettled course stored log at [] = ⊤
 AreSettled course stored log at (deed ∷ deeds) =
     AnswerIsSettled course stored log at deed
     × AreSettled course stored log (at + length (answer_octets deed.answer)) deeds
-
--- A run under way: what the first worker did since the opening, that the answers were put, and that each was settled
--- before.
-pub record UnderWay (begin : Begin) (first now : View) (stored : ℕ) (records : List Record)
-    (deeds : List Deed) : Type 0 where
-  pub does : Does begin first now records deeds
-  pub put : pieces_of (log_of now) ≡ deeds_octets deeds
-  pub settled : AreSettled (course_in begin now) stored (log_of now) 0 deeds

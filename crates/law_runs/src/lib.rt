@@ -10,7 +10,6 @@
 mod life;
 mod repeated;
 mod status;
-mod under_way;
 mod whole;
 
 pub use life::{
@@ -24,8 +23,4 @@ pub use status::{
     due_is_put, faults_are_told, full_is_told, goes_to_its_end, refused_stays,
     status_five_has_a_fault, status_tells_what_came, unhindered_run_completes, zero_says_all,
 };
-pub use under_way::{answers_settle, moment_is_sound, run_goes_on, segment_goes_on};
-pub use whole::{
-    no_records_are_sound, reading_keeps_lives, refused_run_ends, run_ends_well, run_is_sound,
-    run_stands,
-};
+pub use whole::{no_records_are_sound, reading_keeps_lives, refused_run_ends, run_ends_well};

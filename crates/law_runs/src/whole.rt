@@ -1,64 +1,26 @@
 //! Laws of whole runs, from the opening to the end.
-ghost use Rattle.std.specs.Prelude.{◌≡◌, Bool, ℕ, ◌<◌, ◌≤◌, List, []};
-ghost use Rattle.std.specs.List.{All, AllPairs};
+ghost use Rattle.std.specs.Prelude.{◌≡◌, Bool, ℕ, List, []};
 ghost use Rattle.sdls_base.specs.declared.entry.Entry.{Entry};
 ghost use Rattle.counter_table.specs.declared.view.View.{View};
-ghost use Rattle.record_io.specs.Answers.{IsAnswer};
-ghost use Rattle.record_io.specs.Places.{Place};
 ghost use Rattle.unit_state.specs.declared.state.State.{State};
 ghost use Rattle.unit_book.specs.Book.{BookView};
-ghost use Rattle.run_promise.specs.Begin.{Begin};
-ghost use Rattle.law_workers.specs.Views.{entries_in};
-ghost use Rattle.run_promise.specs.Deed.{Deed};
-ghost use Rattle.law_runs.specs.AtEnd.{course_at_end, EndsRun, StaysCovered};
-ghost use Rattle.run_promise.specs.Reports.{AreReported};
 ghost use Rattle.run_promise.specs.Sound.{IsSound};
-ghost use Rattle.sdls_outside.specs.Faults.{Rose};
-ghost use Rattle.record_io.specs.declared.answers.Answer.{Answer};
 ghost use Rattle.unit_plan.specs.PlanLines.{PlanLines};
 ghost use Rattle.run_promise.specs.Call.{CallSeen, ShowsAtEntry};
 ghost use Rattle.run_promise.specs.Site.{SiteSeen};
-ghost use Rattle.run_promise.specs.Account.{Account, begin_of, course_of, deeds_from};
+ghost use Rattle.run_promise.specs.Account.{Account, course_of};
 ghost use Rattle.run_promise.specs.Lives.{KeepsLivesReading, EndsAndLives};
-ghost use Rattle.counter_table.specs.Whole.{IsWhole, RowStands};
 ghost use Rattle.unit_image.specs.declared.fault.OpenFault.{OpenFault};
-ghost use Rattle.law_runs.specs.Release.{AreReleases};
 ghost use Rattle.record_io.specs.Reading.{SourceSeen};
 ghost use Rattle.run_promise.specs.declared.end.RunEnd.{RunEnd};
 ghost use Rattle.law_runs.specs.Ending.{Finishes};
 ghost use Rattle.law_runs.specs.Ran.{Ran};
 ghost use Rattle.law_runs.specs.Reads.{ReadsAlone};
 ghost use Rattle.law_runs.specs.Refused.{Refused};
-ghost use Rattle.law_runs.specs.Doing.{HasDone, IsBefore, IsFounded};
 
 use crate::life::{sound_call_keeps_lives, sound_reading_keeps_lives};
 use law_image::shown_keeps_rules;
 use unit_image::{refused_with_one, shows_one};
-
-/// Law: a run that one worker did is sound, with the releases behind it, if each monitoring message has the answer of
-/// the log and the fields of answers have their widths; and what covers an answer covers it to the end.
-pub fn run_is_sound()
-    ensures sound { (begin : Begin) (first now : View) (places : List Place) (deeds : List Deed) (words : ℕ → ℕ)
-        (releases : List Entry) (faults : ℕ)
-        → EndsRun begin first now places deeds words releases faults → AreReported [] deeds
-        → All (λ deed. IsAnswer deed.answer) deeds
-        → IsSound (course_at_end begin now releases faults) places deeds }
-    ensures covered { (begin : Begin) (first now : View) (places : List Place) (deeds : List Deed) (words : ℕ → ℕ)
-        (releases : List Entry) (faults : ℕ)
-        → EndsRun begin first now places deeds words releases faults
-        → StaysCovered (course_at_end begin now releases faults) deeds }
-{}
-
-/// Law: what is known of a run at its end, with the releases behind it.
-pub fn run_stands()
-    ensures { (begin : Begin) (first now : View) (places : List Place) (answers : List Answer) → IsFounded begin first
-        → HasDone begin first now places answers → IsWhole begin.rows now → AllPairs IsBefore places
-        → (words : ℕ → ℕ) → ((row : ℕ) → row < begin.rows → RowStands row (words row) now.numbers)
-        → (releases : List Entry) → AreReleases words begin.start (entries_in now) releases
-        → (faults : ℕ) → now.turn.known.faults ≤ faults
-        → (Rose now.turn.known.opening.faults now.turn.known.faults → releases ≡ [])
-        → EndsRun begin first now places (deeds_from places answers) words releases faults }
-{}
 
 /// Law: a call whose book was opened, whose records one worker served, and which released its keys and put End, ends as
 /// a run ends, and continues each life that left the image at its entry.
