@@ -1,5 +1,7 @@
 -- The words for the codes of answers, and what their details name (profile).
 use Rattle.std.specs.Prelude.{ℕ, ◌==◌, if◌then◌else◌, codes, List, [], ◌∷◌, Option, Some, None}
+use Rattle.sdls_base.specs.declared.states.SaState.TheVariants.{Unkeyed, Keyed, Operational}
+use Rattle.text_words.specs.Words.{sa_state_word}
 use Rattle.record_io.specs.declared.status.TheConstants.{MALFORMED, NO_STATE, SOURCE_FAULT}
 use Rattle.record_io.specs.declared.status.TheConstants as statuses
 use Rattle.record_io.specs.declared.codes.AnswerCode.{AnswerCode}
@@ -43,7 +45,8 @@ layout_details =
 
 -- the details of an association that is not operational: its state, or none where none is operational
 abbrev pub state_details : List (ℕ × List ℕ)
-state_details = (0, codes "none") ∷ (1, codes "unkeyed") ∷ (2, codes "keyed") ∷ (3, codes "operational") ∷ []
+state_details = (0, codes "none") ∷ (1, sa_state_word Unkeyed) ∷ (2, sa_state_word Keyed)
+    ∷ (3, sa_state_word Operational) ∷ []
 
 -- the details of a refused command
 abbrev pub refusal_details : List (ℕ × List ℕ)

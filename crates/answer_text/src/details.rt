@@ -4,6 +4,8 @@ ghost use Rattle.std.specs.Option.{option_copied};
 ghost use Rattle.answer_text.specs.Code.{layout_details, state_details, refusal_details, end_numbers, word_of};
 
 use record_io::status::{MALFORMED, NO_STATE, SITE_FAULT, SOURCE_FAULT};
+use sdls_base::SaState;
+use text_words::sa_state_word;
 
 pub(crate) fn layout_detail(detail: u8) -> Option<&'static [u8]>
     ensures { option_copied result ≡ word_of layout_details detail }
@@ -26,9 +28,9 @@ pub(crate) fn state_detail(detail: u8) -> Option<&'static [u8]>
 {
     match detail {
         0 => Some(b"none"),
-        1 => Some(b"unkeyed"),
-        2 => Some(b"keyed"),
-        3 => Some(b"operational"),
+        1 => Some(sa_state_word(SaState::Unkeyed)),
+        2 => Some(sa_state_word(SaState::Keyed)),
+        3 => Some(sa_state_word(SaState::Operational)),
         _ => None,
     }
 }
