@@ -14,12 +14,11 @@ use Rattle.disk_journal.specs.declared.layout.Bank.{Bank}
 use Rattle.disk_journal.specs.declared.layout.HeaderForm.{HeaderForm}
 use Rattle.disk_journal.specs.declared.layout.HeaderForm.TheVariants.{Old, Migrated, New}
 use Rattle.disk_journal.specs.declared.layout.Layout.{Layout}
-use Rattle.disk_journal.specs.declared.layout.TheConstants.{MIGRATED_AT}
-use Rattle.image_parts.specs.Header.{header_of}
-use Rattle.image_parts.proofs.Gating.{records_are, records_stay}
-use Rattle.image_parts.proofs.Ranges.{set_back}
-use Rattle.image_parts.specs.Changes.{AllBut}
-use Rattle.image_parts.specs.declared.layout.TheConstants.{CLOSED, OPEN}
+use Rattle.disk_journal.specs.declared.layout.TheConstants.{MIGRATED_AT, CLOSED, OPEN}
+use Rattle.disk_journal.specs.Header.{header_of}
+use Rattle.disk_journal.proofs.Gating.{records_are, records_stay}
+use Rattle.disk_journal.proofs.Ranges.{set_back}
+use Rattle.disk_journal.specs.Moments.{AllBut}
 use Rattle.std.proofs.Math.ListN.{get_or-eq_default}
 use Rattle.std.proofs.lemmas.Bool.{cases_eq, cases_lt}
 use Rattle.std.proofs.lemmas.List.{ext_get_or, get_or-set_other, get_or-set_same, length-set}

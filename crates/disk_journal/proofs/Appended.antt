@@ -12,12 +12,11 @@ use Rattle.disk_journal.specs.Image.{Held, current, current_at, first_closed, gr
 use Rattle.disk_journal.specs.Journal.{IsSettled, IsSettledImage, JournalView}
 use Rattle.disk_journal.specs.declared.layout.Bank.{Bank}
 use Rattle.disk_journal.specs.declared.layout.Layout.{Layout}
-use Rattle.disk_journal.specs.declared.layout.TheConstants.{BANKS_AT}
-use Rattle.image_parts.proofs.Moments.{image_weaker}
-use Rattle.image_parts.proofs.Ranges.{all_but_then, all_but_wider, overwritten_but, overwritten_length, overwritten_one, overwritten_stretch, same_stretch}
-use Rattle.image_parts.proofs.SlotWrites.{Storing}
-use Rattle.image_parts.specs.Changes.{AllBut, EachImage}
-use Rattle.image_parts.specs.declared.layout.TheConstants.{OPEN, SLOT_LENGTH}
+use Rattle.disk_journal.specs.declared.layout.TheConstants.{BANKS_AT, OPEN, SLOT_LENGTH}
+use Rattle.disk_journal.proofs.Moments.{image_weaker}
+use Rattle.disk_journal.proofs.Ranges.{all_but_then, all_but_wider, overwritten_but, overwritten_length, overwritten_one, overwritten_stretch, same_stretch}
+use Rattle.disk_journal.proofs.SlotWrites.{Storing}
+use Rattle.disk_journal.specs.Moments.{AllBut, EachImage}
 use Rattle.sdls_base.specs.declared.TheConstants.{BODY_LENGTH}
 use Rattle.sdls_outside.specs.Disk.{IsSynced}
 use Rattle.sdls_outside.specs.Moments.{Trace}

@@ -9,12 +9,11 @@ use Rattle.disk_journal.specs.Forms.{Becomes, Holds}
 use Rattle.disk_journal.specs.Image.{Held, IsAtRest, IsClosedGate, grown, plan_of}
 use Rattle.disk_journal.specs.declared.layout.Bank.{Bank}
 use Rattle.disk_journal.specs.declared.layout.Layout.{Layout}
-use Rattle.disk_journal.specs.declared.layout.TheConstants.{CONTENT_AT}
+use Rattle.disk_journal.specs.declared.layout.TheConstants.{CONTENT_AT, CLOSED, HEADER_LENGTH, OPEN, PLAN_ROOM, SLOT_LENGTH}
 use Rattle.byteorder.specs.Endian.{big_number}
-use Rattle.image_parts.proofs.Gating.{records_grow, records_stay}
-use Rattle.image_parts.proofs.Ranges.{all_but_then, all_but_wider, overwritten_but, overwritten_length, overwritten_stretch, same_stretch, set_but}
-use Rattle.image_parts.specs.Changes.{AllBut}
-use Rattle.image_parts.specs.declared.layout.TheConstants.{CLOSED, HEADER_LENGTH, OPEN, PLAN_ROOM, SLOT_LENGTH}
+use Rattle.disk_journal.proofs.Gating.{records_grow, records_stay}
+use Rattle.disk_journal.proofs.Ranges.{all_but_then, all_but_wider, overwritten_but, overwritten_length, overwritten_stretch, same_stretch, set_but}
+use Rattle.disk_journal.specs.Moments.{AllBut}
 use Rattle.sdls_base.specs.declared.TheConstants.{BODY_LENGTH}
 use Rattle.sdls_outside.specs.Site.{overwritten}
 use Rattle.std.proofs.lemmas.Bool.{cases_eq, cases_lt}

@@ -10,15 +10,15 @@ use Rattle.disk_journal.specs.declared.layout.Bank.TheVariants.{First}
 use Rattle.disk_journal.specs.declared.layout.HeaderForm.{HeaderForm}
 use Rattle.disk_journal.specs.declared.layout.HeaderForm.TheVariants.{Old, Migrated, New}
 use Rattle.disk_journal.specs.declared.layout.Layout.{Layout}
-use Rattle.disk_journal.specs.declared.layout.TheConstants.{BANKS_AT, CONTENT_AT, FIRST_GENERATION, GENERATION_AT, GENERATION_LENGTH}
+use Rattle.disk_journal.specs.declared.layout.TheConstants.{BANKS_AT, CONTENT_AT, FIRST_GENERATION, GENERATION_AT, GENERATION_LENGTH, CLOSED, HEADER_LENGTH, MAGIC_AT, OPEN, PLAN_ROOM, SLOT_LENGTH}
 use Rattle.byteorder.specs.Endian.{big_bytes}
-use Rattle.image_parts.proofs.Zeros.{length_zeros, more_zeros, synced_ok, zeros_end}
-use Rattle.image_parts.proofs.Moments.{image_same, image_then, image_weaker, sync_moments}
-use Rattle.image_parts.proofs.Ranges.{overwritten_length}
-use Rattle.image_parts.specs.Changes.{AllBut, EachImage}
-use Rattle.image_parts.specs.Header.{header_of}
-use Rattle.image_parts.specs.Zeros.{zeros}
-use Rattle.image_parts.specs.declared.layout.TheConstants.{CLOSED, HEADER_LENGTH, MAGIC_AT, OPEN, PLAN_ROOM, SLOT_LENGTH}
+use Rattle.disk_journal.proofs.Lengths.{synced_ok}
+use Rattle.disk_journal.proofs.ZeroLists.{length_zeros, more_zeros, zeros_end}
+use Rattle.disk_journal.proofs.Moments.{image_same, image_then, image_weaker, sync_moments}
+use Rattle.disk_journal.proofs.Ranges.{overwritten_length}
+use Rattle.disk_journal.specs.Moments.{AllBut, EachImage}
+use Rattle.disk_journal.specs.Header.{header_of}
+use Rattle.disk_journal.specs.Zeros.{zeros}
 use Rattle.sdls_base.specs.FirstFailing.{first_failing}
 use Rattle.sdls_base.specs.Version.{content_length_of}
 use Rattle.sdls_outside.proofs.Moments.{each_writes}

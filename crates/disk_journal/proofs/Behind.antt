@@ -2,10 +2,9 @@
 use Rattle.std.proofs.Common.{◌≡◌, ℕ, ◌+◌, ◌-◌, ◌<◌, ◌≤◌, ◌++◌, ◌∷◌, ◌∙◌, List, [], length, get_or, take, drop, replicate, max, refl, sym, ap, subst, inl, inr, arith, length-append, length-drop, Result, Ok, Err}
 use Rattle.byteorder.specs.Endian.{big_bytes}
 use Rattle.disk_journal.specs.Changes.{IsPendingBehind, IsZero, KeepsBelow, KeepsPast, with_front}
-use Rattle.disk_journal.specs.declared.layout.TheConstants.{CONTENT_AT, GENERATION_AT, GENERATION_LENGTH}
-use Rattle.image_parts.specs.declared.layout.TheConstants.{OPEN}
-use Rattle.image_parts.proofs.Moments.{image_same, image_then, sync_moments}
-use Rattle.image_parts.specs.Changes.{EachImage}
+use Rattle.disk_journal.specs.declared.layout.TheConstants.{CONTENT_AT, GENERATION_AT, GENERATION_LENGTH, OPEN}
+use Rattle.disk_journal.proofs.Moments.{image_same, image_then, sync_moments}
+use Rattle.disk_journal.specs.Moments.{EachImage}
 use Rattle.sdls_outside.proofs.Moments.{each_writes}
 use Rattle.sdls_outside.specs.Disk.{Disk, IsSynced, Leaves, Outside}
 use Rattle.sdls_outside.specs.Moments.{Trace}

@@ -5,7 +5,7 @@ use Rattle.disk_journal.specs.Fault.{bank_checks}
 use Rattle.disk_journal.specs.Image.{is_open}
 use Rattle.disk_journal.specs.declared.layout.Bank.{Bank}
 use Rattle.disk_journal.specs.declared.layout.Bank.TheVariants.{First, Second}
-use Rattle.image_parts.specs.declared.layout.TheConstants.{OPEN}
+use Rattle.disk_journal.specs.declared.layout.TheConstants.{OPEN}
 use Rattle.sdls_base.specs.FirstFailing.{first_failing}
 use Rattle.std.proofs.lemmas.Bool.{cases_eq}
 use Rattle.std.proofs.lemmas.Bool.Decides.{nat_tests}

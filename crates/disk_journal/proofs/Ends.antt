@@ -12,11 +12,10 @@ use Rattle.disk_journal.specs.Journal.{IsSettled, IsSettledImage, JournalView}
 use Rattle.disk_journal.specs.Rest.{IsRest, IsRestIn}
 use Rattle.disk_journal.specs.declared.layout.Bank.{Bank}
 use Rattle.disk_journal.specs.declared.layout.Layout.{Layout}
-use Rattle.disk_journal.specs.declared.layout.TheConstants.{BANKS_AT, MIGRATED_AT}
-use Rattle.image_parts.proofs.Moments.{image_weaker, synced_holds}
-use Rattle.image_parts.proofs.Ranges.{overwritten_but, overwritten_one}
-use Rattle.image_parts.specs.Changes.{AllBut, EachImage}
-use Rattle.image_parts.specs.declared.layout.TheConstants.{CLOSED, OPEN}
+use Rattle.disk_journal.specs.declared.layout.TheConstants.{BANKS_AT, MIGRATED_AT, CLOSED, OPEN}
+use Rattle.disk_journal.proofs.Moments.{image_weaker, synced_holds}
+use Rattle.disk_journal.proofs.Ranges.{overwritten_but, overwritten_one}
+use Rattle.disk_journal.specs.Moments.{AllBut, EachImage}
 use Rattle.sdls_outside.specs.Disk.{IsSynced, Leaves}
 use Rattle.sdls_outside.specs.Moments.{Trace}
 use Rattle.std.proofs.lemmas.Bool.{cases_eq}

@@ -2,8 +2,8 @@
 use Rattle.std.proofs.Common.{ℕ, ◌+◌, sym, subst, inl, refl, Result, Ok, Err}
 use Rattle.disk_journal.specs.Changes.{GatedForm, IsErased, IsZero, Row}
 use Rattle.disk_journal.specs.declared.layout.HeaderForm.{HeaderForm}
-use Rattle.image_parts.proofs.Moments.{image_same, synced_holds}
-use Rattle.image_parts.specs.Changes.{AllBut, EachImage}
+use Rattle.disk_journal.proofs.Moments.{image_same, synced_holds}
+use Rattle.disk_journal.specs.Moments.{AllBut, EachImage}
 use Rattle.sdls_outside.specs.Disk.{IsSynced}
 use Rattle.sdls_outside.specs.Moments.{Trace}
 use Rattle.sdls_outside.specs.Site.{Syncs}

@@ -3,7 +3,7 @@ use Rattle.std.proofs.Common.{◌≡◌, ◌≢◌, ℕ, zero, suc, ◌+◌, ◌
 use Rattle.disk_journal.specs.Banks.{other, slot_at}
 use Rattle.disk_journal.specs.Fault.{gate_checks}
 use Rattle.disk_journal.specs.declared.layout.Layout.{Layout}
-use Rattle.image_parts.specs.declared.layout.TheConstants.{CLOSED}
+use Rattle.disk_journal.specs.declared.layout.TheConstants.{CLOSED}
 use Rattle.sdls_base.specs.FirstFailing.{first_failing}
 use Rattle.std.proofs.lemmas.Bool.{cases_eq}
 use Rattle.std.proofs.lemmas.Bool.Decides.{nat_tests}

@@ -2,7 +2,7 @@
 use Rattle.std.proofs.Common.{◌≡◌, ℕ, ◌+◌, ◌-◌, ◌*◌, ◌<◌, ◌≤◌, ◌∙◌, List, length, get_or, take, drop, sym, ap, inl, inr, arith}
 use Rattle.std.proofs.lemmas.List.{get_or-drop, get_or-take, length-take}
 use Rattle.std.proofs.lemmas.Bool.{cases_lt}
-use Rattle.image_parts.specs.declared.layout.TheConstants.{SLOT_LENGTH}
+use Rattle.disk_journal.specs.declared.layout.TheConstants.{SLOT_LENGTH}
 use Rattle.disk_journal.specs.Banks.{slot_at, gate_at}
 use Rattle.disk_journal.specs.Gates.{IsFirstOther}
 use Rattle.disk_journal.specs.declared.layout.Layout.{Layout}

@@ -6,16 +6,14 @@ use Rattle.disk_journal.proofs.Keeping.{header_bounds, header_passed, header_pas
 use Rattle.disk_journal.proofs.Stands.{HasFront, banks_behind}
 use Rattle.disk_journal.specs.Banks.{image_end, layout_of, zeros_at_of}
 use Rattle.disk_journal.specs.Fault.{header_checks}
-use Rattle.disk_journal.specs.Header.{form_in, has_magic}
+use Rattle.disk_journal.specs.Header.{form_in, has_magic, header_of, plan_length_in, slot_count_in}
 use Rattle.disk_journal.specs.Image.{image_layout, plan_of}
 use Rattle.disk_journal.specs.declared.layout.HeaderForm.{HeaderForm}
 use Rattle.disk_journal.specs.declared.layout.HeaderForm.TheVariants.{Old, Migrated, New}
 use Rattle.disk_journal.specs.declared.layout.Layout.{Layout}
-use Rattle.disk_journal.specs.declared.layout.TheConstants.{MAGIC_ONE, MAGIC_TWO, MIGRATED_AT}
-use Rattle.image_parts.proofs.Ranges.{same_stretch}
-use Rattle.image_parts.specs.Changes.{AllBut}
-use Rattle.image_parts.specs.Header.{header_of, plan_length_in, slot_count_in}
-use Rattle.image_parts.specs.declared.layout.TheConstants.{FIELD_LENGTH, HEADER_LENGTH, LEAST_SLOTS, MAGIC_AT, MOST_SLOTS, OPEN, PLAN_LENGTH_AT, PLAN_ROOM, SLOT_COUNT_AT}
+use Rattle.disk_journal.specs.declared.layout.TheConstants.{MAGIC_ONE, MAGIC_TWO, MIGRATED_AT, FIELD_LENGTH, HEADER_LENGTH, LEAST_SLOTS, MAGIC_AT, MOST_SLOTS, OPEN, PLAN_LENGTH_AT, PLAN_ROOM, SLOT_COUNT_AT}
+use Rattle.disk_journal.proofs.Ranges.{same_stretch}
+use Rattle.disk_journal.specs.Moments.{AllBut}
 use Rattle.sdls_base.specs.FirstFailing.{first_failing}
 use Rattle.std.proofs.lemmas.Bool.Decides.{nat_tests}
 use Rattle.std.proofs.Math.ListN.{get_or-eq_default}

@@ -8,7 +8,7 @@ use Rattle.disk_journal.specs.Banks.{bank_at, bank_length, banks_of, generation_
 use Rattle.disk_journal.specs.Changes.{IsZero}
 use Rattle.disk_journal.specs.Fault.{header_checks}
 use Rattle.disk_journal.specs.Forms.{Holds}
-use Rattle.disk_journal.specs.Header.{form_in, has_magic}
+use Rattle.disk_journal.specs.Header.{form_in, has_magic, header_of, plan_length_in, slot_count_in}
 use Rattle.disk_journal.specs.Image.{current, image_layout, plan_of}
 use Rattle.disk_journal.specs.Initial.{BeginsAtRest, banks_at_rest, created_image, fields_of, front_image, migration_of}
 use Rattle.disk_journal.specs.declared.layout.Bank.{Bank}
@@ -16,13 +16,11 @@ use Rattle.disk_journal.specs.declared.layout.Bank.TheVariants.{First, Second}
 use Rattle.disk_journal.specs.declared.layout.HeaderForm.{HeaderForm}
 use Rattle.disk_journal.specs.declared.layout.HeaderForm.TheVariants.{Old, Migrated, New}
 use Rattle.disk_journal.specs.declared.layout.Layout.{Layout}
-use Rattle.disk_journal.specs.declared.layout.TheConstants.{BANKS_AT, CONTENT_AT, FIRST_GENERATION, GENERATION_AT, GENERATION_LENGTH, MAGIC_ONE, MAGIC_TWO, MIGRATED_AT}
+use Rattle.disk_journal.specs.declared.layout.TheConstants.{BANKS_AT, CONTENT_AT, FIRST_GENERATION, GENERATION_AT, GENERATION_LENGTH, MAGIC_ONE, MAGIC_TWO, MIGRATED_AT, CLOSED, FIELD_LENGTH, HEADER_LENGTH, LEAST_SLOTS, MOST_SLOTS, OPEN, PLAN_LENGTH_AT, PLAN_ROOM, SLOT_COUNT_AT, SLOT_LENGTH}
 use Rattle.byteorder.specs.Endian.{big_bytes, big_number}
 use Rattle.byteorder.specs.Numbers.{big_number-reads_back}
-use Rattle.image_parts.proofs.Zeros.{length_zeros}
-use Rattle.image_parts.specs.Header.{header_of, plan_length_in, slot_count_in}
-use Rattle.image_parts.specs.Zeros.{zeros}
-use Rattle.image_parts.specs.declared.layout.TheConstants.{CLOSED, FIELD_LENGTH, HEADER_LENGTH, LEAST_SLOTS, MOST_SLOTS, OPEN, PLAN_LENGTH_AT, PLAN_ROOM, SLOT_COUNT_AT, SLOT_LENGTH}
+use Rattle.disk_journal.proofs.ZeroLists.{length_zeros}
+use Rattle.disk_journal.specs.Zeros.{zeros}
 use Rattle.sdls_base.specs.FirstFailing.{first_failing}
 use Rattle.sdls_base.specs.Version.{content_length_of}
 use Rattle.std.proofs.Math.ListN.{get_or-eq_default, get_or-replicate}

@@ -2,22 +2,20 @@
 use Rattle.std.proofs.Common.{◌≡◌, ◌≢◌, ℕ, ◌+◌, ◌-◌, ◌*◌, ◌^◌, ◌<◌, ◌≤◌, ◌⊎◌, ◌==◌, ◌||◌, ◌&&◌, ◌∷◌, ◌∙◌, not, nat_lt, Bool, false, List, [], length, get_or, take, drop, None, refl, sym, ap, subst, inl, inr, arith, append-nil}
 use Rattle.disk_journal.proofs.Stands.{HasFront, Stands, apart, behind}
 use Rattle.disk_journal.specs.Banks.{bank_at, bank_length, body_at, content_at, gate_at, generation_at, head_length, image_end, layout_of, next, other, slot_at, zeros_at_of}
-use Rattle.disk_journal.specs.Header.{form_in, has_magic}
+use Rattle.disk_journal.specs.Header.{form_in, has_magic, header_of, plan_length_in, slot_count_in}
 use Rattle.disk_journal.specs.Changes.{IsZero, KeepsBeside, filled}
 use Rattle.disk_journal.specs.Fault.{header_checks}
 use Rattle.disk_journal.specs.Image.{image_layout, plan_of}
 use Rattle.disk_journal.specs.declared.layout.Bank.{Bank}
 use Rattle.disk_journal.specs.declared.layout.Bank.TheVariants.{First, Second}
 use Rattle.disk_journal.specs.declared.layout.Layout.{Layout}
-use Rattle.disk_journal.specs.declared.layout.TheConstants.{CONTENT_AT, GENERATION_AT, GENERATION_LENGTH, MAGIC_ONE, MAGIC_TWO}
+use Rattle.disk_journal.specs.declared.layout.TheConstants.{CONTENT_AT, GENERATION_AT, GENERATION_LENGTH, MAGIC_ONE, MAGIC_TWO, CLOSED, HEADER_LENGTH, LEAST_SLOTS, MAGIC_AT, MOST_SLOTS, OPEN, PLAN_LENGTH_AT, PLAN_ROOM, SLOT_COUNT_AT}
 use Rattle.byteorder.specs.Endian.{big_bytes, big_number}
 use Rattle.byteorder.specs.Numbers.{big_number-reads_back}
-use Rattle.image_parts.proofs.Failing.{all_passed}
-use Rattle.image_parts.proofs.Gating.{records_stay}
-use Rattle.image_parts.proofs.Ranges.{all_but_same, all_but_then, all_but_wider, overwritten_but, overwritten_length, overwritten_stretch, same_front, same_stretch}
-use Rattle.image_parts.specs.Changes.{AllBut}
-use Rattle.image_parts.specs.Header.{header_of, plan_length_in, slot_count_in}
-use Rattle.image_parts.specs.declared.layout.TheConstants.{CLOSED, HEADER_LENGTH, LEAST_SLOTS, MAGIC_AT, MOST_SLOTS, OPEN, PLAN_LENGTH_AT, PLAN_ROOM, SLOT_COUNT_AT}
+use Rattle.disk_journal.proofs.Failing.{all_passed}
+use Rattle.disk_journal.proofs.Gating.{records_stay}
+use Rattle.disk_journal.proofs.Ranges.{all_but_same, all_but_then, all_but_wider, overwritten_but, overwritten_length, overwritten_stretch, same_front, same_stretch}
+use Rattle.disk_journal.specs.Moments.{AllBut}
 use Rattle.sdls_base.specs.FirstFailing.{first_failing}
 use Rattle.sdls_base.specs.declared.TheConstants.{BODY_LENGTH}
 use Rattle.sdls_outside.specs.Site.{overwritten}

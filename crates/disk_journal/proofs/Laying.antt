@@ -5,11 +5,10 @@ use Rattle.disk_journal.proofs.Behind.{StillBehind}
 use Rattle.disk_journal.specs.Banks.{image_end}
 use Rattle.disk_journal.specs.Changes.{HasNewBanks, IsErased, IsLaidBehind, IsZero, KeepsBelow, KeepsPast, Migrates, with_front, with_gate, with_migration}
 use Rattle.disk_journal.specs.declared.layout.Layout.{Layout}
-use Rattle.disk_journal.specs.declared.layout.TheConstants.{BANKS_AT, CONTENT_AT, GENERATION_AT, GENERATION_LENGTH, MIGRATED_AT}
-use Rattle.image_parts.proofs.Moments.{image_then, image_weaker}
-use Rattle.image_parts.proofs.Ranges.{overwritten_but, overwritten_length, overwritten_one, overwritten_stretch, same_stretch}
-use Rattle.image_parts.specs.Changes.{AllBut, EachImage}
-use Rattle.image_parts.specs.declared.layout.TheConstants.{OPEN}
+use Rattle.disk_journal.specs.declared.layout.TheConstants.{BANKS_AT, CONTENT_AT, GENERATION_AT, GENERATION_LENGTH, MIGRATED_AT, OPEN}
+use Rattle.disk_journal.proofs.Moments.{image_then, image_weaker}
+use Rattle.disk_journal.proofs.Ranges.{overwritten_but, overwritten_length, overwritten_one, overwritten_stretch, same_stretch}
+use Rattle.disk_journal.specs.Moments.{AllBut, EachImage}
 use Rattle.sdls_outside.specs.Disk.{IsSynced}
 use Rattle.sdls_outside.specs.Moments.{Trace}
 use Rattle.sdls_outside.specs.Site.{Syncs, overwritten}

@@ -1,3 +1,11 @@
+pub mod Ranges
+pub mod Moments
+pub mod Gating
+pub mod Failing
+pub mod SlotWrites
+pub mod ZeroLists
+pub mod Lengths
+pub mod Calls
 pub mod Pending
 pub mod Zeros
 pub mod Joined

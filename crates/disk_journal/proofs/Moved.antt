@@ -15,11 +15,10 @@ use Rattle.disk_journal.specs.declared.layout.Bank.{Bank}
 use Rattle.disk_journal.specs.declared.layout.Bank.TheVariants.{First, Second}
 use Rattle.disk_journal.specs.declared.layout.HeaderForm.TheVariants.{Old}
 use Rattle.disk_journal.specs.declared.layout.Layout.{Layout}
-use Rattle.disk_journal.specs.declared.layout.TheConstants.{BANKS_AT, MIGRATED_AT}
-use Rattle.image_parts.proofs.Moments.{image_weaker, synced_holds}
-use Rattle.image_parts.proofs.Ranges.{overwritten_but}
-use Rattle.image_parts.specs.Changes.{AllBut, EachImage}
-use Rattle.image_parts.specs.declared.layout.TheConstants.{OPEN}
+use Rattle.disk_journal.specs.declared.layout.TheConstants.{BANKS_AT, MIGRATED_AT, OPEN}
+use Rattle.disk_journal.proofs.Moments.{image_weaker, synced_holds}
+use Rattle.disk_journal.proofs.Ranges.{overwritten_but}
+use Rattle.disk_journal.specs.Moments.{AllBut, EachImage}
 use Rattle.sdls_outside.specs.Disk.{IsSynced, Leaves}
 use Rattle.sdls_outside.specs.Moments.{Trace}
 

@@ -13,11 +13,10 @@ use Rattle.disk_journal.specs.declared.layout.Bank.{Bank}
 use Rattle.disk_journal.specs.declared.layout.Bank.TheVariants.{First, Second}
 use Rattle.disk_journal.specs.declared.layout.HeaderForm.TheVariants.{Old, Migrated}
 use Rattle.disk_journal.specs.declared.layout.Layout.{Layout}
-use Rattle.disk_journal.specs.declared.layout.TheConstants.{BANKS_AT, CONTENT_AT, GENERATION_AT, GENERATION_LENGTH, MIGRATED_AT}
-use Rattle.image_parts.proofs.Ranges.{all_but_then, overwritten_but, overwritten_one, same_stretch, set_but}
-use Rattle.image_parts.specs.Changes.{AllBut}
-use Rattle.image_parts.specs.Header.{header_of, slot_count_in}
-use Rattle.image_parts.specs.declared.layout.TheConstants.{CLOSED, HEADER_LENGTH, OPEN}
+use Rattle.disk_journal.specs.declared.layout.TheConstants.{BANKS_AT, CONTENT_AT, GENERATION_AT, GENERATION_LENGTH, MIGRATED_AT, CLOSED, HEADER_LENGTH, OPEN}
+use Rattle.disk_journal.proofs.Ranges.{all_but_then, overwritten_but, overwritten_one, same_stretch, set_but}
+use Rattle.disk_journal.specs.Moments.{AllBut}
+use Rattle.disk_journal.specs.Header.{header_of, slot_count_in}
 use Rattle.std.proofs.lemmas.Bool.{cases_eq}
 use Rattle.std.proofs.lemmas.List.{get_or-set_same}
 

@@ -10,10 +10,9 @@ use Rattle.disk_journal.specs.declared.layout.Bank.{Bank}
 use Rattle.disk_journal.specs.declared.layout.Bank.TheVariants.{First, Second}
 use Rattle.disk_journal.specs.declared.layout.HeaderForm.TheVariants.{Old}
 use Rattle.disk_journal.specs.declared.layout.Layout.{Layout}
-use Rattle.disk_journal.specs.declared.layout.TheConstants.{CONTENT_AT, GENERATION_AT, GENERATION_LENGTH, MIGRATED_AT}
-use Rattle.image_parts.proofs.Gating.{records_stay}
-use Rattle.image_parts.specs.Header.{header_of, plan_length_in}
-use Rattle.image_parts.specs.declared.layout.TheConstants.{HEADER_LENGTH, OPEN, PLAN_ROOM}
+use Rattle.disk_journal.specs.declared.layout.TheConstants.{CONTENT_AT, GENERATION_AT, GENERATION_LENGTH, MIGRATED_AT, HEADER_LENGTH, OPEN, PLAN_ROOM}
+use Rattle.disk_journal.proofs.Gating.{records_stay}
+use Rattle.disk_journal.specs.Header.{header_of, plan_length_in}
 use Rattle.sdls_base.specs.declared.TheConstants.{BODY_LENGTH}
 use Rattle.std.proofs.lemmas.List.{ext_get_or, get_or-drop, get_or-take, length-take}
 

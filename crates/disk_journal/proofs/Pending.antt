@@ -1,9 +1,9 @@
 -- What a crash may leave during a row of writes that one sync brings to the disk.
 use Rattle.std.proofs.Common.{◌≡◌, ℕ, ◌+◌, ◌-◌, ◌<◌, ◌≤◌, ◌⊎◌, ◌∙◌, List, length, get_or, max, refl, sym, ap, subst, inl, inr, arith, Result, Ok, Err}
 use Rattle.disk_journal.specs.Changes.{Pending, Row}
-use Rattle.image_parts.proofs.Moments.{image_same, image_then, sync_moments, synced_holds}
-use Rattle.image_parts.proofs.Ranges.{all_but_same, all_but_then, all_but_wider}
-use Rattle.image_parts.specs.Changes.{AllBut, EachImage}
+use Rattle.disk_journal.proofs.Moments.{image_same, image_then, sync_moments, synced_holds}
+use Rattle.disk_journal.proofs.Ranges.{all_but_same, all_but_then, all_but_wider}
+use Rattle.disk_journal.specs.Moments.{AllBut, EachImage}
 use Rattle.sdls_outside.proofs.Moments.{each_writes}
 use Rattle.sdls_outside.specs.Disk.{Disk, IsSynced, Leaves, Outside}
 use Rattle.sdls_outside.specs.Moments.{Trace}

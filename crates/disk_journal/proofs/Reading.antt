@@ -5,14 +5,12 @@ use Rattle.disk_journal.proofs.Stands.{banks_behind, opens_stands}
 use Rattle.disk_journal.proofs.Turns.{bank_within}
 use Rattle.disk_journal.specs.Banks.{bank_at, bank_length, body_at, generation_at, image_end, layout_of, slot_at}
 use Rattle.disk_journal.specs.Fault.{image_fault}
-use Rattle.disk_journal.specs.Header.{form_in}
+use Rattle.disk_journal.specs.Header.{form_in, header_of, plan_length_in, slot_count_in}
 use Rattle.disk_journal.specs.Image.{content, current_at, first_closed, image_layout, plan_of, record_at, records, slot_count}
 use Rattle.disk_journal.specs.Journal.{IsJournalOf, IsOpen, JournalView}
 use Rattle.disk_journal.specs.declared.layout.Layout.{Layout}
-use Rattle.disk_journal.specs.declared.layout.TheConstants.{CONTENT_AT, GENERATION_AT, GENERATION_LENGTH}
+use Rattle.disk_journal.specs.declared.layout.TheConstants.{CONTENT_AT, GENERATION_AT, GENERATION_LENGTH, HEADER_LENGTH, PLAN_ROOM}
 use Rattle.byteorder.specs.Endian.{big_number}
-use Rattle.image_parts.specs.Header.{header_of, plan_length_in, slot_count_in}
-use Rattle.image_parts.specs.declared.layout.TheConstants.{HEADER_LENGTH, PLAN_ROOM}
 use Rattle.sdls_base.specs.declared.TheConstants.{BODY_LENGTH}
 use Rattle.sdls_outside.specs.Moments.{Trace}
 use Rattle.std.proofs.Math.Seq.{take-append_seam}

@@ -1,10 +1,10 @@
 -- An image that is refused by its length or by its header, before its banks are looked at.
 use Rattle.std.proofs.Common.{◌≡◌, ℕ, ◌<◌, ◌≤◌, ◌++◌, ◌∙◌, nat_lt, true, List, length, Some, subst, arith}
 use Rattle.disk_journal.specs.Fault.{banks_part, gates_part, header_checks, image_fault}
-use Rattle.image_parts.proofs.Calls.{short_test}
-use Rattle.image_parts.proofs.Failing.{failed_append, failed_first, passed_first}
-use Rattle.image_parts.specs.Header.{header_of}
-use Rattle.image_parts.specs.declared.layout.TheConstants.{HEADER_LENGTH}
+use Rattle.disk_journal.proofs.Calls.{short_test}
+use Rattle.disk_journal.proofs.Failing.{failed_append, failed_first, passed_first}
+use Rattle.disk_journal.specs.Header.{header_of}
+use Rattle.disk_journal.specs.declared.layout.TheConstants.{HEADER_LENGTH}
 use Rattle.sdls_base.specs.FirstFailing.{Check, first_failing}
 use Rattle.std.proofs.lemmas.Bool.Decides.{nat_tests}
 

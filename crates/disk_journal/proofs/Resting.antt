@@ -14,11 +14,10 @@ use Rattle.disk_journal.specs.Journal.{IsClosed, IsJournalOf, IsOpen, IsSettled,
 use Rattle.disk_journal.specs.declared.layout.Bank.{Bank}
 use Rattle.disk_journal.specs.declared.layout.HeaderForm.TheVariants.{Old}
 use Rattle.disk_journal.specs.declared.layout.Layout.{Layout}
-use Rattle.disk_journal.specs.declared.layout.TheConstants.{BANKS_AT, MIGRATED_AT}
-use Rattle.image_parts.proofs.Gating.{records_stay}
-use Rattle.image_parts.proofs.Moments.{image_then, image_weaker}
-use Rattle.image_parts.specs.Changes.{AllBut, EachImage}
-use Rattle.image_parts.specs.declared.layout.TheConstants.{CLOSED, HEADER_LENGTH, OPEN, PLAN_ROOM, SLOT_LENGTH}
+use Rattle.disk_journal.specs.declared.layout.TheConstants.{BANKS_AT, MIGRATED_AT, CLOSED, HEADER_LENGTH, OPEN, PLAN_ROOM, SLOT_LENGTH}
+use Rattle.disk_journal.proofs.Gating.{records_stay}
+use Rattle.disk_journal.proofs.Moments.{image_then, image_weaker}
+use Rattle.disk_journal.specs.Moments.{AllBut, EachImage}
 use Rattle.std.specs.Prelude.{None}
 use Rattle.sdls_outside.specs.Disk.{IsSynced}
 use Rattle.sdls_outside.specs.Moments.{Trace}

@@ -9,14 +9,13 @@ use Rattle.disk_journal.specs.Forms.{Holds, Regates, Settles}
 use Rattle.disk_journal.specs.Image.{IsAtRest, IsClosedGate, current, held, image_layout, plan_of, records}
 use Rattle.disk_journal.specs.declared.layout.Bank.{Bank}
 use Rattle.disk_journal.specs.declared.layout.Layout.{Layout}
-use Rattle.disk_journal.specs.declared.layout.TheConstants.{CONTENT_AT}
+use Rattle.disk_journal.specs.declared.layout.TheConstants.{CONTENT_AT, CLOSED, HEADER_LENGTH, OPEN, PLAN_ROOM}
 use Rattle.byteorder.specs.Endian.{big_number}
-use Rattle.image_parts.proofs.Gating.{records_stay}
-use Rattle.image_parts.proofs.Moments.{image_same, synced_holds}
-use Rattle.image_parts.proofs.Ranges.{all_but_same, same_stretch}
-use Rattle.image_parts.specs.Changes.{AllBut, EachImage}
-use Rattle.image_parts.specs.Slots.{gated}
-use Rattle.image_parts.specs.declared.layout.TheConstants.{CLOSED, HEADER_LENGTH, OPEN, PLAN_ROOM}
+use Rattle.disk_journal.proofs.Gating.{records_stay}
+use Rattle.disk_journal.proofs.Moments.{image_same, synced_holds}
+use Rattle.disk_journal.proofs.Ranges.{all_but_same, same_stretch}
+use Rattle.disk_journal.specs.Moments.{AllBut, EachImage}
+use Rattle.disk_journal.specs.Slots.{gated}
 use Rattle.sdls_base.specs.declared.TheConstants.{BODY_LENGTH}
 use Rattle.sdls_outside.specs.Disk.{IsSynced}
 use Rattle.sdls_outside.specs.Moments.{Trace}

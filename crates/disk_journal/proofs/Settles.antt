@@ -13,10 +13,10 @@ use Rattle.disk_journal.specs.Image.{Held, current, current_at, first_closed, he
 use Rattle.disk_journal.specs.Journal.{IsClosed, IsJournalOf, JournalView}
 use Rattle.disk_journal.specs.declared.layout.Bank.{Bank}
 use Rattle.disk_journal.specs.declared.layout.Layout.{Layout}
-use Rattle.image_parts.proofs.Moments.{image_then, image_weaker}
-use Rattle.image_parts.specs.Changes.{AllBut, EachImage}
-use Rattle.image_parts.specs.Slots.{gated}
-use Rattle.image_parts.specs.declared.layout.TheConstants.{CLOSED, HEADER_LENGTH, PLAN_ROOM, SLOT_LENGTH}
+use Rattle.disk_journal.proofs.Moments.{image_then, image_weaker}
+use Rattle.disk_journal.specs.Moments.{AllBut, EachImage}
+use Rattle.disk_journal.specs.Slots.{gated}
+use Rattle.disk_journal.specs.declared.layout.TheConstants.{CLOSED, HEADER_LENGTH, PLAN_ROOM, SLOT_LENGTH}
 use Rattle.sdls_outside.specs.Disk.{IsSynced}
 use Rattle.sdls_outside.specs.Moments.{Trace}
 use Rattle.std.specs.Result.{OnOk}

@@ -3,7 +3,7 @@ use Rattle.std.proofs.Common.{◌≡◌, ◌≢◌, ℕ, ◌+◌, ◌-◌, ◌<�
 use Rattle.disk_journal.proofs.Chosen.{Decided, IsNewest, decided, first_chosen, first_passes, second_chosen, second_passes}
 use Rattle.disk_journal.proofs.GateChecks.{closed_pass, pass_closed}
 use Rattle.disk_journal.specs.Banks.{bank_at, bank_length, banks_of, body_at, chosen, content_at, gate_at, generation_at, next, other, slot_at, version_of}
-use Rattle.disk_journal.specs.Header.{form_in}
+use Rattle.disk_journal.specs.Header.{form_in, header_of, slot_count_in}
 use Rattle.disk_journal.specs.Fault.{bank_checks, banks_part, gates_part, header_checks, image_fault}
 use Rattle.disk_journal.specs.Forms.{Holds}
 use Rattle.disk_journal.specs.Image.{Held, IsClosedGate, content, current, current_at, first_closed, image_layout, plan_of, records, slot_count}
@@ -12,13 +12,11 @@ use Rattle.disk_journal.specs.declared.layout.Bank.TheVariants.{First, Second}
 use Rattle.disk_journal.specs.declared.layout.HeaderForm.{HeaderForm}
 use Rattle.disk_journal.specs.declared.layout.HeaderForm.TheVariants.{Old, Migrated, New}
 use Rattle.disk_journal.specs.declared.layout.Layout.{Layout}
-use Rattle.disk_journal.specs.declared.layout.TheConstants.{MIGRATED_AT}
-use Rattle.image_parts.proofs.Failing.{all_passed, front_passed, passed_append, passed_first}
-use Rattle.image_parts.proofs.Gating.{AreRecords, records_are, records_is}
-use Rattle.image_parts.proofs.Calls.{short_test}
-use Rattle.image_parts.specs.Changes.{AllBut}
-use Rattle.image_parts.specs.Header.{header_of, slot_count_in}
-use Rattle.image_parts.specs.declared.layout.TheConstants.{CLOSED, HEADER_LENGTH, OPEN, PLAN_ROOM}
+use Rattle.disk_journal.specs.declared.layout.TheConstants.{MIGRATED_AT, CLOSED, HEADER_LENGTH, OPEN, PLAN_ROOM}
+use Rattle.disk_journal.proofs.Failing.{all_passed, front_passed, passed_append, passed_first}
+use Rattle.disk_journal.proofs.Gating.{AreRecords, records_are, records_is}
+use Rattle.disk_journal.proofs.Calls.{short_test}
+use Rattle.disk_journal.specs.Moments.{AllBut}
 use Rattle.sdls_base.specs.FirstFailing.{Check, first_failing}
 use Rattle.std.proofs.lemmas.Bool.Decides.{nat_tests}
 

@@ -9,10 +9,9 @@ use Rattle.disk_journal.specs.Image.{Held, IsAtRest, IsClosedGate, IsOpenedForm,
 use Rattle.disk_journal.specs.declared.layout.Bank.{Bank}
 use Rattle.disk_journal.specs.declared.layout.Bank.TheVariants.{First, Second}
 use Rattle.disk_journal.specs.declared.layout.Layout.{Layout}
-use Rattle.disk_journal.specs.declared.layout.TheConstants.{BANKS_AT}
-use Rattle.image_parts.proofs.Ranges.{all_but_then, all_but_wider, set_but}
-use Rattle.image_parts.specs.Changes.{AllBut}
-use Rattle.image_parts.specs.declared.layout.TheConstants.{CLOSED, HEADER_LENGTH, OPEN, PLAN_ROOM}
+use Rattle.disk_journal.specs.declared.layout.TheConstants.{BANKS_AT, CLOSED, HEADER_LENGTH, OPEN, PLAN_ROOM}
+use Rattle.disk_journal.proofs.Ranges.{all_but_then, all_but_wider, set_but}
+use Rattle.disk_journal.specs.Moments.{AllBut}
 use Rattle.std.proofs.lemmas.Bool.{cases_eq}
 use Rattle.std.proofs.lemmas.List.{get_or-set_same}
 

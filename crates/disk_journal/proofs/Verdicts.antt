@@ -7,21 +7,19 @@ use Rattle.disk_journal.proofs.Stands.{HasFront, header_part, layout_behind}
 use Rattle.disk_journal.proofs.Turns.{bank_within}
 use Rattle.disk_journal.specs.Banks.{bank_at, bank_length, body_at, chosen, gate_at, generation_at, layout_of, next}
 use Rattle.disk_journal.specs.Fault.{bank_checks, banks_part, gate_checks, gates_part, header_checks, image_fault}
-use Rattle.disk_journal.specs.Header.{form_in}
+use Rattle.disk_journal.specs.Header.{form_in, header_of, plan_length_in, slot_count_in}
 use Rattle.disk_journal.specs.Image.{current, current_at, first_closed, generation_of, image_layout, is_open, records, slot_count}
 use Rattle.disk_journal.specs.Journal.{IsCurrent, IsHeaderOf, IsJournalOf, IsOpen, JournalView}
 use Rattle.disk_journal.specs.Verdict.{IsVerdict}
 use Rattle.disk_journal.specs.declared.layout.Bank.{Bank}
 use Rattle.disk_journal.specs.declared.layout.Bank.TheVariants.{First, Second}
 use Rattle.disk_journal.specs.declared.layout.Layout.{Layout}
-use Rattle.disk_journal.specs.declared.layout.TheConstants.{CONTENT_AT}
+use Rattle.disk_journal.specs.declared.layout.TheConstants.{CONTENT_AT, HEADER_LENGTH, OPEN, PLAN_ROOM}
 use Rattle.disk_journal.specs.declared.opening_image.Verdict.{Verdict}
-use Rattle.image_parts.proofs.Failing.{failed_append, passed_append, passed_first}
-use Rattle.image_parts.proofs.Gating.{AreRecords, records_are}
-use Rattle.image_parts.proofs.Calls.{short_test}
-use Rattle.image_parts.specs.Gates.{IsFirstClosed}
-use Rattle.image_parts.specs.Header.{header_of, plan_length_in, slot_count_in}
-use Rattle.image_parts.specs.declared.layout.TheConstants.{HEADER_LENGTH, OPEN, PLAN_ROOM}
+use Rattle.disk_journal.proofs.Failing.{failed_append, passed_append, passed_first}
+use Rattle.disk_journal.proofs.Gating.{AreRecords, records_are}
+use Rattle.disk_journal.proofs.Calls.{short_test}
+use Rattle.disk_journal.specs.Gates.{IsFirstClosed}
 use Rattle.sdls_base.specs.FirstFailing.{Check, first_failing}
 use Rattle.sdls_outside.specs.Moments.{Trace}
 use Rattle.sdls_outside.specs.Site.{Synced}

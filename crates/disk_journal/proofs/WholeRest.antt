@@ -11,11 +11,10 @@ use Rattle.disk_journal.specs.declared.layout.Bank.{Bank}
 use Rattle.disk_journal.specs.declared.layout.Bank.TheVariants.{First, Second}
 use Rattle.disk_journal.specs.declared.layout.HeaderForm.{HeaderForm}
 use Rattle.disk_journal.specs.declared.layout.Layout.{Layout}
-use Rattle.disk_journal.specs.declared.layout.TheConstants.{BANKS_AT, CONTENT_AT, GENERATION_AT, GENERATION_LENGTH}
+use Rattle.disk_journal.specs.declared.layout.TheConstants.{BANKS_AT, CONTENT_AT, GENERATION_AT, GENERATION_LENGTH, OPEN, SLOT_LENGTH}
 use Rattle.byteorder.specs.Endian.{big_bytes}
-use Rattle.image_parts.proofs.Zeros.{length_zeros}
-use Rattle.image_parts.specs.Zeros.{zeros}
-use Rattle.image_parts.specs.declared.layout.TheConstants.{OPEN, SLOT_LENGTH}
+use Rattle.disk_journal.proofs.ZeroLists.{length_zeros}
+use Rattle.disk_journal.specs.Zeros.{zeros}
 use Rattle.std.proofs.Math.ListN.{get_or-eq_default, get_or-replicate}
 use Rattle.std.proofs.lemmas.Bool.{cases_lt}
 use Rattle.std.proofs.lemmas.List.{drop-drop, ext_get_or, get_or-drop, get_or-take, length-replicate, length-take-le, take-append-drop}

@@ -1,8 +1,8 @@
 -- Zeros that are written over a range.
 use Rattle.std.proofs.Common.{◌≡◌, ℕ, zero, suc, ◌+◌, ◌-◌, ◌<◌, ◌≤◌, ◌==◌, ◌∷◌, ◌∙◌, not, Bool, IsTrue, true, false, List, [], length, get_or, take, drop, replicate, refl, sym, ap, subst, inl, inr, arith, Result, Ok, Err}
 use Rattle.disk_journal.specs.Changes.{IsCleared, IsZero, Row}
-use Rattle.image_parts.proofs.Ranges.{overwritten_but, overwritten_stretch}
-use Rattle.image_parts.specs.Changes.{AllBut}
+use Rattle.disk_journal.proofs.Ranges.{overwritten_but, overwritten_stretch}
+use Rattle.disk_journal.specs.Moments.{AllBut}
 use Rattle.sdls_outside.specs.Disk.{IsSynced}
 use Rattle.sdls_outside.specs.Moments.{Trace}
 use Rattle.sdls_outside.specs.Site.{Syncs, overwritten}

@@ -7,7 +7,7 @@ use Rattle.sdls_base.specs.declared.version.Version.{Version}
 use Rattle.sdls_base.specs.declared.version.Version.TheVariants.{One, Two}
 use Rattle.sdls_base.specs.declared.version.TheConstants.{CONTENT_LENGTH_ONE}
 use Rattle.sdls_base.specs.Version.{content_length_of}
-use Rattle.image_parts.specs.declared.layout.TheConstants.{HEADER_LENGTH, PLAN_ROOM, SLOT_LENGTH, MOST_SLOTS, ZEROS_AT}
+use Rattle.disk_journal.specs.declared.layout.TheConstants.{HEADER_LENGTH, PLAN_ROOM, SLOT_LENGTH, MOST_SLOTS, ZEROS_AT}
 use Rattle.disk_journal.specs.declared.layout.Bank.{Bank}
 use Rattle.disk_journal.specs.declared.layout.Bank.TheVariants.{First, Second}
 use Rattle.disk_journal.specs.declared.layout.HeaderForm.{HeaderForm}

@@ -5,8 +5,8 @@ use Rattle.byteorder.specs.Endian.{big_bytes}
 use Rattle.sdls_outside.specs.Disk.{Disk, Outside}
 use Rattle.sdls_outside.specs.Moments.{Trace}
 use Rattle.sdls_outside.specs.Site.{overwritten}
-use Rattle.image_parts.specs.declared.layout.TheConstants.{OPEN, CLOSED}
-use Rattle.image_parts.specs.Changes.{AllBut, EachImage}
+use Rattle.disk_journal.specs.declared.layout.TheConstants.{OPEN, CLOSED}
+use Rattle.disk_journal.specs.Moments.{AllBut, EachImage}
 use Rattle.disk_journal.specs.declared.layout.Layout.{Layout}
 use Rattle.disk_journal.specs.declared.layout.HeaderForm.{HeaderForm}
 use Rattle.disk_journal.specs.declared.layout.HeaderForm.TheVariants.{Old}

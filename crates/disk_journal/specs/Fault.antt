@@ -3,13 +3,12 @@ use Rattle.std.specs.Prelude.{ℕ, zero, suc, ◌+◌, ◌-◌, ◌==◌, ◌||�
 use Rattle.std.specs.Prelude.{drop, slice_index, Option}
 use Rattle.std.specs.List.{list_any}
 use Rattle.sdls_base.specs.FirstFailing.{Check, first_failing}
-use Rattle.image_parts.specs.declared.layout.TheConstants.{HEADER_LENGTH, PLAN_ROOM, LEAST_SLOTS, MOST_SLOTS, MAGIC_AT}
-use Rattle.image_parts.specs.declared.layout.TheConstants.{PLAN_LENGTH_AT, SLOT_COUNT_AT, OPEN, CLOSED}
-use Rattle.image_parts.specs.Header.{header_of, plan_length_in, slot_count_in}
+use Rattle.disk_journal.specs.declared.layout.TheConstants.{HEADER_LENGTH, PLAN_ROOM, LEAST_SLOTS, MOST_SLOTS, MAGIC_AT}
+use Rattle.disk_journal.specs.declared.layout.TheConstants.{PLAN_LENGTH_AT, SLOT_COUNT_AT, OPEN, CLOSED}
+use Rattle.disk_journal.specs.Header.{header_of, plan_length_in, slot_count_in, has_magic, form_in}
 use Rattle.disk_journal.specs.declared.layout.Bank.TheVariants.{First, Second}
 use Rattle.disk_journal.specs.declared.layout.Layout.{Layout}
 use Rattle.disk_journal.specs.declared.layout.TheConstants.{MAGIC_ONE, MAGIC_TWO, GENERATION_AT}
-use Rattle.disk_journal.specs.Header.{has_magic, form_in}
 use Rattle.disk_journal.specs.Banks.{zeros_at_of, layout_of, bank_at, image_end, slot_at, gate_at, next}
 use Rattle.disk_journal.specs.Image.{image_layout, slot_count, is_open, generation_of, current_at, first_closed}
 

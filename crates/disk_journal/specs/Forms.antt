@@ -1,6 +1,6 @@
 -- What an image holds, and what its opened forms hold (profile).
 use Rattle.std.specs.Prelude.{◌≡◌, ◌⊎◌, ℕ, List, length, None, slice_index}
-use Rattle.image_parts.specs.declared.layout.TheConstants.{OPEN}
+use Rattle.disk_journal.specs.declared.layout.TheConstants.{OPEN}
 use Rattle.disk_journal.specs.Image.{Held, held, IsClosedGate, IsOpenedForm}
 use Rattle.disk_journal.specs.Fault.{image_fault}
 

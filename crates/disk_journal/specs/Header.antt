@@ -1,11 +1,21 @@
--- What the header of an image says of its form (profile).
-use Rattle.std.specs.Prelude.{ℕ, ◌==◌, Bool, if◌then◌else◌, List, slice_index}
+-- The header of an image (profile): the numbers in it, and its form.
+use Rattle.std.specs.Prelude.{ℕ, ◌==◌, Bool, if◌then◌else◌, List, take, drop, slice_index}
 use Rattle.std.specs.List.{slice_range}
 use Rattle.std.specs.Str.{bytes_eq}
-use Rattle.image_parts.specs.declared.layout.TheConstants.{MAGIC_AT, PLAN_LENGTH_AT, OPEN}
+use Rattle.byteorder.specs.Endian.{big_number}
 use Rattle.disk_journal.specs.declared.layout.HeaderForm.{HeaderForm}
 use Rattle.disk_journal.specs.declared.layout.HeaderForm.TheVariants.{Old, Migrated, New}
-use Rattle.disk_journal.specs.declared.layout.TheConstants.{MAGIC_TWO, MIGRATED_AT}
+use Rattle.disk_journal.specs.declared.layout.TheConstants.{HEADER_LENGTH, MAGIC_AT, PLAN_LENGTH_AT, SLOT_COUNT_AT}
+use Rattle.disk_journal.specs.declared.layout.TheConstants.{FIELD_LENGTH, OPEN, MAGIC_TWO, MIGRATED_AT}
+
+abbrev pub header_of : List ℕ → List ℕ
+header_of image = take HEADER_LENGTH image
+
+abbrev pub plan_length_in : List ℕ → ℕ
+plan_length_in header = big_number FIELD_LENGTH (drop PLAN_LENGTH_AT header)
+
+abbrev pub slot_count_in : List ℕ → ℕ
+slot_count_in header = big_number FIELD_LENGTH (drop SLOT_COUNT_AT header)
 
 -- whether the header has this magic
 abbrev pub has_magic : List ℕ → List ℕ → Bool

@@ -3,15 +3,13 @@ use Rattle.std.specs.Prelude.{◌≡◌, ◌≢◌, ℕ, ◌<◌, ◌==◌, ◌�
 use Rattle.std.specs.Prelude.{slice_set}
 use Rattle.sdls_base.specs.declared.version.Version.{Version}
 use Rattle.sdls_base.specs.declared.version.Version.TheVariants.{Two}
-use Rattle.image_parts.specs.declared.layout.TheConstants.{HEADER_LENGTH, OPEN, CLOSED}
-use Rattle.image_parts.specs.Slots.{gated}
-use Rattle.image_parts.specs.Header.{header_of, plan_length_in, slot_count_in}
+use Rattle.disk_journal.specs.declared.layout.TheConstants.{HEADER_LENGTH, OPEN, CLOSED, MIGRATED_AT}
+use Rattle.disk_journal.specs.Slots.{gated}
+use Rattle.disk_journal.specs.Header.{header_of, plan_length_in, slot_count_in, form_in}
 use Rattle.disk_journal.specs.declared.layout.Bank.{Bank}
 use Rattle.disk_journal.specs.declared.layout.Bank.TheVariants.{First, Second}
 use Rattle.disk_journal.specs.declared.layout.Layout.{Layout}
 use Rattle.disk_journal.specs.declared.layout.HeaderForm.TheVariants.{Old}
-use Rattle.disk_journal.specs.declared.layout.TheConstants.{MIGRATED_AT}
-use Rattle.disk_journal.specs.Header.{form_in}
 use Rattle.disk_journal.specs.Banks.{version_of, layout_of, bank_at, other, slot_at, gate_at, body_at, generation_at, content_at}
 use Rattle.disk_journal.specs.Banks.{next, chosen}
 

@@ -3,16 +3,15 @@ use Rattle.std.specs.Prelude.{◌≡◌, ℕ, ◌-◌, ◌*◌, ◌≤◌, ◌�
 use Rattle.byteorder.specs.Endian.{big_bytes}
 use Rattle.sdls_outside.specs.Disk.{Disk, Outside, IsSynced}
 use Rattle.sdls_outside.specs.Moments.{Trace}
-use Rattle.image_parts.specs.declared.layout.TheConstants.{HEADER_LENGTH, PLAN_ROOM, SLOT_LENGTH, FIELD_LENGTH}
-use Rattle.image_parts.specs.declared.layout.TheConstants.{OPEN, CLOSED}
-use Rattle.image_parts.specs.Changes.{AllBut, EachImage}
-use Rattle.image_parts.specs.Zeros.{zeros}
+use Rattle.disk_journal.specs.declared.layout.TheConstants.{HEADER_LENGTH, PLAN_ROOM, SLOT_LENGTH, FIELD_LENGTH}
+use Rattle.disk_journal.specs.declared.layout.TheConstants.{OPEN, CLOSED, BANKS_AT, MIGRATED_AT, GENERATION_LENGTH}
+use Rattle.disk_journal.specs.Moments.{AllBut, EachImage}
+use Rattle.disk_journal.specs.Zeros.{zeros}
 use Rattle.disk_journal.specs.declared.layout.Bank.{Bank}
 use Rattle.disk_journal.specs.declared.layout.Bank.TheVariants.{First, Second}
 use Rattle.disk_journal.specs.declared.layout.HeaderForm.{HeaderForm}
 use Rattle.disk_journal.specs.declared.layout.HeaderForm.TheVariants.{Old, Migrated, New}
 use Rattle.disk_journal.specs.declared.layout.Layout.{Layout}
-use Rattle.disk_journal.specs.declared.layout.TheConstants.{BANKS_AT, MIGRATED_AT, GENERATION_LENGTH}
 use Rattle.disk_journal.specs.declared.layout.TheConstants.{FIRST_GENERATION}
 use Rattle.disk_journal.specs.Banks.{version_of, magic_of, banks_of, layout_of, bank_length}
 use Rattle.disk_journal.specs.Fault.{image_fault}

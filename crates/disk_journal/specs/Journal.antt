@@ -7,13 +7,12 @@ use Rattle.disk_journal.specs.declared.fault.JournalFault.{JournalFault}
 use Rattle.disk_journal.specs.declared.fault.JournalFault.TheVariants.{SiteFault, Image}
 use Rattle.disk_journal.specs.declared.layout.Bank.{Bank}
 use Rattle.disk_journal.specs.declared.layout.Layout.{Layout}
-use Rattle.disk_journal.specs.declared.layout.TheConstants.{BANKS_AT}
+use Rattle.disk_journal.specs.declared.layout.TheConstants.{BANKS_AT, HEADER_LENGTH}
 use Rattle.disk_journal.specs.Banks.{bank_length, generation_at}
 use Rattle.disk_journal.specs.Image.{image_layout, plan_of, current, current_at, other_at, first_closed, IsAtRest}
 use Rattle.disk_journal.specs.Fault.{header_checks, banks_part, image_fault}
 use Rattle.sdls_base.specs.FirstFailing.{first_failing}
-use Rattle.image_parts.specs.declared.layout.TheConstants.{HEADER_LENGTH}
-use Rattle.image_parts.specs.Header.{header_of, plan_length_in}
+use Rattle.disk_journal.specs.Header.{header_of, plan_length_in}
 use Rattle.disk_journal.specs.Changes.{IsZero}
 
 -- what a journal knows of its image: the octets of the plan, where the banks stand, which one is current, its

@@ -1,3 +1,6 @@
+pub mod Moments
+pub mod Zeros
+pub mod Slots
 pub mod Gates
 pub mod Banks
 pub mod Header

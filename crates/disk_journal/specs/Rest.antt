@@ -1,10 +1,9 @@
 -- An image whose current bank has no records, and whose other banks are zero (profile).
 use Rattle.std.specs.Prelude.{◌≡◌, ℕ, ◌+◌, List, take, drop, slice_index}
 use Rattle.byteorder.specs.Endian.{big_bytes}
-use Rattle.image_parts.specs.declared.layout.TheConstants.{OPEN}
+use Rattle.disk_journal.specs.declared.layout.TheConstants.{OPEN, BANKS_AT, GENERATION_AT, GENERATION_LENGTH}
 use Rattle.disk_journal.specs.declared.layout.Bank.{Bank}
 use Rattle.disk_journal.specs.declared.layout.Layout.{Layout}
-use Rattle.disk_journal.specs.declared.layout.TheConstants.{BANKS_AT, GENERATION_AT, GENERATION_LENGTH}
 use Rattle.disk_journal.specs.Banks.{bank_length, head_length, bank_at, other, content_at}
 use Rattle.disk_journal.specs.Image.{image_layout, current}
 use Rattle.disk_journal.specs.Changes.{IsZero}

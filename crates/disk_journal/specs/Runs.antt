@@ -2,8 +2,7 @@
 use Rattle.std.specs.Prelude.{◌≡◌, ℕ, ◌+◌, ◌-◌, ◌*◌, ◌<◌, ◌≤◌, List, take, drop, Some}
 use Rattle.std.specs.List.{slice_get}
 use Rattle.sdls_base.specs.declared.TheConstants.{BODY_LENGTH}
-use Rattle.image_parts.specs.declared.layout.TheConstants.{SLOT_LENGTH}
-use Rattle.disk_journal.specs.declared.layout.TheConstants.{RUN}
+use Rattle.disk_journal.specs.declared.layout.TheConstants.{SLOT_LENGTH, RUN}
 use Rattle.disk_journal.specs.declared.record_run.RecordRun.{RecordRun}
 use Rattle.disk_journal.specs.Image.{records}
 

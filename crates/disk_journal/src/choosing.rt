@@ -3,13 +3,12 @@ ghost use Rattle.std.specs.Prelude.{◌≡◌, ◌+◌, ◌^◌, ◌<◌, ◌≤
 ghost use Rattle.std.specs.Prelude.{MatchResult};
 ghost use Rattle.sdls_base.specs.FirstFailing.{first_failing};
 ghost use Rattle.sdls_outside.specs.Faults.{HasCause};
-ghost use Rattle.image_parts.specs.declared.layout.TheConstants.{OPEN};
+ghost use Rattle.disk_journal.specs.declared.layout.TheConstants.{OPEN};
 ghost use Rattle.disk_journal.specs.Banks.{generation_at, next, chosen};
 ghost use Rattle.disk_journal.specs.Fault.{bank_checks};
 
-use crate::layout::{Bank, CONTENT_AT, GENERATION_AT, next_generation};
+use crate::layout::{Bank, CONTENT_AT, GENERATION_AT, OPEN, next_generation};
 use byteorder::{BigEndian, ByteOrder};
-use image_parts::OPEN;
 use sdls_outside::{Failed, Site};
 
 /// What stands at the front of a bank: whether its gate is open, and its generation.

@@ -4,8 +4,8 @@ ghost use Rattle.sdls_outside.specs.Disk.{IsSynced};
 ghost use Rattle.sdls_outside.specs.Faults.{HasCause};
 ghost use Rattle.sdls_outside.specs.Moments.{Trace};
 ghost use Rattle.sdls_outside.specs.Site.{overwritten};
-ghost use Rattle.image_parts.specs.Changes.{EachImage};
-ghost use Rattle.image_parts.specs.Zeros.{zeros};
+ghost use Rattle.disk_journal.specs.Moments.{EachImage};
+ghost use Rattle.disk_journal.specs.Zeros.{zeros};
 ghost use Rattle.disk_journal.specs.Changes.{with_front};
 ghost use Rattle.disk_journal.specs.Banks.{version_of};
 ghost use Rattle.sdls_base.specs.Version.{content_length_of};
@@ -14,16 +14,13 @@ ghost use Rattle.disk_journal.specs.Journal.{HasSiteFault};
 
 use crate::fault::JournalFault;
 use crate::layout::{
-    BANKS_AT, CONTENT_AT, FIRST_GENERATION, GENERATION_AT, GENERATION_LENGTH, HeaderForm, Layout,
-    MIGRATED_AT, RUN_LENGTH,
+    BANKS_AT, CLOSED, CONTENT_AT, FIRST_GENERATION, GENERATION_AT, GENERATION_LENGTH,
+    HEADER_LENGTH, HeaderForm, LEAST_SLOTS, Layout, MAGIC_AT, MIGRATED_AT, MOST_SLOTS, OPEN,
+    PLAN_LENGTH_AT, PLAN_ROOM, RUN_LENGTH, SLOT_COUNT_AT, SLOT_LENGTH,
 };
 use crate::storing::store;
 use crate::zeroing::{piece_of, zeros_of};
 use byteorder::{BigEndian, ByteOrder};
-use image_parts::{
-    CLOSED, HEADER_LENGTH, LEAST_SLOTS, MAGIC_AT, MOST_SLOTS, OPEN, PLAN_LENGTH_AT, PLAN_ROOM,
-    SLOT_COUNT_AT, SLOT_LENGTH,
-};
 use sdls_base::{CONTENT_LENGTH_ONE, CONTENT_LENGTH_TWO};
 use sdls_outside::{Failed, Site};
 

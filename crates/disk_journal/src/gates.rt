@@ -2,13 +2,11 @@
 ghost use Rattle.std.specs.Prelude.{◌≡◌, ◌+◌, ◌-◌, ◌*◌, ◌^◌, ◌<◌, ◌≤◌, IsTrue, IfOk, length, slice_index};
 ghost use Rattle.sdls_outside.specs.Faults.{HasCause};
 ghost use Rattle.sdls_base.specs.FirstFailing.{first_failing};
-ghost use Rattle.image_parts.specs.Gates.{IsFirstClosed};
+ghost use Rattle.disk_journal.specs.Gates.{IsFirstClosed, IsFirstOther};
 ghost use Rattle.disk_journal.specs.Banks.{bank_length, gate_at};
 ghost use Rattle.disk_journal.specs.Fault.{gate_checks};
-ghost use Rattle.disk_journal.specs.Gates.{IsFirstOther};
 
-use crate::layout::{Layout, RUN, RUN_LENGTH};
-use image_parts::{CLOSED, OPEN, SLOT_LENGTH};
+use crate::layout::{CLOSED, Layout, OPEN, RUN, RUN_LENGTH, SLOT_LENGTH};
 use sdls_outside::{Failed, Site};
 
 /// The first of so many slots whose gate is not this octet, or their number if all have it.

@@ -2,18 +2,16 @@
 ghost use Rattle.std.specs.Prelude.{◌≡◌, ◌+◌, ◌≤◌, ◌==◌, not, length, drop, MatchResult};
 ghost use Rattle.std.specs.List.{list_any};
 ghost use Rattle.byteorder.specs.Endian.{big_number};
-ghost use Rattle.image_parts.specs.Header.{plan_length_in, slot_count_in};
+ghost use Rattle.disk_journal.specs.Header.{plan_length_in, slot_count_in, has_magic, form_in};
 ghost use Rattle.sdls_base.specs.FirstFailing.{first_failing};
 ghost use Rattle.disk_journal.specs.Banks.{layout_of, IsLayout};
-ghost use Rattle.disk_journal.specs.Header.{has_magic, form_in};
 ghost use Rattle.disk_journal.specs.Fault.{header_checks};
 
-use crate::layout::{HeaderForm, Layout, MAGIC_ONE, MAGIC_TWO, MIGRATED_AT};
-use byteorder::{BigEndian, ByteOrder};
-use image_parts::{
-    FIELD_LENGTH, HEADER_LENGTH, LEAST_SLOTS, MAGIC_AT, MOST_SLOTS, OPEN, PLAN_LENGTH_AT,
-    PLAN_ROOM, SLOT_COUNT_AT,
+use crate::layout::{
+    FIELD_LENGTH, HEADER_LENGTH, HeaderForm, LEAST_SLOTS, Layout, MAGIC_AT, MAGIC_ONE, MAGIC_TWO,
+    MIGRATED_AT, MOST_SLOTS, OPEN, PLAN_LENGTH_AT, PLAN_ROOM, SLOT_COUNT_AT,
 };
+use byteorder::{BigEndian, ByteOrder};
 
 /// What a header that passes its checks says.
 #[derive(Clone, Copy, Debug)]

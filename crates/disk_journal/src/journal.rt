@@ -4,9 +4,8 @@ ghost use Rattle.std.specs.Prelude.{take, slice_index};
 ghost use Rattle.sdls_base.specs.Version.{content_length_of};
 ghost use Rattle.sdls_outside.specs.Disk.{IsSynced, Leaves};
 ghost use Rattle.sdls_outside.specs.Faults.{HasCause};
-ghost use Rattle.image_parts.specs.Changes.{EachImage, OnlySyncs};
-ghost use Rattle.image_parts.specs.declared.layout.TheConstants.{CLOSED};
-ghost use Rattle.disk_journal.specs.declared.layout.TheConstants.{MIGRATED_AT};
+ghost use Rattle.disk_journal.specs.Moments.{EachImage, OnlySyncs};
+ghost use Rattle.disk_journal.specs.declared.layout.TheConstants.{CLOSED, MIGRATED_AT};
 ghost use Rattle.disk_journal.specs.Banks.{version_of, layout_of, image_end, bank_at, slot_at, other, next};
 ghost use Rattle.disk_journal.specs.Image.{records, plan_of, content, current_at, record_at, held, grown, turned};
 ghost use Rattle.disk_journal.specs.Image.{version_in, migrated};
@@ -19,7 +18,8 @@ ghost use Rattle.disk_journal.specs.Runs.{Has, IsRunOf};
 
 use crate::fault::JournalFault;
 use crate::layout::{
-    BANKS_AT, Bank, CONTENT_AT, FIRST_GENERATION, HeaderForm, Layout, RUN, next_generation,
+    BANKS_AT, Bank, CONTENT_AT, FIRST_GENERATION, HEADER_LENGTH, HeaderForm, Layout, MOST_SLOTS,
+    PLAN_ROOM, RUN, SLOT_LENGTH, next_generation,
 };
 use crate::migrating::migrate_banks;
 use crate::opening_image::{Verdict, inspect_synced};
@@ -27,7 +27,6 @@ use crate::record_run::RecordRun;
 use crate::settling::{clear_old_banks, clear_spare, close_gate, close_migration, close_slot};
 use crate::storing::store_record;
 use crate::turning::turn_banks;
-use image_parts::{HEADER_LENGTH, MOST_SLOTS, PLAN_ROOM, SLOT_LENGTH};
 use sdls_base::{BODY_LENGTH, CONTENT_LENGTH_TWO, Version};
 use sdls_outside::{Failed, Site};
 use std::marker::Model;
@@ -47,7 +46,7 @@ impl Model for Journal {
     ghost use Rattle.std.specs.Prelude.{◌≡◌, ◌≤◌};
     ghost use Rattle.disk_journal.specs.Banks.{IsLayout};
     ghost use Rattle.disk_journal.specs.Journal.{JournalView};
-    ghost use Rattle.image_parts.specs.declared.layout.TheConstants.{PLAN_ROOM};
+    ghost use Rattle.disk_journal.specs.declared.layout.TheConstants.{PLAN_ROOM};
 
     ghost Value = { JournalView };
 

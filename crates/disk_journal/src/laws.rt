@@ -1,8 +1,7 @@
 // Laws of images: each function is a statement about the definitions, and does nothing.
 ghost use Rattle.std.specs.Prelude.{◌≡◌, ◌≤◌, ◌⊎◌, ℕ, List, length, take, None};
 ghost use Rattle.sdls_base.specs.Version.{content_length_of};
-ghost use Rattle.image_parts.specs.declared.layout.TheConstants.{PLAN_ROOM, LEAST_SLOTS, MOST_SLOTS, OPEN};
-ghost use Rattle.disk_journal.specs.declared.layout.TheConstants.{BANKS_AT};
+ghost use Rattle.disk_journal.specs.declared.layout.TheConstants.{PLAN_ROOM, LEAST_SLOTS, MOST_SLOTS, OPEN, BANKS_AT};
 ghost use Rattle.disk_journal.specs.declared.layout.Bank.{Bank};
 ghost use Rattle.disk_journal.specs.declared.layout.HeaderForm.{HeaderForm};
 ghost use Rattle.disk_journal.specs.declared.layout.HeaderForm.TheVariants.{Old, New};

@@ -28,15 +28,13 @@ mod zeroing;
 
 pub use creating::{create, create_two};
 pub use fault::JournalFault;
-pub use image_parts::{
-    CLOSED, FIELD_LENGTH, HEADER_LENGTH, LEAST_SLOTS, MAGIC_AT, MOST_SLOTS, OPEN, PLAN_AT,
-    PLAN_LENGTH_AT, PLAN_ROOM, SLOT_COUNT_AT, SLOT_LENGTH, ZEROS_AT,
-};
 pub use journal::Journal;
 pub use laws::{initial_image_opens, opening_stays, rest_is_whole};
 pub use layout::{
-    BANKS_AT, Bank, CONTENT_AT, FIRST_GENERATION, GENERATION_AT, GENERATION_LENGTH, HeaderForm,
-    Layout, MAGIC_ONE, MAGIC_TWO, MIGRATED_AT,
+    BANKS_AT, Bank, CLOSED, CONTENT_AT, FIELD_LENGTH, FIRST_GENERATION, GENERATION_AT,
+    GENERATION_LENGTH, HEADER_LENGTH, HeaderForm, LEAST_SLOTS, Layout, MAGIC_AT, MAGIC_ONE,
+    MAGIC_TWO, MIGRATED_AT, MOST_SLOTS, OPEN, PLAN_AT, PLAN_LENGTH_AT, PLAN_ROOM, SLOT_COUNT_AT,
+    SLOT_LENGTH, ZEROS_AT,
 };
 pub use record_run::RecordRun;
 pub use sdls_base::BODY_LENGTH;

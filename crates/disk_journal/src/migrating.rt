@@ -3,19 +3,18 @@ ghost use Rattle.std.specs.Prelude.{◌≡◌, ◌+◌, ◌-◌, ◌*◌, ◌^�
 ghost use Rattle.sdls_outside.specs.Disk.{IsSynced};
 ghost use Rattle.sdls_outside.specs.Faults.{HasCause};
 ghost use Rattle.sdls_outside.specs.Site.{overwritten};
-ghost use Rattle.image_parts.specs.Changes.{EachImage};
+ghost use Rattle.disk_journal.specs.Moments.{EachImage};
 ghost use Rattle.disk_journal.specs.Banks.{IsLayout, image_end};
 ghost use Rattle.disk_journal.specs.Changes.{KeepsBelow, KeepsPast, IsPendingBehind, IsZero, IsErased, with_front};
 ghost use Rattle.disk_journal.specs.Changes.{IsLaidBehind, Migrates, with_migration};
 
 use crate::layout::{
     BANKS_AT, CONTENT_AT, FIRST_GENERATION, GENERATION_AT, GENERATION_LENGTH, Layout, MIGRATED_AT,
-    RUN_LENGTH,
+    OPEN, RUN_LENGTH, SLOT_LENGTH,
 };
 use crate::storing::{clear_blocks, store};
 use crate::zeroing::{piece_of, zeros_of};
 use byteorder::{BigEndian, ByteOrder};
-use image_parts::{OPEN, SLOT_LENGTH};
 use sdls_outside::{Failed, Site};
 
 /// Writes octets at `from` or behind it, where all lies that is pending.

@@ -2,7 +2,7 @@
 ghost use Rattle.std.specs.Prelude.{◌≡◌, ◌≤◌, IsTrue, IfOk, OnOk, length};
 ghost use Rattle.sdls_outside.specs.Faults.{HasCause};
 ghost use Rattle.sdls_outside.specs.Site.{Synced};
-ghost use Rattle.image_parts.specs.Changes.{OnlySyncs};
+ghost use Rattle.disk_journal.specs.Moments.{OnlySyncs};
 ghost use Rattle.disk_journal.specs.Banks.{IsLayout, image_end, bank_at};
 ghost use Rattle.disk_journal.specs.Journal.{IsHeaderOf, IsCurrent};
 ghost use Rattle.disk_journal.specs.Verdict.{IsVerdict};
@@ -11,8 +11,7 @@ use crate::choosing::{choose, read_front};
 use crate::gates::{first_closed, stray_gate};
 use crate::header::{Header, read_header};
 use crate::journal::Journal;
-use crate::layout::{Bank, Layout};
-use image_parts::{HEADER_LENGTH, PLAN_ROOM};
+use crate::layout::{Bank, HEADER_LENGTH, Layout, PLAN_ROOM};
 use sdls_outside::{Failed, Site};
 
 /// What the checks of an image come to.

@@ -2,8 +2,7 @@
 ghost use Rattle.std.specs.Prelude.{◌≡◌, ◌↔◌, ◌-◌, ℕ, List, IsTrue};
 ghost use Rattle.disk_journal.specs.Runs.{body_in, Has, IsRunOf};
 
-use crate::layout::{RUN, RUN_LENGTH};
-use image_parts::SLOT_LENGTH;
+use crate::layout::{RUN, RUN_LENGTH, SLOT_LENGTH};
 use sdls_base::BODY_LENGTH;
 
 /// The slots of records that were read in one call.

@@ -2,14 +2,12 @@
 ghost use Rattle.std.specs.Prelude.{◌≡◌, ◌+◌, ◌-◌, ◌*◌, ◌^◌, ◌≤◌, ◌<◌, ◌⊎◌, IsTrue, OnOk, IfOk, length, slice_index};
 ghost use Rattle.sdls_outside.specs.Disk.{IsSynced};
 ghost use Rattle.sdls_outside.specs.Faults.{HasCause};
-ghost use Rattle.image_parts.specs.Changes.{AllBut, EachImage};
-ghost use Rattle.disk_journal.specs.Changes.{IsZero, IsCleared};
-ghost use Rattle.disk_journal.specs.Changes.{IsErased, Gated, GatedSlot, GatedForm};
+ghost use Rattle.disk_journal.specs.Moments.{AllBut, EachImage};
+ghost use Rattle.disk_journal.specs.Changes.{IsZero, IsCleared, IsErased, Gated, GatedSlot, GatedForm};
 
 use crate::header::has_other;
-use crate::layout::{BANKS_AT, HeaderForm, MIGRATED_AT, RUN, RUN_LENGTH};
+use crate::layout::{BANKS_AT, CLOSED, HeaderForm, MIGRATED_AT, RUN, RUN_LENGTH, SLOT_LENGTH};
 use crate::storing::{clear_bank, clear_blocks, store};
-use image_parts::{CLOSED, SLOT_LENGTH};
 use sdls_outside::{Failed, Site};
 
 /// Writes 0 as the gate at `at`, if it is not 0.

@@ -3,13 +3,12 @@ ghost use Rattle.std.specs.Prelude.{◌≡◌, ◌+◌, ◌-◌, ◌*◌, ◌^�
 ghost use Rattle.sdls_outside.specs.Disk.{IsSynced};
 ghost use Rattle.sdls_outside.specs.Faults.{HasCause};
 ghost use Rattle.sdls_outside.specs.Site.{overwritten};
-ghost use Rattle.image_parts.specs.Changes.{AllBut, EachImage};
+ghost use Rattle.disk_journal.specs.Moments.{AllBut, EachImage};
 ghost use Rattle.disk_journal.specs.Changes.{filled, IsZero, IsCleared, IsErased, Row};
 
-use crate::layout::{CONTENT_AT, GENERATION_AT, GENERATION_LENGTH, RUN_LENGTH};
+use crate::layout::{CONTENT_AT, GENERATION_AT, GENERATION_LENGTH, OPEN, RUN_LENGTH, SLOT_LENGTH};
 use crate::zeroing::{piece_of, zeros_of};
 use byteorder::{BigEndian, ByteOrder};
-use image_parts::{OPEN, SLOT_LENGTH};
 use sdls_base::BODY_LENGTH;
 use sdls_outside::{Failed, Site};
 

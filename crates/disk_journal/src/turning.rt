@@ -2,13 +2,12 @@
 ghost use Rattle.std.specs.Prelude.{◌≡◌, ◌+◌, ◌^◌, ◌≤◌, ◌<◌, IsTrue, OnOk, length};
 ghost use Rattle.sdls_outside.specs.Disk.{IsSynced};
 ghost use Rattle.sdls_outside.specs.Faults.{HasCause};
-ghost use Rattle.image_parts.specs.Changes.{EachImage};
+ghost use Rattle.disk_journal.specs.Moments.{EachImage};
 ghost use Rattle.disk_journal.specs.Banks.{IsLayout, head_length, bank_length};
 ghost use Rattle.disk_journal.specs.Changes.{filled, with_gate, IsCleared, Steps};
 
-use crate::layout::Layout;
+use crate::layout::{CLOSED, Layout, OPEN};
 use crate::storing::{clear_bank, fill_bank, store};
-use image_parts::{CLOSED, OPEN};
 use sdls_outside::{Failed, Site};
 
 /// Makes the bank that begins at `to` the current one in place of the bank that begins at `from`.

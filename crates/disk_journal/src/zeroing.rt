@@ -1,8 +1,7 @@
 // The pieces in which zeros are written.
 ghost use Rattle.std.specs.Prelude.{◌≡◌, ◌*◌, ◌≤◌, ◌<◌, ◌-◌, replicate};
 
-use crate::layout::{RUN, RUN_LENGTH};
-use image_parts::SLOT_LENGTH;
+use crate::layout::{RUN, RUN_LENGTH, SLOT_LENGTH};
 
 /// How many blocks the next piece has, if so many are left.
 pub(crate) fn piece_of(left: u32) -> u32

@@ -3,9 +3,9 @@ use Rattle.std.proofs.Common.{◌≡◌, ◌≢◌, ◌⊎◌, ◌==◌, ℕ, ze
 use Rattle.std.proofs.lemmas.Bool.{cases_eq, cases_lt, ne_eqb}
 use Rattle.std.proofs.lemmas.List.{ext_get_or, get_or-take}
 use Rattle.sdls_base.specs.FirstFailing.{first_failing}
-use Rattle.image_parts.specs.declared.layout.TheConstants.{HEADER_LENGTH, OPEN}
-use Rattle.image_parts.specs.Changes.{AllBut}
-use Rattle.image_parts.specs.Header.{header_of}
+use Rattle.disk_journal.specs.declared.layout.TheConstants.{HEADER_LENGTH, OPEN}
+use Rattle.disk_journal.specs.Moments.{AllBut}
+use Rattle.disk_journal.specs.Header.{header_of}
 use Rattle.disk_journal.specs.Fault.{header_checks, image_fault}
 use Rattle.disk_journal.specs.declared.layout.HeaderForm.TheVariants.{New}
 use Rattle.disk_journal.specs.Initial.{created_image, rest_image}

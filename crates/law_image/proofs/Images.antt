@@ -1,9 +1,9 @@
 -- What an opening or a migration leaves that is cut off: for `opening_keeps_forms` and `migration_keeps_state`. With it,
 -- lemmas on what images and their opened forms hold, passed on for what lies above.
 use Rattle.std.proofs.Common.{slice_index, ◌≢◌, ◌≡◌, ◌⊎◌, ℕ, ◌+◌, ◌≤◌, List, length, set, None, refl, sym, ap, ◌∙◌, subst, inl, inr, arith}
-use Rattle.image_parts.proofs.Gating.{AreRecords, records_are}
-use Rattle.image_parts.proofs.Ranges.{set_but}
-use Rattle.image_parts.specs.Changes.{AllBut}
+use Rattle.disk_journal.proofs.Gating.{AreRecords, records_are}
+use Rattle.disk_journal.proofs.Ranges.{set_but}
+use Rattle.disk_journal.specs.Moments.{AllBut}
 use Rattle.disk_journal.specs.Banks.{bank_at, slot_at, other, gate_at, body_at}
 use Rattle.disk_journal.specs.Image.{Held, IsAtRest, IsOpenedForm, held, migrated, plan_of, records, image_layout, current, current_at, first_closed, slot_count}
 use Rattle.disk_journal.specs.Fault.{image_fault}
@@ -14,15 +14,14 @@ use Rattle.disk_journal.proofs.Keeping.{plan_kept}
 use Rattle.disk_journal.proofs.Moving.{moved_plan}
 use Rattle.disk_journal.proofs.Stands.{HasFront, behind, opens_stands}
 use Rattle.disk_journal.specs.declared.layout.HeaderForm.TheVariants.{Old}
-use Rattle.disk_journal.specs.declared.layout.TheConstants.{MIGRATED_AT}
-use Rattle.image_parts.specs.Header.{header_of}
-use Rattle.image_parts.specs.declared.layout.TheConstants.{HEADER_LENGTH, OPEN, PLAN_ROOM}
+use Rattle.disk_journal.specs.declared.layout.TheConstants.{MIGRATED_AT, HEADER_LENGTH, OPEN, PLAN_ROOM}
+use Rattle.disk_journal.specs.Header.{header_of}
 use Rattle.unit_state.specs.declared.state.State.{State}
 use Rattle.unit_image.specs.OpeningImage.{IsMigration, LeftByOpening, IsMigrating}
 use Rattle.unit_image.specs.Shows.{Says, Shows}
 use Rattle.unit_image.proofs.Turned.{says_migrated}
 use Rattle.law_image.specs.Keeping.{HoldsNext, HoldsSame, IsShown, KeepsForms, ShowsThroughout}
-pub use Rattle.image_parts.proofs.Moments.{only_syncs_moments}
+pub use Rattle.disk_journal.proofs.Moments.{only_syncs_moments}
 
 -- the records by place
 pub records_of : (image : List ℕ)

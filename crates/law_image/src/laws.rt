@@ -10,7 +10,7 @@ ghost use Rattle.unit_state.specs.State.{KeepsRules};
 ghost use Rattle.image_beginning.specs.Beginning.{SaysPlan};
 ghost use Rattle.image_content.specs.Content.{content_of};
 ghost use Rattle.image_content.specs.Reading.{IsContent};
-ghost use Rattle.image_parts.specs.Changes.{AllBut};
+ghost use Rattle.disk_journal.specs.Moments.{AllBut};
 ghost use Rattle.disk_journal.specs.declared.layout.HeaderForm.TheVariants.{New};
 ghost use Rattle.disk_journal.specs.Initial.{created_image};
 ghost use Rattle.disk_journal.specs.Image.{IsAtRest, held};

@@ -6,8 +6,8 @@ use Rattle.sdls_outside.specs.Intake.{Collects}
 use Rattle.sdls_outside.specs.Moments.{Trace, clock, EachMoment}
 use Rattle.sdls_outside.specs.Output.{OnlySinks}
 use Rattle.sdls_outside.proofs.Moments.{each_same, each_then, each_weaker, moment_now}
-use Rattle.image_parts.specs.declared.layout.TheConstants.{HEADER_LENGTH}
-use Rattle.image_parts.specs.Changes.{AllBut}
+use Rattle.disk_journal.specs.declared.layout.TheConstants.{HEADER_LENGTH}
+use Rattle.disk_journal.specs.Moments.{AllBut}
 use Rattle.disk_journal.specs.Initial.{IsLaid, created_image}
 use Rattle.disk_journal.specs.Fault.{image_fault}
 use Rattle.disk_journal.proofs.Refused.{short_verdict}

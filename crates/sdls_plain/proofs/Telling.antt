@@ -9,7 +9,7 @@ use Rattle.sdls_outside.proofs.Moments.{each_then, each_weaker, moment_now}
 use Rattle.sdls_base.specs.declared.entry.Logged.{Logged}
 use Rattle.sdls_base.specs.declared.entry.Logged.TheVariants as logged
 use Rattle.unit_image.specs.Image.{held, IsAtRest, OnlySyncs, used_next}
-use Rattle.image_parts.proofs.Moments.{only_syncs_moments}
+use Rattle.disk_journal.proofs.Moments.{only_syncs_moments}
 use Rattle.unit_plan.specs.Plan.{plan_of}
 use Rattle.status_text.specs.Text.{status_text}
 use Rattle.unit_image.specs.declared.fault.OpenFault.{OpenFault}

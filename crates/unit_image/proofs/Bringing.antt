@@ -5,7 +5,7 @@ use Rattle.sdls_base.specs.declared.version.Version.TheVariants.{One, Two}
 use Rattle.sdls_outside.specs.Disk.{Disk, IsSynced, Leaves}
 use Rattle.sdls_outside.specs.Moments.{Trace, EachMoment, clock}
 use Rattle.sdls_outside.proofs.Moments.{each_weaker, each_then, moment_now}
-use Rattle.image_parts.specs.Changes.{EachImage}
+use Rattle.disk_journal.specs.Moments.{EachImage}
 use Rattle.unit_state.specs.declared.state.State.{State}
 use Rattle.unit_state.specs.Restart.{restarted}
 use Rattle.unit_state.specs.State.{KeepsRules}

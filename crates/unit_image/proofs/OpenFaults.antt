@@ -2,7 +2,7 @@
 use Rattle.std.proofs.Common.{◌≡◌, ℕ, List, ap, sym, subst, inl, inr}
 use Rattle.std.specs.Prelude.{Result, Ok, Err}
 use Rattle.sdls_outside.specs.Moments.{Trace}
-use Rattle.image_parts.specs.Changes.{OnlySyncs}
+use Rattle.disk_journal.specs.Moments.{OnlySyncs}
 use Rattle.unit_image.specs.declared.fault.OpenFault.{OpenFault}
 use Rattle.unit_image.specs.declared.fault.OpenFault.TheVariants.{SiteFault, Image, NoMemory}
 use Rattle.unit_state.specs.declared.state.State.{State}

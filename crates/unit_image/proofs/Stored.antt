@@ -8,7 +8,7 @@ use Rattle.sdls_base.specs.declared.version.Version.TheVariants.{Two}
 use Rattle.sdls_outside.specs.Disk.{Leaves}
 use Rattle.sdls_outside.specs.Moments.{Trace}
 use Rattle.sdls_outside.proofs.Moments.{each_same, synced_leaves}
-use Rattle.image_parts.specs.Changes.{EachImage}
+use Rattle.disk_journal.specs.Moments.{EachImage}
 use Rattle.book_record.specs.Record.{IsRecord}
 use Rattle.unit_state.specs.declared.state.State.{State}
 use Rattle.unit_state.specs.Applied.{applied}

@@ -9,7 +9,7 @@ pub use Rattle.disk_journal.specs.Image.{IsOpenedForm}
 unfoldable pub use Rattle.disk_journal.specs.Image.{records}
 pub use Rattle.disk_journal.specs.Forms.{Becomes, HasOneClosed, Holds, Settles, StaysWithin}
 pub use Rattle.disk_journal.specs.Journal.{IsJournalOf, IsSettled, IsSettledImage, JournalView}
-pub use Rattle.image_parts.specs.Changes.{EachImage, OnlySyncs}
+pub use Rattle.disk_journal.specs.Moments.{EachImage, OnlySyncs}
 pub use Rattle.disk_journal.specs.Initial.{created_image}
 
 -- how many slots of the current bank hold records

@@ -11,15 +11,14 @@ use Rattle.sdls_outside.specs.Disk.{Leaves}
 use Rattle.sdls_outside.specs.Moments.{Trace}
 use Rattle.unit_plan.specs.PlanLines.{PlanLines}
 use Rattle.unit_state.specs.declared.state.State.{State}
-use Rattle.image_parts.specs.declared.layout.TheConstants.{PLAN_AT}
+use Rattle.disk_journal.specs.declared.layout.TheConstants.{PLAN_AT, CONTENT_AT}
 use Rattle.unit_image.specs.declared.fault.OpenFault.{OpenFault}
 use Rattle.unit_image.specs.declared.fault.OpenFault.TheVariants.{SiteFault, Image, NoMemory}
 use Rattle.disk_journal.specs.declared.fault.JournalFault.{JournalFault}
 use Rattle.disk_journal.specs.declared.fault.JournalFault.TheVariants as journal_faults
-use Rattle.disk_journal.specs.declared.layout.TheConstants.{CONTENT_AT}
 use Rattle.image_content.specs.Content.{content_of}
 use Rattle.image_content.specs.Reading.{IsContent}
-use Rattle.image_parts.specs.Changes.{EachImage, OnlySyncs}
+use Rattle.disk_journal.specs.Moments.{EachImage, OnlySyncs}
 use Rattle.disk_journal.specs.Journal.{IsSettled, JournalView}
 use Rattle.disk_journal.specs.Forms.{Becomes, Settles}
 use Rattle.disk_journal.specs.Image.{Held, held, content, current_at, migrated, version_in}

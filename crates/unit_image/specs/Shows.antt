@@ -11,8 +11,7 @@ use Rattle.unit_state.specs.Allows.{Allows}
 use Rattle.unit_state.specs.Restart.{restarted}
 use Rattle.book_record.specs.Record.{IsRecord}
 use Rattle.image_content.specs.Reading.{IsContent}
-use Rattle.image_parts.specs.declared.layout.TheConstants.{PLAN_AT, SLOT_COUNT_AT}
-use Rattle.disk_journal.specs.declared.layout.TheConstants.{CONTENT_AT}
+use Rattle.disk_journal.specs.declared.layout.TheConstants.{PLAN_AT, SLOT_COUNT_AT, CONTENT_AT}
 use Rattle.disk_journal.specs.Image.{Held, held, current_at, record_at}
 use Rattle.disk_journal.specs.Fault.{image_fault}
 use Rattle.disk_journal.specs.Forms.{Holds}

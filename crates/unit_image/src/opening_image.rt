@@ -2,11 +2,11 @@
 ghost use Rattle.std.specs.Prelude.{◌≡◌, ◌≤◌, IsTrue, IfErr, IfOk, OnOk, length, vec_len};
 ghost use Rattle.sdls_outside.specs.Disk.{Leaves};
 ghost use Rattle.sdls_outside.specs.Moments.{EachMoment};
-ghost use Rattle.image_parts.specs.Changes.{EachImage, OnlySyncs};
+ghost use Rattle.disk_journal.specs.Moments.{EachImage, OnlySyncs};
 ghost use Rattle.unit_state.specs.State.{KeepsRules};
 ghost use Rattle.unit_plan.specs.Plan.{plan_of};
 ghost use Rattle.unit_image.specs.OpeningImage.{HasOpenFault};
-ghost use Rattle.image_parts.specs.declared.layout.TheConstants.{PLAN_ROOM};
+ghost use Rattle.disk_journal.specs.declared.layout.TheConstants.{PLAN_ROOM};
 ghost use Rattle.disk_journal.specs.Image.{held};
 ghost use Rattle.disk_journal.specs.Journal.{HasSiteFault, IsOpen, IsSettled};
 ghost use Rattle.unit_image.specs.Shows.{Shows, ShowsNone};
@@ -16,9 +16,8 @@ ghost use Rattle.unit_image.specs.OpeningImage.{BringsUp, IsHeldNext, LeavesShow
 use crate::fault::OpenFault;
 use crate::laws::refused_with_one;
 use crate::reading::{open_fault, read_plan, read_state, take_records};
-use disk_journal::{Journal, JournalFault};
+use disk_journal::{Journal, JournalFault, PLAN_ROOM};
 use image_content::write_content_two;
-use image_parts::PLAN_ROOM;
 use sdls_base::{CONTENT_LENGTH_TWO, Version};
 use sdls_outside::Site;
 use std::alloc::{AllocError, Global};

@@ -17,9 +17,8 @@ ghost use Rattle.unit_image.specs.OpeningImage.{as_open_fault, IsNoContent, IsTe
 use crate::fault::OpenFault;
 use book_record::{RecordError, read_record};
 use book_rows::RowsFault;
-use disk_journal::{Journal, JournalFault, RecordRun};
+use disk_journal::{Journal, JournalFault, PLAN_AT, PLAN_ROOM, RecordRun, SLOT_COUNT_AT};
 use image_content::read_content;
-use image_parts::{PLAN_AT, PLAN_ROOM, SLOT_COUNT_AT};
 use sdls_base::{BODY_LENGTH, CONTENT_LENGTH_TWO, Change, ChannelList, NoMemory, Version};
 use sdls_outside::Site;
 use std::alloc::Global;

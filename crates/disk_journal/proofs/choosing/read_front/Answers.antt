@@ -1,5 +1,5 @@
 use Rattle.std.proofs.Common.{ℕ, ◌∙◌, ◌==◌, ap}
-use Rattle.image_parts.specs.declared.layout.TheConstants.{OPEN}
+use Rattle.disk_journal.specs.declared.layout.TheConstants.{OPEN}
 use Rattle.disk_journal.proofs.Reading.{front_gate, front_generation}
 use Rattle.disk_journal.proofs.choosing.read_front.Goals as goal
 

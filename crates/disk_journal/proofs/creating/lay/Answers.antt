@@ -1,8 +1,8 @@
 use Rattle.std.proofs.Common.{ℕ, ◌≡◌, ◌≤◌, ◌+◌, ◌*◌, length, arith}
-use Rattle.image_parts.specs.declared.layout.TheConstants.{SLOT_LENGTH}
-use Rattle.image_parts.specs.Zeros.{zeros}
-use Rattle.image_parts.proofs.Zeros.{zeros_end}
-use Rattle.image_parts.proofs.Moments.{image_then}
+use Rattle.disk_journal.specs.declared.layout.TheConstants.{SLOT_LENGTH}
+use Rattle.disk_journal.specs.Zeros.{zeros}
+use Rattle.disk_journal.proofs.ZeroLists.{zeros_end}
+use Rattle.disk_journal.proofs.Moments.{image_then}
 use Rattle.disk_journal.proofs.Beginning.{ShutImage, sync_shut, headed_size, blocks_size, laid_ok}
 use Rattle.disk_journal.proofs.creating.lay.Goals as goal
 

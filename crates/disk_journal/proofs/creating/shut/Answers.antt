@@ -1,7 +1,7 @@
 use Rattle.std.proofs.Common.{ℕ, ◌≡◌, [], ◌∷◌, List, ap, length, arith}
-use Rattle.image_parts.specs.declared.layout.TheConstants.{CLOSED}
-use Rattle.image_parts.specs.Zeros.{zeros}
-use Rattle.image_parts.proofs.Zeros.{failed_short, then_done, then_sync, none_yet, synced_ok}
+use Rattle.disk_journal.specs.declared.layout.TheConstants.{CLOSED}
+use Rattle.disk_journal.specs.Zeros.{zeros}
+use Rattle.disk_journal.proofs.Lengths.{failed_short, then_done, then_sync, none_yet, synced_ok}
 use Rattle.disk_journal.proofs.Beginning.{first_written}
 use Rattle.disk_journal.proofs.creating.shut.Goals as goal
 

@@ -1,5 +1,5 @@
 use Rattle.std.proofs.Common.{◌+◌, arith}
-use Rattle.image_parts.proofs.Moments.{image_then}
+use Rattle.disk_journal.proofs.Moments.{image_then}
 use Rattle.disk_journal.specs.declared.layout.TheConstants.{BANKS_AT, CONTENT_AT}
 use Rattle.disk_journal.specs.Changes.{with_front}
 use Rattle.disk_journal.proofs.Beginning.{ShutImage, bank_written, front_size}

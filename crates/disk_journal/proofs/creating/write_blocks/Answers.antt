@@ -1,8 +1,8 @@
 use Rattle.std.proofs.Common.{◌≡◌, ◌≤◌, ◌<◌, ◌-◌, ◌*◌, ◌∙◌, ap, sym, refl, arith}
-use Rattle.image_parts.specs.declared.layout.TheConstants.{SLOT_LENGTH}
-use Rattle.image_parts.specs.Zeros.{zeros}
-use Rattle.image_parts.proofs.Zeros.{are_zeros, blocks_zeros, zeros_end}
-use Rattle.image_parts.proofs.Moments.{image_then}
+use Rattle.disk_journal.specs.declared.layout.TheConstants.{SLOT_LENGTH}
+use Rattle.disk_journal.specs.Zeros.{zeros}
+use Rattle.disk_journal.proofs.ZeroLists.{are_zeros, blocks_zeros, zeros_end}
+use Rattle.disk_journal.proofs.Moments.{image_then}
 use Rattle.disk_journal.proofs.Beginning.{ShutImage, none_shut}
 use Rattle.disk_journal.proofs.creating.write_blocks.Goals as goal
 

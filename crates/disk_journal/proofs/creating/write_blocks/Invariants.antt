@@ -1,7 +1,7 @@
 use Rattle.std.proofs.Common.{◌≡◌, ◌-◌, ◌*◌, ◌≤◌, IsTrue}
-use Rattle.image_parts.specs.declared.layout.TheConstants.{SLOT_LENGTH}
-use Rattle.image_parts.specs.Changes.{EachImage}
-use Rattle.image_parts.specs.Zeros.{zeros}
+use Rattle.disk_journal.specs.declared.layout.TheConstants.{SLOT_LENGTH}
+use Rattle.disk_journal.specs.Moments.{EachImage}
+use Rattle.disk_journal.specs.Zeros.{zeros}
 use Rattle.disk_journal.specs.Initial.{IsShut}
 use Rattle.disk_journal.proofs.Beginning.{ShutImage}
 use Rattle.disk_journal.proofs.creating.write_blocks.Given as goal

@@ -1,8 +1,7 @@
 use Rattle.std.proofs.Common.{rules, [], ◌∷◌, arith}
 use Rattle.std.specs.Result.{OnOk}
-use Rattle.image_parts.specs.declared.layout.TheConstants.{OPEN}
-use Rattle.image_parts.proofs.Moments.{image_then}
-use Rattle.disk_journal.specs.declared.layout.TheConstants.{BANKS_AT}
+use Rattle.disk_journal.specs.declared.layout.TheConstants.{OPEN, BANKS_AT}
+use Rattle.disk_journal.proofs.Moments.{image_then}
 use Rattle.disk_journal.proofs.Beginning.{ShutImage, front_written, wrote_size}
 use Rattle.disk_journal.proofs.creating.write_front.Goals as goal
 

@@ -1,4 +1,4 @@
-use Rattle.image_parts.specs.declared.layout.TheConstants.{MAGIC_AT, HEADER_LENGTH}
+use Rattle.disk_journal.specs.declared.layout.TheConstants.{MAGIC_AT, HEADER_LENGTH}
 use Rattle.std.proofs.Common.{length}
 use Rattle.disk_journal.specs.Initial.{fields_of}
 use Rattle.disk_journal.proofs.Beginning.{two_written}

@@ -1,5 +1,5 @@
 use Rattle.std.proofs.Common.{◌≡◌, ℕ, ◌*◌, ◌<◌, get_or}
-use Rattle.image_parts.specs.declared.layout.TheConstants.{SLOT_LENGTH}
+use Rattle.disk_journal.specs.declared.layout.TheConstants.{SLOT_LENGTH}
 use Rattle.disk_journal.proofs.gates.first_other_of.Given as goal
 
 abbrev pub invariant-loop-index : goal.invariant-loop-index

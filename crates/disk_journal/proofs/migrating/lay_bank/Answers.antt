@@ -1,6 +1,5 @@
 use Rattle.std.proofs.Common.{rules, ◌≡◌, ◌+◌, [], ◌∷◌, ◌∙◌, length, arith}
-use Rattle.image_parts.specs.declared.layout.TheConstants.{OPEN}
-use Rattle.disk_journal.specs.declared.layout.TheConstants.{GENERATION_AT}
+use Rattle.disk_journal.specs.declared.layout.TheConstants.{OPEN, GENERATION_AT}
 use Rattle.disk_journal.proofs.Behind.{bank_laid, behind_ok, behind_then, wrote_long}
 use Rattle.disk_journal.proofs.migrating.lay_bank.Goals as goal
 

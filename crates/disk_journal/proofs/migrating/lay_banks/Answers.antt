@@ -1,8 +1,7 @@
 use Rattle.std.proofs.Common.{ℕ, ◌≡◌, ◌≤◌, ◌+◌, ◌*◌, ◌∙◌, length, subst, arith}
-use Rattle.image_parts.specs.declared.layout.TheConstants.{SLOT_LENGTH}
+use Rattle.disk_journal.specs.declared.layout.TheConstants.{SLOT_LENGTH, FIRST_GENERATION}
 use Rattle.disk_journal.specs.Banks.{bank_length, image_end}
 use Rattle.disk_journal.specs.Changes.{IsZero, KeepsPast}
-use Rattle.disk_journal.specs.declared.layout.TheConstants.{FIRST_GENERATION}
 use Rattle.disk_journal.proofs.Behind.{behind_then, sync_kept}
 use Rattle.disk_journal.proofs.Laying.{kept_image, laid_ok, new_banks}
 use Rattle.disk_journal.proofs.migrating.lay_banks.Goals as goal

@@ -1,6 +1,6 @@
 use Rattle.std.proofs.Common.{ℕ, ◌≡◌, ◌+◌, ◌*◌, ◌∙◌, ◌-◌, ◌<◌, ◌≤◌, refl, subst, arith}
 use Rattle.disk_journal.specs.Changes.{KeepsPast}
-use Rattle.image_parts.specs.declared.layout.TheConstants.{SLOT_LENGTH}
+use Rattle.disk_journal.specs.declared.layout.TheConstants.{SLOT_LENGTH}
 use Rattle.disk_journal.proofs.Behind.{behind_then, none_kept, past_more, past_same, zero_grown}
 use Rattle.disk_journal.proofs.Zeros.{zeros_size}
 use Rattle.disk_journal.proofs.migrating.lay_zeros.Goals as goal

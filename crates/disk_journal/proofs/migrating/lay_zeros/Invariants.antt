@@ -1,6 +1,6 @@
 use Rattle.std.proofs.Common.{◌≡◌, ◌+◌, ◌-◌, ◌*◌, ◌≤◌, length, IsTrue}
-use Rattle.image_parts.specs.declared.layout.TheConstants.{SLOT_LENGTH}
-use Rattle.image_parts.specs.Changes.{EachImage}
+use Rattle.disk_journal.specs.declared.layout.TheConstants.{SLOT_LENGTH}
+use Rattle.disk_journal.specs.Moments.{EachImage}
 use Rattle.disk_journal.specs.Changes.{IsZero, KeepsBelow, KeepsPast}
 use Rattle.disk_journal.proofs.Behind.{StillBehind}
 use Rattle.disk_journal.proofs.migrating.lay_zeros.Given as goal

@@ -1,6 +1,5 @@
 use Rattle.std.proofs.Common.{◌*◌}
-use Rattle.image_parts.specs.declared.layout.TheConstants.{SLOT_LENGTH}
-use Rattle.disk_journal.specs.declared.layout.TheConstants.{FIRST_GENERATION}
+use Rattle.disk_journal.specs.declared.layout.TheConstants.{SLOT_LENGTH, FIRST_GENERATION}
 use Rattle.disk_journal.proofs.Laying.{erased_moments, laid_moments, migrated_ok, octet_moments}
 use Rattle.disk_journal.proofs.migrating.migrate_banks.Goals as goal
 

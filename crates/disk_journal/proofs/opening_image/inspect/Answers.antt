@@ -1,5 +1,5 @@
 use Rattle.std.proofs.Common.{ℕ, List, ◌<◌, ap, sym, subst}
-use Rattle.image_parts.specs.declared.layout.TheConstants.{HEADER_LENGTH}
+use Rattle.disk_journal.specs.declared.layout.TheConstants.{HEADER_LENGTH}
 use Rattle.disk_journal.specs.Journal.{IsHeaderOf}
 use Rattle.disk_journal.proofs.Refused.{short_verdict, header_verdict}
 use Rattle.disk_journal.proofs.Verdicts.{header_found}

@@ -1,6 +1,6 @@
 use Rattle.std.proofs.Common.{◌∙◌, inl, inr}
 use Rattle.sdls_outside.specs.Site.{Synced}
-use Rattle.image_parts.proofs.Calls.{synced_between, on_ok_so}
+use Rattle.disk_journal.proofs.Calls.{synced_between, on_ok_so}
 use Rattle.disk_journal.proofs.Verdicts.{same_verdict}
 use Rattle.disk_journal.proofs.opening_image.inspect_synced.Goals as goal
 

@@ -1,7 +1,6 @@
 use Rattle.std.proofs.Common.{◌≡◌, ◌+◌, ◌-◌, ◌*◌, ◌≤◌, length, IsTrue}
-use Rattle.image_parts.specs.declared.layout.TheConstants.{SLOT_LENGTH}
+use Rattle.disk_journal.specs.declared.layout.TheConstants.{SLOT_LENGTH, RUN_LENGTH}
 use Rattle.disk_journal.specs.Changes.{IsZero}
-use Rattle.disk_journal.specs.declared.layout.TheConstants.{RUN_LENGTH}
 use Rattle.disk_journal.proofs.settling.is_zero.Given as goal
 
 abbrev pub decreases-loop-block : goal.decreases-loop-block

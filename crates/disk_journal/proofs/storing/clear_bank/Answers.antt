@@ -1,5 +1,5 @@
 use Rattle.std.proofs.Common.{◌≡◌, ◌≤◌, ◌+◌, ◌-◌, ◌*◌, length, replicate, refl, arith, subst}
-use Rattle.image_parts.specs.declared.layout.TheConstants.{SLOT_LENGTH}
+use Rattle.disk_journal.specs.declared.layout.TheConstants.{SLOT_LENGTH}
 use Rattle.disk_journal.specs.Changes.{IsZero}
 use Rattle.disk_journal.proofs.Pending.{row_more, row_failed, row_synced}
 use Rattle.disk_journal.proofs.Zeros.{zero_before, cleared}

@@ -1,5 +1,5 @@
 use Rattle.std.proofs.Common.{◌*◌}
-use Rattle.image_parts.specs.declared.layout.TheConstants.{SLOT_LENGTH}
+use Rattle.disk_journal.specs.declared.layout.TheConstants.{SLOT_LENGTH}
 use Rattle.disk_journal.proofs.Pending.{row_synced}
 use Rattle.disk_journal.proofs.Erasing.{erased}
 use Rattle.disk_journal.proofs.storing.clear_blocks.Goals as goal

@@ -1,4 +1,4 @@
-use Rattle.image_parts.proofs.Moments.{failed_moments, stored_moments}
+use Rattle.disk_journal.proofs.Moments.{failed_moments, stored_moments}
 use Rattle.disk_journal.proofs.storing.store.Goals as goal
 
 pub returns-in_err-write_at-clause-any_moment : goal.returns-in_err-write_at-clause-any_moment

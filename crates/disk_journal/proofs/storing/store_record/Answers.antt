@@ -1,4 +1,4 @@
-use Rattle.image_parts.proofs.SlotWrites.{body_first, gate_second}
+use Rattle.disk_journal.proofs.SlotWrites.{body_first, gate_second}
 use Rattle.disk_journal.proofs.storing.store_record.Goals as goal
 
 pub returns-in_err-store-clause-any_moment : goal.returns-in_err-store-clause-any_moment

@@ -1,5 +1,5 @@
 use Rattle.std.proofs.Common.{◌≡◌, ◌≤◌, ◌<◌, ◌+◌, ◌-◌, ◌*◌, length, ◌∙◌, arith}
-use Rattle.image_parts.specs.declared.layout.TheConstants.{SLOT_LENGTH}
+use Rattle.disk_journal.specs.declared.layout.TheConstants.{SLOT_LENGTH}
 use Rattle.disk_journal.proofs.Pending.{row_more, row_failed}
 use Rattle.disk_journal.proofs.Zeros.{zero_more, zeros_size}
 use Rattle.disk_journal.proofs.storing.write_zeros.Goals as goal

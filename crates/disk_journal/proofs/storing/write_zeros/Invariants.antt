@@ -1,5 +1,5 @@
 use Rattle.std.proofs.Common.{◌≡◌, ◌+◌, ◌-◌, ◌*◌, ◌≤◌, IsTrue}
-use Rattle.image_parts.specs.declared.layout.TheConstants.{SLOT_LENGTH}
+use Rattle.disk_journal.specs.declared.layout.TheConstants.{SLOT_LENGTH}
 use Rattle.disk_journal.specs.Changes.{IsZero, Row}
 use Rattle.disk_journal.proofs.storing.write_zeros.Given as goal
 

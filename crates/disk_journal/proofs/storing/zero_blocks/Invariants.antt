@@ -1,7 +1,6 @@
 use Rattle.std.proofs.Common.{◌≡◌, ◌+◌, ◌-◌, ◌*◌, ◌≤◌, IsTrue}
-use Rattle.image_parts.specs.declared.layout.TheConstants.{SLOT_LENGTH}
-use Rattle.disk_journal.specs.Changes.{Row}
-use Rattle.disk_journal.specs.Changes.{IsZero}
+use Rattle.disk_journal.specs.declared.layout.TheConstants.{SLOT_LENGTH}
+use Rattle.disk_journal.specs.Changes.{Row, IsZero}
 use Rattle.disk_journal.proofs.storing.zero_blocks.Given as goal
 
 abbrev pub decreases-loop-block : goal.decreases-loop-block

@@ -1,7 +1,6 @@
 use Rattle.std.proofs.Common.{◌*◌, ◌≤◌, ◌∙◌, ap, take, arith}
 use Rattle.std.proofs.lemmas.List.{take-replicate}
-use Rattle.image_parts.specs.declared.layout.TheConstants.{SLOT_LENGTH}
-use Rattle.disk_journal.specs.declared.layout.TheConstants.{RUN, RUN_LENGTH}
+use Rattle.disk_journal.specs.declared.layout.TheConstants.{SLOT_LENGTH, RUN, RUN_LENGTH}
 use Rattle.disk_journal.proofs.zeroing.zeros_of.Goals as goal
 
 pub returns : goal.returns

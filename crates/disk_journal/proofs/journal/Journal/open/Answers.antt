@@ -1,4 +1,4 @@
-use Rattle.image_parts.proofs.Moments.{only_syncs_moments}
+use Rattle.disk_journal.proofs.Moments.{only_syncs_moments}
 use Rattle.disk_journal.proofs.journal.Journal.open.Goals as goal
 
 pub returns-in-Ok-Opens-clause-any_moment : goal.returns-in-Ok-Opens-clause-any_moment

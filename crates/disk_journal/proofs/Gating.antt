@@ -4,8 +4,8 @@ use Rattle.std.proofs.lemmas.Bool.{cases_lt, cases_eq}
 use Rattle.std.proofs.lemmas.Bool.Decides.{nat_tests}
 use Rattle.std.proofs.lemmas.List.{get_or_append_left}
 use Rattle.std.proofs.Math.Seq.{get_or-append_seam}
-use Rattle.image_parts.specs.declared.layout.TheConstants.{OPEN}
-use Rattle.image_parts.specs.Slots.{gated}
+use Rattle.disk_journal.specs.declared.layout.TheConstants.{OPEN}
+use Rattle.disk_journal.specs.Slots.{gated}
 
 -- these are the bodies of the open slots from slot i on, up to the first closed one of n
 pub record AreGated (gate : ℕ → ℕ) (body : ℕ → List ℕ) (n i : ℕ) (bodies : List (List ℕ)) : Type 0 where

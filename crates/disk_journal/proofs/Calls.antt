@@ -1,10 +1,10 @@
 -- What calls on a site come to.
-use Rattle.std.proofs.Common.{◌≡◌, ℕ, ◌≤◌, nat_lt, false, refl, sym, ◌∙◌, subst, arith, Result, Ok, Err}
+use Rattle.std.proofs.Common.{◌≡◌, ℕ, ◌≤◌, nat_lt, false, sym, subst, arith, Result, Ok, Err}
 use Rattle.std.specs.Result.{OnOk}
 use Rattle.std.proofs.lemmas.Bool.Decides.{nat_tests}
 use Rattle.sdls_outside.specs.Moments.{Trace}
 use Rattle.sdls_outside.specs.Site.{Synced}
-use Rattle.image_parts.specs.declared.layout.TheConstants.{HEADER_LENGTH}
+use Rattle.disk_journal.specs.declared.layout.TheConstants.{HEADER_LENGTH}
 
 -- a run begun, a sync, and reads behind it
 pub synced_between : (old first mid new : Trace) → first ≡ old → Synced first mid → new ≡ mid → Synced old new

@@ -4,8 +4,8 @@ use Rattle.std.specs.Result.{OnOk}
 use Rattle.sdls_outside.specs.Moments.{Trace}
 use Rattle.sdls_outside.specs.Site.{overwritten}
 use Rattle.sdls_base.specs.declared.TheConstants.{BODY_LENGTH}
-use Rattle.image_parts.specs.Changes.{AllBut, EachImage}
-use Rattle.image_parts.proofs.Moments.{image_then, image_weaker}
+use Rattle.disk_journal.specs.Moments.{AllBut, EachImage}
+use Rattle.disk_journal.proofs.Moments.{image_then, image_weaker}
 
 pub ok_weaker : {T E : Type 0} → (result : Result T E) (P Q : Type 0) → (P → Q) → OnOk result P → OnOk result Q
 ok_weaker (Ok value) P Q weaker holds = weaker holds

@@ -6,8 +6,8 @@ use Rattle.sdls_outside.specs.Disk.{Disk, Leaves, IsSynced, Outside}
 use Rattle.sdls_outside.specs.Moments.{Trace}
 use Rattle.sdls_outside.specs.Site.{overwritten, Wrote, Writes, Syncs}
 use Rattle.sdls_outside.proofs.Moments.{synced_leaves, each_same, each_then, each_weaker, each_writes, each_syncs}
-use Rattle.image_parts.specs.Changes.{AllBut, EachImage, OnlySyncs}
-use Rattle.image_parts.proofs.Ranges.{all_but_same, overwritten_but}
+use Rattle.disk_journal.specs.Moments.{AllBut, EachImage, OnlySyncs}
+use Rattle.disk_journal.proofs.Ranges.{all_but_same, overwritten_but}
 
 -- nothing has changed
 pub image_same : (old new : Trace) (P : List ℕ → Type 0) → new ≡ old → ((image : List ℕ) → Leaves old.now image → P image)

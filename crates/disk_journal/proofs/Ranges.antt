@@ -4,7 +4,7 @@ use Rattle.std.proofs.lemmas.Bool.{cases_lt, cases_eq}
 use Rattle.std.proofs.lemmas.List.{ext_get_or, get_or-take, get_or-drop, length-take, length-take-le, get_or-set_other, get_or-set_same, length-set, get_or_append_left, get_or-append_right}
 use Rattle.std.proofs.Math.Seq.{drop-append_seam, take-append_seam}
 use Rattle.sdls_outside.specs.Site.{overwritten}
-use Rattle.image_parts.specs.Changes.{AllBut}
+use Rattle.disk_journal.specs.Moments.{AllBut}
 
 pub all_but_same : (at count : ℕ) (image : List ℕ) → AllBut at count image image
 all_but_same at count image = record { same_length = refl; outside = λ i away. refl }
