@@ -170,15 +170,15 @@ pub fn write_held(
 ) -> Result<(), AllocError>
     requires { IsOpen (site_trace site.old) journal.now }
 {
-    let mut room = vec![in alloc; 0; journal.version().content_length()]?;
+    let mut room = vec![in alloc; 0; journal.content_version().content_length()]?;
     write_content(site, journal, room.as_mut_slice(), answer)
 }
 
 /// What is said of a version, which is nothing of the first.
-fn version_text(version: Version) -> &'static str {
+fn version_text(version: u8) -> &'static str {
     match version {
-        Version::One => "",
-        Version::Two => " of version 2",
+        2 => " of version 2",
+        _ => "",
     }
 }
 

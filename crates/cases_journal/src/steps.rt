@@ -28,7 +28,7 @@ fn append(site: &mut MemSite, octet: u8) -> Result<(), JournalFault> {
 /// Writes a content by a turn, as much of it as the version has room for.
 fn turn(site: &mut MemSite, content: &[u8]) -> Result<(), JournalFault> {
     let mut journal = at_rest(site)?;
-    let length = journal.version().content_length();
+    let length = journal.content_version().content_length();
     if length > content.len() {
         return Ok(());
     }
@@ -40,7 +40,7 @@ fn migrate(site: &mut MemSite, content: &[u8]) -> Result<(), JournalFault>
     requires { length content.now ≡ CONTENT_LENGTH_TWO }
 {
     let mut journal = at_rest(site)?;
-    match journal.version() {
+    match journal.content_version() {
         Version::One => journal.migrate(site, content),
         Version::Two => Ok(()),
     }

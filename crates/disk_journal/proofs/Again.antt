@@ -6,7 +6,7 @@ use Rattle.disk_journal.proofs.Moving.{KeepsBanks, moved_bank, moved_plan, moved
 use Rattle.disk_journal.proofs.Rests.{Keeps, keeps_other, keeps_same, keeps_slot}
 use Rattle.disk_journal.proofs.Stands.{IsStill, Stands, apart, closed_in, holds_of, opens_stands}
 use Rattle.disk_journal.proofs.Turns.{after, before}
-use Rattle.disk_journal.specs.Banks.{bank_at, bank_length, body_at, content_at, gate_at, next, other, slot_at}
+use Rattle.disk_journal.specs.Banks.{bank_at, bank_length, slot_body, bank_content, slot_gate, next, other, slot_at}
 use Rattle.disk_journal.specs.Fault.{image_fault}
 use Rattle.disk_journal.specs.Forms.{HasOneClosed, Regates, StaysWithin}
 use Rattle.disk_journal.specs.Image.{IsAtRest, IsClosedGate, IsOpenedForm, current, current_at, first_closed, image_layout, other_at, plan_of, records, slot_count}
@@ -41,7 +41,7 @@ torn_stands image left layout at bank bodies stands change shut (inl slot) =
     let room : length bodies < layout.slots = slot.0 in
     let within : length bodies ≤ layout.slots = stands.are.within in
     let here : AllBut (slot_at layout from (length bodies)) 1 image left = subst (λ (k : ℕ). AllBut k 1 image left) place change in
-    let closed : gate_at layout left from (length bodies) ≢ OPEN = subst (λ (k : ℕ). get_or left k 0 ≢ OPEN) place shut in
+    let closed : slot_gate layout left from (length bodies) ≢ OPEN = subst (λ (k : ℕ). get_or left k 0 ≢ OPEN) place shut in
     let keeps = keeps_slot image left layout (length bodies) bank bodies stands refl here in
     let aside : (to + bank_length layout ≤ slot_at layout from (length bodies)) ⊎ (slot_at layout from (length bodies) + 1 ≤ to) =
     elim (apart layout bank) [ inl before ↦ inr (omega arith) | inr after ↦ inl (omega arith) ] in
@@ -58,7 +58,7 @@ torn_stands image left layout at bank bodies stands change shut (inl slot) =
             | inr later ↦ inr (keeps.same_generation ∙ later ∙ ap next (sym to_same.generation))
           ],
         );
-        are = records_stay (gate_at layout image from) (gate_at layout left from) (body_at layout image from) (body_at layout left from) layout.slots bodies stands.are
+        are = records_stay (slot_gate layout image from) (slot_gate layout left from) (slot_body layout image from) (slot_body layout left from) layout.slots bodies stands.are
             (record { gates = λ k below. keeps.gates k (omega arith) (omega arith); bodies = λ k below. keeps.bodies k (omega arith) (omega arith) })
             (λ room. closed);
         quiet = λ k above below. keeps.gates k below (omega arith) ∙ stands.quiet k above below;
@@ -76,7 +76,7 @@ torn_stands image left layout at bank bodies stands change shut (inr (inl beside
       record {
         front = keeps.front;
         newest = (keeps.gate, inl (subst (λ (k : ℕ). get_or left k 0 ≢ OPEN) beside shut));
-        are = records_stay (gate_at layout image from) (gate_at layout left from) (body_at layout image from) (body_at layout left from) layout.slots bodies stands.are
+        are = records_stay (slot_gate layout image from) (slot_gate layout left from) (slot_body layout image from) (slot_body layout left from) layout.slots bodies stands.are
             (record { gates = λ k below. same.gates k (omega arith); bodies = λ k below. same.bodies k (omega arith) })
             (λ room. subst (λ (octet : ℕ). octet ≢ OPEN) (sym (same.gates (length bodies) room)) (stands.are.closed room));
         quiet = λ k above below. same.gates k below ∙ stands.quiet k above below;
@@ -150,7 +150,7 @@ torn_stays image left at none one torn =
     let form_of : (form : List ℕ) → IsOpenedForm left form → (form ≡ image) ⊎ IsOpenedForm image form =
     λ form opened. torn_form image left form at torn (opened.3 ∙ ap (λ (k : ℕ). set left k OPEN) (gates opened.0 opened.1)) in
     record {
-      holds = inl (holds_of left (image_layout image) (current image) (records image) (plan_of image) (content_at (image_layout image) image (current_at image)) found.0
+      holds = inl (holds_of left (image_layout image) (current image) (records image) (plan_of image) (bank_content (image_layout image) image (current_at image)) found.0
           found.1.plan found.1.same_content);
       forms = form_of;
       settled = record {
@@ -185,7 +185,7 @@ open_is_other : (image : List ℕ) (at : ℕ) → IsClosedGate image at → get_
 unfolding records
 open_is_other image at closed here = elim closed.1 [
   | inl slot ↦
-      let are = records_are (gate_at (image_layout image) image (current_at image)) (body_at (image_layout image) image (current_at image)) (slot_count image) in
+      let are = records_are (slot_gate (image_layout image) image (current_at image)) (slot_body (image_layout image) image (current_at image)) (slot_count image) in
       absurd (are.closed slot.0 (subst (λ (k : ℕ). get_or image k 0 ≡ OPEN) slot.1 here))
   | inr beside ↦ elim beside [
     | inl gate ↦ gate
@@ -245,7 +245,7 @@ stays_still image left none one still regates = elim (cases_eq (get_or image (ot
         | inr moves ↦ closed.0 (ap (λ (k : ℕ). get_or image k 0) moves.1 ∙ still moves.0)
       ]
     ]) regates
-    | inl room ↦ elim (cases_eq (gate_at (image_layout image) image (current_at image) (first_closed image)) CLOSED) [
+    | inl room ↦ elim (cases_eq (slot_gate (image_layout image) image (current_at image) (first_closed image)) CLOSED) [
       | inr torn ↦ gate_stays image left (slot_at (image_layout image) (current_at image) (first_closed image)) none one (torn, inl (room, refl)) regates
       | inl slot_shut ↦ rest_stays image left none one (λ at closed. elim closed.1 [
         | inl slot ↦ closed.0 (ap (λ (k : ℕ). get_or image k 0) slot.1 ∙ slot_shut)

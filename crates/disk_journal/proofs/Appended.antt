@@ -5,7 +5,7 @@ use Rattle.disk_journal.proofs.Ends.{starts_of}
 use Rattle.disk_journal.proofs.Keeping.{beside_of, low_bank}
 use Rattle.disk_journal.proofs.Stands.{apart, stands_at, stands_current, stands_records}
 use Rattle.disk_journal.proofs.Turns.{after, bank_within, before}
-use Rattle.disk_journal.specs.Banks.{bank_at, bank_length, body_at, gate_at, generation_at, other, slot_at}
+use Rattle.disk_journal.specs.Banks.{bank_at, bank_length, slot_body, slot_gate, bank_generation, other, slot_at}
 use Rattle.disk_journal.specs.Changes.{IsZero, KeepsBeside}
 use Rattle.disk_journal.specs.Forms.{Becomes}
 use Rattle.disk_journal.specs.Image.{Held, current, current_at, first_closed, grown, held, image_layout, other_at, records, slot_count}
@@ -95,11 +95,11 @@ appended old body at journal writing =
     (all_but_wider (at + 1) (length body) at SLOT_LENGTH old written (omega arith) (omega arith) (overwritten_but old (at + 1) body body_fits))
     (all_but_wider at 1 at SLOT_LENGTH written new (omega arith) (omega arith) gate_change) in
     let wide : AllBut (slot_at layout from (first_closed old)) SLOT_LENGTH old new = subst (λ (k : ℕ). AllBut k SLOT_LENGTH old new) place wide_at in
-    let here : gate_at layout new from (first_closed old) ≡ OPEN = subst (λ (k : ℕ). get_or new k 0 ≡ OPEN) place (overwritten_one written at OPEN (omega arith)) in
+    let here : slot_gate layout new from (first_closed old) ≡ OPEN = subst (λ (k : ℕ). get_or new k 0 ≡ OPEN) place (overwritten_one written at OPEN (omega arith)) in
     let read : take BODY_LENGTH (drop (at + 1) new) ≡ body =
     same_stretch at 1 (at + 1) BODY_LENGTH written new gate_change (inr (omega arith))
     ∙ subst (λ (n : ℕ). take n (drop (at + 1) written) ≡ body) sized (overwritten_stretch old (at + 1) body body_fits) in
-    let body_here : body_at layout new from (first_closed old) ≡ body = subst (λ (k : ℕ). take BODY_LENGTH (drop (k + 1) new) ≡ body) place read in
+    let body_here : slot_body layout new from (first_closed old) ≡ body = subst (λ (k : ℕ). take BODY_LENGTH (drop (k + 1) new) ≡ body) place read in
     let stands = open_stands old new layout (current old) (records old) body appends wide here body_here in
     let opened = opens_to old new layout (current old) (records old) body appends wide here body_here in
     let keeps = in_slot old new layout (current old) (records old) appends.starts.stands wide in
@@ -117,7 +117,7 @@ appended old body at journal writing =
           layout = before_it.layout ∙ sym count;
           bank = before_it.bank ∙ sym one;
           generation = before_it.generation
-              ∙ sym (ap (λ (at : ℕ). generation_at new at) (stands_at new layout (current old) (records old ++ body ∷ []) stands) ∙ keeps.same_generation);
+              ∙ sym (ap (λ (at : ℕ). bank_generation new at) (stands_at new layout (current old) (records old ++ body ∷ []) stands) ∙ keeps.same_generation);
           used = ap (λ (n : ℕ). n + 1) before_it.used
               ∙ sym (ap (λ (some : List (List ℕ)). length some) bodies ∙ length-append (records old) (body ∷ []));
         };

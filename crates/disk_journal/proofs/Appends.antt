@@ -4,7 +4,7 @@ use Rattle.disk_journal.proofs.Keeping.{front_kept, plan_kept}
 use Rattle.disk_journal.proofs.Rests.{Keeps}
 use Rattle.disk_journal.proofs.Stands.{IsStill, Stands, apart, behind, gate_in, holds_of, still_kept}
 use Rattle.disk_journal.proofs.Turns.{Starts, after, bank_within, before, rest_becomes, torn_becomes}
-use Rattle.disk_journal.specs.Banks.{bank_at, body_at, content_at, gate_at, other, slot_at}
+use Rattle.disk_journal.specs.Banks.{bank_at, slot_body, bank_content, slot_gate, other, slot_at}
 use Rattle.disk_journal.specs.Forms.{Becomes, Holds}
 use Rattle.disk_journal.specs.Image.{Held, IsAtRest, IsClosedGate, grown, plan_of}
 use Rattle.disk_journal.specs.declared.layout.Bank.{Bank}
@@ -56,7 +56,7 @@ pub record Appends (old : List ℕ) (layout : Layout) (bank : Bank) (bodies : Li
 
 shut_stands : (old new : List ℕ) (layout : Layout) (bank : Bank) (bodies : List (List ℕ)) (body : List ℕ) → Appends old layout bank bodies body
     → AllBut (slot_at layout (bank_at layout bank) (length bodies)) SLOT_LENGTH old new
-    → gate_at layout new (bank_at layout bank) (length bodies) ≢ OPEN → Stands new layout bank bodies
+    → slot_gate layout new (bank_at layout bank) (length bodies) ≢ OPEN → Stands new layout bank bodies
 shut_stands old new layout bank bodies body appends change shut =
     let from = bank_at layout bank in
     let stands = appends.starts.stands in
@@ -65,7 +65,7 @@ shut_stands old new layout bank bodies body appends change shut =
     record {
       front = keeps.front;
       newest = (keeps.gate, inl (not_open (get_or new (bank_at layout (other bank)) 0) (still_shut old new layout bank bodies appends.starts room change)));
-      are = records_stay (gate_at layout old from) (gate_at layout new from) (body_at layout old from) (body_at layout new from) layout.slots bodies stands.are
+      are = records_stay (slot_gate layout old from) (slot_gate layout new from) (slot_body layout old from) (slot_body layout new from) layout.slots bodies stands.are
           (record { gates = λ k below. keeps.gates k (omega arith) (omega arith); bodies = λ k below. keeps.bodies k (omega arith) (omega arith) })
           (λ room. shut);
       quiet = λ k above below. keeps.gates k below (omega arith) ∙ stands.quiet k above below;
@@ -73,7 +73,7 @@ shut_stands old new layout bank bodies body appends change shut =
 
 pub open_stands : (old new : List ℕ) (layout : Layout) (bank : Bank) (bodies : List (List ℕ)) (body : List ℕ) → Appends old layout bank bodies body
     → AllBut (slot_at layout (bank_at layout bank) (length bodies)) SLOT_LENGTH old new
-    → gate_at layout new (bank_at layout bank) (length bodies) ≡ OPEN → body_at layout new (bank_at layout bank) (length bodies) ≡ body
+    → slot_gate layout new (bank_at layout bank) (length bodies) ≡ OPEN → slot_body layout new (bank_at layout bank) (length bodies) ≡ body
     → Stands new layout bank (bodies ++ body ∷ [])
 open_stands old new layout bank bodies body appends change here body_here =
     let from = bank_at layout bank in
@@ -84,10 +84,10 @@ open_stands old new layout bank bodies body appends change here body_here =
     record {
       front = keeps.front;
       newest = (keeps.gate, inl (not_open (get_or new (bank_at layout (other bank)) 0) (still_shut old new layout bank bodies appends.starts room change)));
-      are = records_grow (gate_at layout old from) (gate_at layout new from) (body_at layout old from) (body_at layout new from) layout.slots bodies body stands.are
+      are = records_grow (slot_gate layout old from) (slot_gate layout new from) (slot_body layout old from) (slot_body layout new from) layout.slots bodies body stands.are
           (record { gates = λ k below. keeps.gates k (omega arith) (omega arith); bodies = λ k below. keeps.bodies k (omega arith) (omega arith) })
           room here body_here
-          (λ next. not_open (gate_at layout new from (length bodies + 1))
+          (λ next. not_open (slot_gate layout new from (length bodies + 1))
           (keeps.gates (length bodies + 1) next (omega arith) ∙ stands.quiet (length bodies + 1) (omega arith) next));
       quiet = λ k above below.
           let high : length bodies < k = omega arith in
@@ -107,20 +107,20 @@ grown_by old layout bank bodies body = grown body (before old layout bank bodies
 -- the slot is open
 pub opens_to : (old new : List ℕ) (layout : Layout) (bank : Bank) (bodies : List (List ℕ)) (body : List ℕ) → Appends old layout bank bodies body
     → AllBut (slot_at layout (bank_at layout bank) (length bodies)) SLOT_LENGTH old new
-    → gate_at layout new (bank_at layout bank) (length bodies) ≡ OPEN → body_at layout new (bank_at layout bank) (length bodies) ≡ body
+    → slot_gate layout new (bank_at layout bank) (length bodies) ≡ OPEN → slot_body layout new (bank_at layout bank) (length bodies) ≡ body
     → Holds new (grown_by old layout bank bodies body) × IsAtRest new
 opens_to old new layout bank bodies body appends change here body_here =
     let from = bank_at layout bank in
     let keeps = in_slot old new layout bank bodies appends.starts.stands change in
     let stands : Stands new layout bank (bodies ++ body ∷ []) = open_stands old new layout bank bodies body appends change here body_here in
     let longer : length (bodies ++ body ∷ []) ≡ length bodies + 1 = length-append bodies (body ∷ []) in (
-      holds_of new layout bank (bodies ++ body ∷ []) (plan_of old) (content_at layout old from) stands keeps.plan keeps.same_content,
+      holds_of new layout bank (bodies ++ body ∷ []) (plan_of old) (bank_content layout old from) stands keeps.plan keeps.same_content,
       λ at closed.
           let in_place = gate_in new layout bank (bodies ++ body ∷ []) at stands (slot_still old new layout bank bodies body appends change) closed in
           elim in_place.1 [
             | inl slot ↦
                 let next : length bodies + 1 < layout.slots = let below : length (bodies ++ body ∷ []) < layout.slots = slot.0 in omega arith in
-                in_place.0 (ap (λ (k : ℕ). get_or new k 0) slot.1 ∙ ap (gate_at layout new from) longer
+                in_place.0 (ap (λ (k : ℕ). get_or new k 0) slot.1 ∙ ap (slot_gate layout new from) longer
                 ∙ keeps.gates (length bodies + 1) next (omega arith) ∙ appends.starts.stands.quiet (length bodies + 1) (omega arith) next)
             | inr gate ↦ in_place.0 (ap (λ (k : ℕ). get_or new k 0) gate ∙ still_shut old new layout bank bodies appends.starts appends.room change)
           ],
@@ -148,7 +148,7 @@ body_step old image layout bank bodies body appends change =
     let keeps = in_slot old image layout bank bodies appends.starts.stands wide in
     let stands : Stands image layout bank bodies = shut_stands old image layout bank bodies body appends wide (not_open (get_or image at 0) shut) in
     rest_becomes (before old layout bank bodies) (grown_by old layout bank bodies body) image
-    (inl (holds_of image layout bank bodies (plan_of old) (content_at layout old from) stands keeps.plan keeps.same_content))
+    (inl (holds_of image layout bank bodies (plan_of old) (bank_content layout old from) stands keeps.plan keeps.same_content))
     (λ place closed. closed.0 (ap (λ (k : ℕ). get_or image k 0) (shut_gates old image layout bank bodies body appends wide stands place closed) ∙ shut))
 
 -- the gate while it is written
@@ -165,13 +165,13 @@ gate_step old image layout bank bodies body appends change =
     let inside : at + SLOT_LENGTH ≤ length old = omega (arith, long) in
     let within : at + 1 + length body ≤ length old = omega arith in
     let same : length written ≡ length old = overwritten_length old (at + 1) body within in
-    let read : body_at layout written from (length bodies) ≡ body =
+    let read : slot_body layout written from (length bodies) ≡ body =
     subst (λ (n : ℕ). take n (drop (at + 1) written) ≡ body) sized (overwritten_stretch old (at + 1) body within) in
     let first : AllBut at SLOT_LENGTH old written =
     all_but_wider (at + 1) (length body) at SLOT_LENGTH old written (omega arith) (omega arith) (overwritten_but old (at + 1) body within) in
     let wide_of : (new : List ℕ) → AllBut at 1 written new → AllBut at SLOT_LENGTH old new =
     λ new torn. all_but_then at SLOT_LENGTH old written new first (all_but_wider at 1 at SLOT_LENGTH written new (omega arith) (omega arith) torn) in
-    let body_of : (new : List ℕ) → AllBut at 1 written new → body_at layout new from (length bodies) ≡ body =
+    let body_of : (new : List ℕ) → AllBut at 1 written new → slot_body layout new from (length bodies) ≡ body =
     λ new torn. same_stretch at 1 (at + 1) BODY_LENGTH written new torn (inr (omega arith)) ∙ read in
     let size : length image ≡ length written = change.same_length in
     elim (cases_eq (get_or image at 0) OPEN) [
@@ -183,7 +183,7 @@ gate_step old image layout bank bodies body appends change =
           let keeps = in_slot old image layout bank bodies appends.starts.stands wide in
           let stands : Stands image layout bank bodies = shut_stands old image layout bank bodies body appends wide shut in
           torn_becomes at (before old layout bank bodies) (grown_by old layout bank bodies body) image
-          (inl (holds_of image layout bank bodies (plan_of old) (content_at layout old from) stands keeps.plan keeps.same_content))
+          (inl (holds_of image layout bank bodies (plan_of old) (bank_content layout old from) stands keeps.plan keeps.same_content))
           (shut_gates old image layout bank bodies body appends wide stands)
           (λ torn.
           let form = set image at OPEN in

@@ -4,7 +4,7 @@ use Rattle.disk_journal.proofs.Keeping.{beside_of, beside_then, fresh_generation
 use Rattle.disk_journal.proofs.Stands.{IsStill, Stands, opens_stands, stands_at, stands_current, stands_opens, stands_records, twice_other}
 use Rattle.disk_journal.proofs.Turns.{IsNew, Opened, Starts, Turns, after, bank_within, before, first_step, fourth_step, gate_inside, gate_torn, is_filled, later_fits, new_holds, new_rests, new_stands, rest_new, second_step, third_step, with_other_gate}
 use Rattle.disk_journal.proofs.Zeros.{cleared}
-use Rattle.disk_journal.specs.Banks.{bank_at, bank_length, gate_at, generation_at, head_length, next, other, slot_at}
+use Rattle.disk_journal.specs.Banks.{bank_at, bank_length, slot_gate, bank_generation, head_length, next, other, slot_at}
 use Rattle.disk_journal.specs.Changes.{IsCleared, IsZero, KeepsBeside, Steps, filled, with_gate}
 use Rattle.disk_journal.specs.Forms.{Becomes, Holds}
 use Rattle.disk_journal.specs.Image.{current, current_at, first_closed, held, image_layout, other_at, plan_of, records, turned}
@@ -31,7 +31,7 @@ settled_still image journal settled old_is = elim (cases_eq (get_or image MIGRAT
 pub starts_of : (image : List ℕ) (journal : JournalView) → IsSettledImage image journal → Starts image (image_layout image) (current image) (records image)
 starts_of image journal settled = record {
   stands = opens_stands image settled.of_image.opens;
-  free = λ room. elim (cases_eq (gate_at (image_layout image) image (current_at image) (first_closed image)) CLOSED) [
+  free = λ room. elim (cases_eq (slot_gate (image_layout image) image (current_at image) (first_closed image)) CLOSED) [
     | inl shut ↦ shut
     | inr torn ↦ absurd (settled.rests (slot_at (image_layout image) (current_at image) (first_closed image)) (torn, inl (room, refl)))
   ];
@@ -172,7 +172,7 @@ ended old layout generation bank bodies text image turns cleared =
           plan = planned ∙ ap (λ (text : List ℕ). length text) (sym image_new.plan);
           layout = sym count;
           bank = sym is_current;
-          generation = sym (ap (λ (at : ℕ). generation_at image at) (stands_at image layout (other bank) [] stands)
+          generation = sym (ap (λ (at : ℕ). bank_generation image at) (stands_at image layout (other bank) [] stands)
               ∙ fresh_generation (bank_at layout (other bank)) layout generation text image image_new.fresh (later_fits old layout generation bank bodies text turns));
           used = ap (λ (some : List (List ℕ)). length some) (sym none);
         };

@@ -3,13 +3,13 @@ use Rattle.std.proofs.Common.{◌≡◌, ℕ, ◌+◌, ◌-◌, ◌*◌, ◌<◌
 use Rattle.std.proofs.lemmas.List.{get_or-drop, get_or-take, length-take}
 use Rattle.std.proofs.lemmas.Bool.{cases_lt}
 use Rattle.disk_journal.specs.declared.layout.TheConstants.{SLOT_LENGTH}
-use Rattle.disk_journal.specs.Banks.{slot_at, gate_at}
+use Rattle.disk_journal.specs.Banks.{slot_at, slot_gate}
 use Rattle.disk_journal.specs.Gates.{IsFirstOther}
 use Rattle.disk_journal.specs.declared.layout.Layout.{Layout}
 
 gate_read : (layout : Layout) (bank : ℕ) (image slots : List ℕ) (first n i : ℕ)
     → slots ≡ take n (drop (slot_at layout bank first) image) → SLOT_LENGTH * i < length slots
-    → get_or slots (SLOT_LENGTH * i) 0 ≡ gate_at layout image bank (first + i)
+    → get_or slots (SLOT_LENGTH * i) 0 ≡ slot_gate layout image bank (first + i)
 gate_read layout bank image slots first n i read within =
     let behind = drop (slot_at layout bank first) image in
     let below : SLOT_LENGTH * i < n = omega (arith, ap length read, length-take n behind) in
@@ -23,7 +23,7 @@ gate_read layout bank image slots first n i read within =
 pub other_read : (layout : Layout) (bank : ℕ) (image slots : List ℕ) (gate first end n index : ℕ) → first ≤ end
     → slots ≡ take n (drop (slot_at layout bank first) image) → length slots ≡ SLOT_LENGTH * (end - first)
     → IsFirstOther (λ i. get_or slots (SLOT_LENGTH * i) 0) gate 0 (end - first) index
-    → IsFirstOther (gate_at layout image bank) gate first end (first + index)
+    → IsFirstOther (slot_gate layout image bank) gate first end (first + index)
 other_read layout bank image slots gate first end n index ordered read long found =
     let fits : index ≤ end - first = found.within in
     record {
@@ -32,7 +32,7 @@ other_read layout bank image slots gate first end n index ordered read long foun
       before = λ i low high.
           let here : SLOT_LENGTH * (i - first) < length slots = omega arith in
           let same : first + (i - first) ≡ i = omega arith in
-          ap (gate_at layout image bank) (sym same) ∙ sym (gate_read layout bank image slots first n (i - first) read here)
+          ap (slot_gate layout image bank) (sym same) ∙ sym (gate_read layout bank image slots first n (i - first) read here)
           ∙ found.before (i - first) (omega arith) (omega arith);
       other = λ below same.
           let here : SLOT_LENGTH * index < length slots = omega arith in

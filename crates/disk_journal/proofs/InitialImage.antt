@@ -4,7 +4,7 @@ use Rattle.disk_journal.proofs.Beginning.{IsBegun, fields_size, first_banks, wit
 use Rattle.disk_journal.proofs.Keeping.{fresh_generation, header_passes}
 use Rattle.disk_journal.proofs.Stands.{Stands, banks_behind, held_by, stands_at, stands_current, stands_records}
 use Rattle.disk_journal.proofs.Turns.{IsNew, new_holds, new_rests, new_stands}
-use Rattle.disk_journal.specs.Banks.{bank_at, bank_length, banks_of, generation_at, image_end, layout_of, other, version_of, zeros_at_of}
+use Rattle.disk_journal.specs.Banks.{bank_at, bank_length, banks_of, bank_generation, image_end, layout_of, other, version_of, zeros_at_of}
 use Rattle.disk_journal.specs.Changes.{IsZero}
 use Rattle.disk_journal.specs.Fault.{header_checks}
 use Rattle.disk_journal.specs.Forms.{Holds}
@@ -340,7 +340,7 @@ begins_settled form plan slots text made =
           plan = ap (λ (some : List ℕ). length some) (sym planned);
           layout = sym is_layout;
           bank = sym is_current;
-          generation = sym (ap (λ (at : ℕ). generation_at image at) (stands_at image layout First [] stands)
+          generation = sym (ap (λ (at : ℕ). bank_generation image at) (stands_at image layout First [] stands)
               ∙ fresh_generation (bank_at layout First) layout FIRST_GENERATION text image is_new.fresh (omega arith));
           used = ap (λ (bodies : List (List ℕ)). length bodies) (sym (stands_records image layout First [] stands));
         };

@@ -1,7 +1,7 @@
 -- What a change in one bank, or in a part of it, keeps.
 use Rattle.std.proofs.Common.{◌≡◌, ◌≢◌, ℕ, ◌+◌, ◌-◌, ◌*◌, ◌^◌, ◌<◌, ◌≤◌, ◌⊎◌, ◌==◌, ◌||◌, ◌&&◌, ◌∷◌, ◌∙◌, not, nat_lt, Bool, false, List, [], length, get_or, take, drop, None, refl, sym, ap, subst, inl, inr, arith, append-nil}
 use Rattle.disk_journal.proofs.Stands.{HasFront, Stands, apart, behind}
-use Rattle.disk_journal.specs.Banks.{bank_at, bank_length, body_at, content_at, gate_at, generation_at, head_length, image_end, layout_of, next, other, slot_at, zeros_at_of}
+use Rattle.disk_journal.specs.Banks.{bank_at, bank_length, slot_body, bank_content, slot_gate, bank_generation, head_length, image_end, layout_of, next, other, slot_at, zeros_at_of}
 use Rattle.disk_journal.specs.Header.{form_in, has_magic, header_of, plan_length_in, slot_count_in}
 use Rattle.disk_journal.specs.Changes.{IsZero, KeepsBeside, filled}
 use Rattle.disk_journal.specs.Fault.{header_checks}
@@ -121,10 +121,10 @@ plan_kept at count layout old new change behind front =
 
 -- a bank stays, past its gate
 pub record SameBank (bank : ℕ) (layout : Layout) (old new : List ℕ) : Type 0 where
-  pub generation : generation_at new bank ≡ generation_at old bank
-  pub content : content_at layout new bank ≡ content_at layout old bank
-  pub gates : (k : ℕ) → k < layout.slots → gate_at layout new bank k ≡ gate_at layout old bank k
-  pub bodies : (k : ℕ) → k < layout.slots → body_at layout new bank k ≡ body_at layout old bank k
+  pub generation : bank_generation new bank ≡ bank_generation old bank
+  pub content : bank_content layout new bank ≡ bank_content layout old bank
+  pub gates : (k : ℕ) → k < layout.slots → slot_gate layout new bank k ≡ slot_gate layout old bank k
+  pub bodies : (k : ℕ) → k < layout.slots → slot_body layout new bank k ≡ slot_body layout old bank k
 
 pub bank_kept : (at count bank : ℕ) (layout : Layout) (old new : List ℕ) → AllBut at count old new
     → (bank + bank_length layout ≤ at) ⊎ (at + count ≤ bank + 1) → SameBank bank layout old new
@@ -156,8 +156,8 @@ stands_same old new layout bank bodies stands front same here closed =
     record {
       front = front;
       newest = (here, inl closed);
-      are = records_stay (gate_at layout old (bank_at layout bank)) (gate_at layout new (bank_at layout bank)) (body_at layout old (bank_at layout bank))
-          (body_at layout new (bank_at layout bank)) layout.slots bodies stands.are
+      are = records_stay (slot_gate layout old (bank_at layout bank)) (slot_gate layout new (bank_at layout bank)) (slot_body layout old (bank_at layout bank))
+          (slot_body layout new (bank_at layout bank)) layout.slots bodies stands.are
           (record { gates = λ k below. same.gates k (omega arith); bodies = λ k below. same.bodies k (omega arith) })
           (λ room. subst (λ (gate : ℕ). gate ≢ OPEN) (sym (same.gates (length bodies) room)) (stands.are.closed room));
       quiet = λ k above below. same.gates k below ∙ stands.quiet k above below;
@@ -166,7 +166,7 @@ stands_same old new layout bank bodies stands front same here closed =
 -- what was written into a bank, and zero slots behind it
 pub record Fresh (bank : ℕ) (layout : Layout) (generation : ℕ) (text image : List ℕ) : Type 0 where
   pub has_generation : take GENERATION_LENGTH (drop (bank + GENERATION_AT) image) ≡ big_bytes GENERATION_LENGTH generation
-  pub has_content : content_at layout image bank ≡ text
+  pub has_content : bank_content layout image bank ≡ text
   pub zero : IsZero (bank + head_length layout) (bank + bank_length layout) image
 
 pub fresh_kept : (at count bank : ℕ) (layout : Layout) (generation : ℕ) (text old new : List ℕ) → AllBut at count old new
@@ -180,7 +180,7 @@ fresh_kept at count bank layout generation text old new change apart fresh = rec
 }
 
 pub fresh_generation : (bank : ℕ) (layout : Layout) (generation : ℕ) (text image : List ℕ) → Fresh bank layout generation text image → generation < 2 ^ 64
-    → generation_at image bank ≡ generation
+    → bank_generation image bank ≡ generation
 fresh_generation bank layout generation text image fresh fits =
     ap (big_number GENERATION_LENGTH) (fresh.has_generation ∙ sym (append-nil (big_bytes GENERATION_LENGTH generation)))
     ∙ big_number-reads_back 8 generation [] (let low : generation < 256 ^ 8 = omega arith in low)
@@ -189,10 +189,10 @@ fresh_generation bank layout generation text image fresh fits =
 pub stands_fresh : (image : List ℕ) (layout : Layout) (generation : ℕ) (bank : Bank) (text : List ℕ) → HasFront image layout
     → Fresh (bank_at layout bank) layout generation text image → get_or image (bank_at layout bank) 0 ≡ OPEN
     → (get_or image (bank_at layout (other bank)) 0 ≢ OPEN)
-    ⊎ (generation_at image (bank_at layout bank) ≡ next (generation_at image (bank_at layout (other bank))))
+    ⊎ (bank_generation image (bank_at layout bank) ≡ next (bank_generation image (bank_at layout (other bank))))
     → Stands image layout bank []
 stands_fresh image layout generation bank text front fresh here newest =
-    let shut : (k : ℕ) → k < layout.slots → gate_at layout image (bank_at layout bank) k ≡ CLOSED =
+    let shut : (k : ℕ) → k < layout.slots → slot_gate layout image (bank_at layout bank) k ≡ CLOSED =
     λ k below. fresh.zero (slot_at layout (bank_at layout bank) k) (omega arith) (omega arith) in
     record {
       front = front;

@@ -5,7 +5,7 @@ use Rattle.disk_journal.proofs.Keeping.{front_bounds, fresh_generation}
 use Rattle.disk_journal.proofs.Moves.{IsMigrated, Moves, erasing_migrated, migrated_at, migrated_fresh, migrated_holds, migrated_layout, migrated_rests, migrated_stands, moves_become}
 use Rattle.disk_journal.proofs.Stands.{Stands, stands_at, stands_current, stands_opens, stands_records}
 use Rattle.disk_journal.proofs.Turns.{after}
-use Rattle.disk_journal.specs.Banks.{bank_at, bank_length, generation_at, image_end, other}
+use Rattle.disk_journal.specs.Banks.{bank_at, bank_length, bank_generation, image_end, other}
 use Rattle.disk_journal.specs.Changes.{IsErased, IsLaidBehind, IsZero, KeepsPast, Migrates, with_migration}
 use Rattle.disk_journal.specs.Forms.{Becomes, Holds}
 use Rattle.disk_journal.specs.Image.{current, held, image_layout, migrated, plan_of, records}
@@ -87,7 +87,7 @@ migrated_end old layout generation text image moved fits old_banks =
           plan = planned ∙ ap (λ (octets : List ℕ). length octets) (sym moved.plan);
           layout = sym count;
           bank = sym is_current;
-          generation = sym (ap (λ (at : ℕ). generation_at image at) (stands_at image layout First [] stands)
+          generation = sym (ap (λ (at : ℕ). bank_generation image at) (stands_at image layout First [] stands)
               ∙ fresh_generation (bank_at layout First) layout generation text image (migrated_fresh old layout generation text image moved) fits);
           used = ap (λ (some : List (List ℕ)). length some) (sym (stands_records image layout First [] stands));
         };

@@ -5,7 +5,7 @@ use Rattle.disk_journal.proofs.Keeping.{Fresh, SameBank, front_bounds, front_kep
 use Rattle.disk_journal.proofs.Moving.{KeepsBanks, moved_alike, moved_bank, moved_gate, moved_plan, moved_stands}
 use Rattle.disk_journal.proofs.Stands.{HasFront, Stands, closed_in, holds_of}
 use Rattle.disk_journal.proofs.Turns.{Starts, after, before, rest_becomes, torn_becomes}
-use Rattle.disk_journal.specs.Banks.{bank_at, content_at, image_end, layout_of, other, slot_at}
+use Rattle.disk_journal.specs.Banks.{bank_at, bank_content, image_end, layout_of, other, slot_at}
 use Rattle.disk_journal.specs.Changes.{HasNewBanks, IsLaidBehind, KeepsBelow, Migrates, with_migration}
 use Rattle.disk_journal.specs.Forms.{Becomes, Holds}
 use Rattle.disk_journal.specs.Image.{IsAtRest, IsClosedGate, plan_of}
@@ -66,7 +66,7 @@ is_old old layout bank bodies image moves keeps other_octet =
     let same : SameBank at layout old image = moved_bank layout bank old image keeps (front_bounds old layout front) front.behind_plan in
     record {
       whole = stands.front.whole;
-      holds = holds_of image layout bank bodies (plan_of old) (content_at layout old at) stands (moved_plan layout old image front keeps) same.content;
+      holds = holds_of image layout bank bodies (plan_of old) (bank_content layout old at) stands (moved_plan layout old image front keeps) same.content;
       one = λ gate closed.
           let here = closed_in image layout bank bodies gate stands closed in
           elim here.1 [

@@ -4,7 +4,7 @@ use Rattle.byteorder.specs.Endian.{big_number}
 use Rattle.disk_journal.proofs.Headers.{IsAlike, alike, front_old, plan_alike}
 use Rattle.disk_journal.proofs.Keeping.{SameBank, front_bounds, header_bounds}
 use Rattle.disk_journal.proofs.Stands.{HasFront, Stands, behind}
-use Rattle.disk_journal.specs.Banks.{bank_at, bank_length, body_at, gate_at, image_end, next, other, slot_at}
+use Rattle.disk_journal.specs.Banks.{bank_at, bank_length, slot_body, slot_gate, image_end, next, other, slot_at}
 use Rattle.disk_journal.specs.Image.{plan_of}
 use Rattle.disk_journal.specs.declared.layout.Bank.{Bank}
 use Rattle.disk_journal.specs.declared.layout.Bank.TheVariants.{First, Second}
@@ -101,7 +101,7 @@ moved_stands old new layout bank bodies stands old_is keeps other_octet =
           | inr later ↦ inr (here.generation ∙ later ∙ ap next (sym there.generation))
         ],
       );
-      are = records_stay (gate_at layout old from) (gate_at layout new from) (body_at layout old from) (body_at layout new from) layout.slots bodies stands.are
+      are = records_stay (slot_gate layout old from) (slot_gate layout new from) (slot_body layout old from) (slot_body layout new from) layout.slots bodies stands.are
           (record { gates = λ k below. here.gates k (omega arith); bodies = λ k below. here.bodies k (omega arith) })
           (λ room. subst (λ (octet : ℕ). octet ≢ OPEN) (sym (here.gates (length bodies) room)) (stands.are.closed room));
       quiet = λ k above below. here.gates k below ∙ stands.quiet k above below;

@@ -3,7 +3,7 @@ use Rattle.std.proofs.Common.{◌≡◌, ℕ, zero, suc, ◌+◌, ◌-◌, ◌<�
 use Rattle.disk_journal.proofs.Keeping.{Bounds, header_bounds}
 use Rattle.disk_journal.proofs.Stands.{banks_behind, opens_stands}
 use Rattle.disk_journal.proofs.Turns.{bank_within}
-use Rattle.disk_journal.specs.Banks.{bank_at, bank_length, body_at, generation_at, image_end, layout_of, slot_at}
+use Rattle.disk_journal.specs.Banks.{bank_at, bank_length, slot_body, bank_generation, image_end, layout_of, slot_at}
 use Rattle.disk_journal.specs.Fault.{image_fault}
 use Rattle.disk_journal.specs.Header.{form_in, header_of, plan_length_in, slot_count_in}
 use Rattle.disk_journal.specs.Image.{content, current_at, first_closed, image_layout, plan_of, record_at, records, slot_count}
@@ -78,7 +78,7 @@ get_at (body ∷ bodies) zero below = refl
 get_at (body ∷ bodies) (suc i) below = get_at bodies i (omega arith)
 
 record_read : (image : List ℕ) (index : ℕ) → image_fault image ≡ None → index < first_closed image
-    → slice_get (records image) index ≡ Some (body_at (image_layout image) image (current_at image) index)
+    → slice_get (records image) index ≡ Some (slot_body (image_layout image) image (current_at image) index)
 record_read image index none below =
     let are = (opens_stands image none).are in
     get_at (records image) index below ∙ ap (λ (body : List ℕ). Some body) (are.are index below)
@@ -89,7 +89,7 @@ pub body_read : (old : Trace) (journal : JournalView) (index at : ℕ) (into : L
 body_read old journal index at into opened below place read =
     let image = old.now.image in
     let low : index < first_closed image = let used : journal.used ≡ first_closed image = opened.of_image.used in omega arith in
-    let here : into ≡ body_at (image_layout image) image (current_at image) index =
+    let here : into ≡ slot_body (image_layout image) image (current_at image) index =
     read ∙ ap (λ (k : ℕ). take BODY_LENGTH (drop (k + 1) image)) (record_place image journal index at place opened.of_image) in
     record_read image index opened.of_image.opens low ∙ ap (λ (body : List ℕ). Some body) (sym here)
 
@@ -146,7 +146,7 @@ front_gate image octets bank read =
     ∙ get_or-drop bank image 0 0 ∙ ap (λ (k : ℕ). get_or image k 0) same
 
 pub front_generation : (image octets : List ℕ) (bank : ℕ) → octets ≡ take CONTENT_AT (drop bank image)
-    → big_number GENERATION_LENGTH (take GENERATION_LENGTH (drop GENERATION_AT octets)) ≡ generation_at image bank
+    → big_number GENERATION_LENGTH (take GENERATION_LENGTH (drop GENERATION_AT octets)) ≡ bank_generation image bank
 front_generation image octets bank read =
     ap (λ (some : List ℕ). big_number GENERATION_LENGTH (take GENERATION_LENGTH (drop GENERATION_AT some))) read
     ∙ ap (λ (some : List ℕ). big_number GENERATION_LENGTH (take GENERATION_LENGTH some)) (drop-take GENERATION_AT GENERATION_LENGTH (drop bank image)

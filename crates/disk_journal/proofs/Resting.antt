@@ -5,7 +5,7 @@ use Rattle.disk_journal.proofs.Moving.{KeepsBanks, moved_bank, moved_plan, moved
 use Rattle.disk_journal.proofs.Rests.{regates_one}
 use Rattle.disk_journal.proofs.Stands.{Stands, closed_in, gate_in, holds_of, opens_stands, stands_at, stands_current, stands_records}
 use Rattle.disk_journal.proofs.Turns.{rest_becomes}
-use Rattle.disk_journal.specs.Banks.{bank_at, bank_length, body_at, content_at, gate_at, generation_at, image_end, next, other}
+use Rattle.disk_journal.specs.Banks.{bank_at, bank_length, slot_body, bank_content, slot_gate, bank_generation, image_end, next, other}
 use Rattle.disk_journal.specs.Changes.{GatedForm, IsErased, IsZero, KeepsBeside, KeepsPlan}
 use Rattle.disk_journal.specs.Fault.{image_fault}
 use Rattle.disk_journal.specs.Forms.{Becomes, Holds, Regates, Settles}
@@ -77,7 +77,7 @@ stilled old new journal of_image (inr (old_is, torn, change)) shut =
     let moved : Stands new layout (current old) (records old) =
     moved_stands old new layout (current old) (records old) stands form_is keeps (λ here. absurd (omega (arith, closed, here))) in
     let bank = moved_bank layout (current old) old new keeps (front_bounds old layout stands.front) stands.front.behind_plan in
-    let holds : Holds new (held old) = holds_of new layout (current old) (records old) (plan_of old) (content_at layout old (current_at old)) moved
+    let holds : Holds new (held old) = holds_of new layout (current old) (records old) (plan_of old) (bank_content layout old (current_at old)) moved
     (moved_plan layout old new stands.front keeps) bank.content in
     record {
       of_image = record {
@@ -86,7 +86,7 @@ stilled old new journal of_image (inr (old_is, torn, change)) shut =
         layout = of_image.layout ∙ sym moved.front.same_layout;
         bank = of_image.bank ∙ sym (stands_current new layout (current old) (records old) moved);
         generation = of_image.generation
-            ∙ sym (ap (λ (at : ℕ). generation_at new at) (stands_at new layout (current old) (records old) moved) ∙ bank.generation);
+            ∙ sym (ap (λ (at : ℕ). bank_generation new at) (stands_at new layout (current old) (records old) moved) ∙ bank.generation);
         used = of_image.used ∙ ap (λ (bodies : List (List ℕ)). length bodies) (sym (stands_records new layout (current old) (records old) moved));
       };
       same = holds.is;
@@ -149,15 +149,15 @@ erased old new at count none rests change low high =
           | inr later ↦ inr (here.generation ∙ later ∙ ap next (sym there.generation))
         ],
       );
-      are = records_stay (gate_at layout old (current_at old)) (gate_at layout new (current_at old)) (body_at layout old (current_at old))
-          (body_at layout new (current_at old)) layout.slots (records old) stands.are
+      are = records_stay (slot_gate layout old (current_at old)) (slot_gate layout new (current_at old)) (slot_body layout old (current_at old))
+          (slot_body layout new (current_at old)) layout.slots (records old) stands.are
           (record { gates = λ k below. here.gates k (omega arith); bodies = λ k below. here.bodies k (omega arith) })
           (λ room. subst (λ (octet : ℕ). octet ≢ OPEN) (sym (here.gates (length (records old)) room)) (stands.are.closed room));
       quiet = λ k above below. here.gates k below ∙ stands.quiet k above below;
     } in
     record {
       stands = new_stands;
-      holds = holds_of new layout (current old) (records old) (plan_of old) (content_at layout old (current_at old)) new_stands
+      holds = holds_of new layout (current old) (records old) (plan_of old) (bank_content layout old (current_at old)) new_stands
           (plan_kept at count layout old new change low front) here.content;
       rests = erased_rests old new at count new_stands rests change low high;
       banks = here;
@@ -250,7 +250,7 @@ rested_end (Ok value) old mid closed new journal blocks stages sized made =
             layout = of_image.layout ∙ sym count;
             bank = of_image.bank ∙ sym one;
             generation = of_image.generation
-                ∙ sym (ap (λ (at : ℕ). generation_at after at) (stands_at after (image_layout image) (current image) (records image) done.stands)
+                ∙ sym (ap (λ (at : ℕ). bank_generation after at) (stands_at after (image_layout image) (current image) (records image) done.stands)
                 ∙ done.banks.generation);
             used = of_image.used ∙ ap (λ (bodies : List (List ℕ)). length bodies) (sym same);
           };

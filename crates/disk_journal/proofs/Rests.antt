@@ -3,7 +3,7 @@ use Rattle.std.proofs.Common.{◌≡◌, ◌≢◌, ℕ, ◌+◌, ◌-◌, ◌<�
 use Rattle.disk_journal.proofs.Keeping.{SameBank, bank_kept, front_kept, plan_kept}
 use Rattle.disk_journal.proofs.Stands.{HasFront, IsStill, Stands, apart, behind, gate_in, held_by, holds_of}
 use Rattle.disk_journal.proofs.Turns.{after, before, rest_becomes}
-use Rattle.disk_journal.specs.Banks.{bank_at, bank_length, body_at, content_at, gate_at, generation_at, head_length, other, slot_at}
+use Rattle.disk_journal.specs.Banks.{bank_at, bank_length, slot_body, bank_content, slot_gate, bank_generation, head_length, other, slot_at}
 use Rattle.disk_journal.specs.Changes.{Gated, GatedSlot, IsCleared, IsZero}
 use Rattle.disk_journal.specs.Forms.{Holds, Regates, Settles}
 use Rattle.disk_journal.specs.Image.{IsAtRest, IsClosedGate, current, held, image_layout, plan_of, records}
@@ -26,10 +26,10 @@ pub record Keeps (old new : List ℕ) (layout : Layout) (bank : Bank) (used : �
   pub front : HasFront new layout
   pub plan : plan_of new ≡ plan_of old
   pub gate : get_or new (bank_at layout bank) 0 ≡ OPEN
-  pub same_content : content_at layout new (bank_at layout bank) ≡ content_at layout old (bank_at layout bank)
-  pub same_generation : generation_at new (bank_at layout bank) ≡ generation_at old (bank_at layout bank)
-  pub gates : (k : ℕ) → k < layout.slots → k ≢ used → gate_at layout new (bank_at layout bank) k ≡ gate_at layout old (bank_at layout bank) k
-  pub bodies : (k : ℕ) → k < layout.slots → k ≢ used → body_at layout new (bank_at layout bank) k ≡ body_at layout old (bank_at layout bank) k
+  pub same_content : bank_content layout new (bank_at layout bank) ≡ bank_content layout old (bank_at layout bank)
+  pub same_generation : bank_generation new (bank_at layout bank) ≡ bank_generation old (bank_at layout bank)
+  pub gates : (k : ℕ) → k < layout.slots → k ≢ used → slot_gate layout new (bank_at layout bank) k ≡ slot_gate layout old (bank_at layout bank) k
+  pub bodies : (k : ℕ) → k < layout.slots → k ≢ used → slot_body layout new (bank_at layout bank) k ≡ slot_body layout old (bank_at layout bank) k
 
 pub keeps_same : (old : List ℕ) (layout : Layout) (bank : Bank) (bodies : List (List ℕ)) → Stands old layout bank bodies → Keeps old old layout bank (length bodies)
 keeps_same old layout bank bodies stands = record {
@@ -43,7 +43,7 @@ keeps_same old layout bank bodies stands = record {
 }
 
 bank_kept_front : (at : ℕ) (layout : Layout) (old new : List ℕ) (bank : Bank) → AllBut at 1 old new → bank_at layout bank + head_length layout ≤ at
-    → generation_at new (bank_at layout bank) ≡ generation_at old (bank_at layout bank)
+    → bank_generation new (bank_at layout bank) ≡ bank_generation old (bank_at layout bank)
 bank_kept_front at layout old new bank change far =
     ap (big_number 8) (same_stretch at 1 (bank_at layout bank + 1) 8 old new change (inl (omega arith)))
 
@@ -91,7 +91,7 @@ not_open octet shut here = omega arith
 
 -- once both gates are 0
 pub record Shut (new : List ℕ) (layout : Layout) (bank : Bank) (used : ℕ) : Type 0 where
-  pub slot : used < layout.slots → gate_at layout new (bank_at layout bank) used ≡ CLOSED
+  pub slot : used < layout.slots → slot_gate layout new (bank_at layout bank) used ≡ CLOSED
   pub beside : get_or new (bank_at layout (other bank)) 0 ≡ CLOSED
   pub still : IsStill layout new
 
@@ -103,9 +103,9 @@ keeps_stands old new layout bank bodies stands keeps shut =
     record {
       front = keeps.front;
       newest = (keeps.gate, inl (not_open (get_or new (bank_at layout (other bank)) 0) shut.beside));
-      are = records_stay (gate_at layout old from) (gate_at layout new from) (body_at layout old from) (body_at layout new from) layout.slots bodies stands.are
+      are = records_stay (slot_gate layout old from) (slot_gate layout new from) (slot_body layout old from) (slot_body layout new from) layout.slots bodies stands.are
           (record { gates = λ k below. keeps.gates k (omega arith) (omega arith); bodies = λ k below. keeps.bodies k (omega arith) (omega arith) })
-          (λ room. not_open (gate_at layout new from (length bodies)) (shut.slot room));
+          (λ room. not_open (slot_gate layout new from (length bodies)) (shut.slot room));
       quiet = λ k above below. keeps.gates k below (omega arith) ∙ stands.quiet k above below;
     }
 
@@ -121,9 +121,9 @@ shut_rests old new layout bank bodies stands shut at closed =
 -- while the rest of the other bank is zeroed
 pub record Rested (old new : List ℕ) (layout : Layout) (bank : Bank) (bodies : List (List ℕ)) : Type 0 where
   pub stands : Stands new layout bank bodies
-  pub holds : Holds new (held_by (plan_of old) layout (content_at layout old (bank_at layout bank)) bodies)
+  pub holds : Holds new (held_by (plan_of old) layout (bank_content layout old (bank_at layout bank)) bodies)
   pub rests : IsAtRest new
-  pub generation : generation_at new (bank_at layout bank) ≡ generation_at old (bank_at layout bank)
+  pub generation : bank_generation new (bank_at layout bank) ≡ bank_generation old (bank_at layout bank)
 
 pub rested : (old new : List ℕ) (layout : Layout) (bank : Bank) (bodies : List (List ℕ)) → Stands old layout bank bodies
     → Keeps old new layout bank (length bodies) → Shut new layout bank (length bodies) → Rested old new layout bank bodies
@@ -131,7 +131,7 @@ rested old new layout bank bodies stands keeps shut =
     let new_stands = keeps_stands old new layout bank bodies stands keeps shut in
     record {
       stands = new_stands;
-      holds = holds_of new layout bank bodies (plan_of old) (content_at layout old (bank_at layout bank)) new_stands keeps.plan keeps.same_content;
+      holds = holds_of new layout bank bodies (plan_of old) (bank_content layout old (bank_at layout bank)) new_stands keeps.plan keeps.same_content;
       rests = shut_rests old new layout bank bodies new_stands shut;
       generation = keeps.same_generation;
     }

@@ -6,7 +6,7 @@ use Rattle.disk_journal.proofs.Rests.{Keeps, Rested, keeps_other, keeps_same, ke
 use Rattle.disk_journal.proofs.Stands.{IsStill, apart, behind, opens_stands, stands_at, stands_current, stands_records, still_kept}
 use Rattle.disk_journal.proofs.Turns.{after, bank_within, before}
 use Rattle.disk_journal.proofs.Zeros.{cleared}
-use Rattle.disk_journal.specs.Banks.{bank_at, bank_length, generation_at, next, other, slot_at}
+use Rattle.disk_journal.specs.Banks.{bank_at, bank_length, bank_generation, next, other, slot_at}
 use Rattle.disk_journal.specs.Changes.{Gated, GatedSlot, IsCleared, IsZero, KeepsBeside}
 use Rattle.disk_journal.specs.Forms.{Regates, Settles}
 use Rattle.disk_journal.specs.Image.{Held, current, current_at, first_closed, held, image_layout, other_at, records, slot_count}
@@ -214,7 +214,7 @@ settled_end (Ok value) old mid closed new journal slot spare closing cleared =
           layout = of_image.layout ∙ sym count;
           bank = of_image.bank ∙ sym one;
           generation = of_image.generation
-              ∙ sym (ap (λ (at : ℕ). generation_at after at) (stands_at after (image_layout image) (current image) (records image) done.stands) ∙ done.generation);
+              ∙ sym (ap (λ (at : ℕ). bank_generation after at) (stands_at after (image_layout image) (current image) (records image) done.stands) ∙ done.generation);
           used = of_image.used ∙ ap (λ (bodies : List (List ℕ)). length bodies) (sym same);
         };
         rests = done.rests;

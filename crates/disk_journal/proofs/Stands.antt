@@ -2,7 +2,7 @@
 use Rattle.std.proofs.Common.{◌≡◌, ◌≢◌, ℕ, ◌+◌, ◌-◌, ◌<◌, ◌≤◌, ◌⊎◌, ◌==◌, ◌++◌, ◌∙◌, nat_lt, false, List, length, get_or, None, refl, sym, ap, subst, inl, inr, arith}
 use Rattle.disk_journal.proofs.Chosen.{Decided, IsNewest, decided, first_chosen, first_passes, second_chosen, second_passes}
 use Rattle.disk_journal.proofs.GateChecks.{closed_pass, pass_closed}
-use Rattle.disk_journal.specs.Banks.{bank_at, bank_length, banks_of, body_at, chosen, content_at, gate_at, generation_at, next, other, slot_at, version_of}
+use Rattle.disk_journal.specs.Banks.{bank_at, bank_length, banks_of, slot_body, chosen, bank_content, slot_gate, bank_generation, next, other, slot_at, version_of}
 use Rattle.disk_journal.specs.Header.{form_in, header_of, slot_count_in}
 use Rattle.disk_journal.specs.Fault.{bank_checks, banks_part, gates_part, header_checks, image_fault}
 use Rattle.disk_journal.specs.Forms.{Holds}
@@ -43,31 +43,31 @@ pub record HasFront (image : List ℕ) (layout : Layout) : Type 0 where
 
 abbrev pub NewestOf : Layout → Bank → List ℕ → Type 0
 NewestOf layout bank image = IsNewest (get_or image (bank_at layout bank) 0) (get_or image (bank_at layout (other bank)) 0)
-    (generation_at image (bank_at layout bank)) (generation_at image (bank_at layout (other bank)))
+    (bank_generation image (bank_at layout bank)) (bank_generation image (bank_at layout (other bank)))
 
 -- the bank that is chosen by the gates and the generations
 abbrev pub chosen_of : Layout → List ℕ → Bank
 chosen_of layout image = chosen (get_or image (bank_at layout First) 0 == OPEN) (get_or image (bank_at layout Second) 0 == OPEN)
-    (generation_at image (bank_at layout Second) == next (generation_at image (bank_at layout First)))
+    (bank_generation image (bank_at layout Second) == next (bank_generation image (bank_at layout First)))
 
 -- the checks of the banks
 abbrev pub bank_checks_of : Layout → List ℕ → List (Check ℕ)
 bank_checks_of layout image = bank_checks (get_or image (bank_at layout First) 0 == OPEN) (get_or image (bank_at layout Second) 0 == OPEN)
-    (generation_at image (bank_at layout First)) (generation_at image (bank_at layout Second)) (bank_at layout First) (bank_at layout Second)
+    (bank_generation image (bank_at layout First)) (bank_generation image (bank_at layout Second)) (bank_at layout First) (bank_at layout Second)
 
 -- this bank is the newest, and these are its records
 pub record Stands (image : List ℕ) (layout : Layout) (bank : Bank) (bodies : List (List ℕ)) : Type 0 where
   pub front : HasFront image layout
   pub newest : NewestOf layout bank image
-  pub are : AreRecords (gate_at layout image (bank_at layout bank)) (body_at layout image (bank_at layout bank)) layout.slots bodies
-  pub quiet : (k : ℕ) → length bodies < k → k < layout.slots → gate_at layout image (bank_at layout bank) k ≡ CLOSED
+  pub are : AreRecords (slot_gate layout image (bank_at layout bank)) (slot_body layout image (bank_at layout bank)) layout.slots bodies
+  pub quiet : (k : ℕ) → length bodies < k → k < layout.slots → slot_gate layout image (bank_at layout bank) k ≡ CLOSED
 
 -- what stands, shows
 newest_chosen : (layout : Layout) (bank : Bank) (image : List ℕ) → NewestOf layout bank image → chosen_of layout image ≡ bank
 newest_chosen layout First image newest = first_chosen (get_or image (bank_at layout First) 0) (get_or image (bank_at layout Second) 0)
-    (generation_at image (bank_at layout First)) (generation_at image (bank_at layout Second)) newest
+    (bank_generation image (bank_at layout First)) (bank_generation image (bank_at layout Second)) newest
 newest_chosen layout Second image newest = second_chosen (get_or image (bank_at layout First) 0) (get_or image (bank_at layout Second) 0)
-    (generation_at image (bank_at layout First)) (generation_at image (bank_at layout Second)) newest
+    (bank_generation image (bank_at layout First)) (bank_generation image (bank_at layout Second)) newest
 
 pub stands_current : (image : List ℕ) (layout : Layout) (bank : Bank) (bodies : List (List ℕ)) → Stands image layout bank bodies → current image ≡ bank
 unfolding current
@@ -82,17 +82,17 @@ stands_at image layout bank bodies stands =
 pub stands_records : (image : List ℕ) (layout : Layout) (bank : Bank) (bodies : List (List ℕ)) → Stands image layout bank bodies → records image ≡ bodies
 unfolding records
 stands_records image layout bank bodies stands =
-    records_is (gate_at (image_layout image) image (current_at image)) (body_at (image_layout image) image (current_at image)) (slot_count image) bodies
-    (subst (λ (at : ℕ). AreRecords (gate_at (image_layout image) image at) (body_at (image_layout image) image at) (slot_count image) bodies)
+    records_is (slot_gate (image_layout image) image (current_at image)) (slot_body (image_layout image) image (current_at image)) (slot_count image) bodies
+    (subst (λ (at : ℕ). AreRecords (slot_gate (image_layout image) image at) (slot_body (image_layout image) image at) (slot_count image) bodies)
     (sym (stands_at image layout bank bodies stands))
-    (subst (λ (one : Layout). AreRecords (gate_at one image (bank_at layout bank)) (body_at one image (bank_at layout bank)) one.slots bodies)
+    (subst (λ (one : Layout). AreRecords (slot_gate one image (bank_at layout bank)) (slot_body one image (bank_at layout bank)) one.slots bodies)
     (sym stands.front.same_layout) stands.are))
 
 newest_passes : (layout : Layout) (bank : Bank) (image : List ℕ) → NewestOf layout bank image → first_failing (bank_checks_of layout image) ≡ None
 newest_passes layout First image newest = first_passes (get_or image (bank_at layout First) 0) (get_or image (bank_at layout Second) 0)
-    (generation_at image (bank_at layout First)) (generation_at image (bank_at layout Second)) (bank_at layout First) (bank_at layout Second) newest
+    (bank_generation image (bank_at layout First)) (bank_generation image (bank_at layout Second)) (bank_at layout First) (bank_at layout Second) newest
 newest_passes layout Second image newest = second_passes (get_or image (bank_at layout First) 0) (get_or image (bank_at layout Second) 0)
-    (generation_at image (bank_at layout First)) (generation_at image (bank_at layout Second)) (bank_at layout First) (bank_at layout Second) newest
+    (bank_generation image (bank_at layout First)) (bank_generation image (bank_at layout Second)) (bank_at layout First) (bank_at layout Second) newest
 
 banks_pass : (image : List ℕ) (layout : Layout) (bank : Bank) (bodies : List (List ℕ)) → Stands image layout bank bodies
     → first_failing (banks_part image) ≡ None
@@ -110,20 +110,20 @@ stands_opens image layout bank bodies stands =
     passed_first (nat_lt (length image) HEADER_LENGTH) 0 (header_part image ++ (banks_part image ++ gates_part image)) (short_test (length image) stands.front.whole)
     ∙ passed_append (header_part image) (banks_part image ++ gates_part image) stands.front.header
     ∙ passed_append (banks_part image) (gates_part image) (banks_pass image layout bank bodies stands)
-    ∙ closed_pass (image_layout image) (current_at image) (gate_at (image_layout image) image (current_at image))
+    ∙ closed_pass (image_layout image) (current_at image) (slot_gate (image_layout image) image (current_at image))
     (slot_count image - (first_closed image + 1)) (first_closed image + 1)
     (λ k low high.
     let above : length bodies < k = omega arith in
     let below : k < layout.slots = omega arith in
-    subst (λ (at : ℕ). gate_at (image_layout image) image at k ≡ CLOSED) (sym (stands_at image layout bank bodies stands))
-    (subst (λ (one : Layout). gate_at one image (bank_at layout bank) k ≡ CLOSED) (sym stands.front.same_layout) (stands.quiet k above below)))
+    subst (λ (at : ℕ). slot_gate (image_layout image) image at k ≡ CLOSED) (sym (stands_at image layout bank bodies stands))
+    (subst (λ (one : Layout). slot_gate one image (bank_at layout bank) k ≡ CLOSED) (sym stands.front.same_layout) (stands.quiet k above below)))
 
 long_enough : (size : ℕ) → nat_lt size HEADER_LENGTH ≡ false → HEADER_LENGTH ≤ size
 long_enough size test = grind (arith, nat_tests)
 
 newest_by : (layout : Layout) (bank : Bank) (image : List ℕ)
     → Decided bank (get_or image (bank_at layout First) 0) (get_or image (bank_at layout Second) 0)
-    (generation_at image (bank_at layout First)) (generation_at image (bank_at layout Second)) → NewestOf layout bank image
+    (bank_generation image (bank_at layout First)) (bank_generation image (bank_at layout Second)) → NewestOf layout bank image
 newest_by layout First image decided = decided
 newest_by layout Second image decided = decided
 
@@ -132,7 +132,7 @@ pub newest_of : (layout : Layout) (image : List ℕ) → first_failing (bank_che
     → NewestOf layout (chosen_of layout image) image
 newest_of layout image none = newest_by layout (chosen_of layout image) image
     (decided (get_or image (bank_at layout First) 0) (get_or image (bank_at layout Second) 0)
-    (generation_at image (bank_at layout First)) (generation_at image (bank_at layout Second)) (bank_at layout First) (bank_at layout Second) none)
+    (bank_generation image (bank_at layout First)) (bank_generation image (bank_at layout Second)) (bank_at layout First) (bank_at layout Second) none)
 
 abbrev pub held_by : List ℕ → Layout → List ℕ → List (List ℕ) → Held
 held_by plan layout text bodies =
@@ -169,23 +169,23 @@ opens_stands image none =
         behind_plan = layout_behind image;
       };
       newest = newest_of (image_layout image) image banks;
-      are = records_are (gate_at (image_layout image) image (current_at image)) (body_at (image_layout image) image (current_at image)) (slot_count image);
+      are = records_are (slot_gate (image_layout image) image (current_at image)) (slot_body (image_layout image) image (current_at image)) (slot_count image);
       quiet = λ k above below.
-          pass_closed (image_layout image) (current_at image) (gate_at (image_layout image) image (current_at image))
+          pass_closed (image_layout image) (current_at image) (slot_gate (image_layout image) image (current_at image))
           (slot_count image - (first_closed image + 1)) (first_closed image + 1)
           gates k (omega arith) (omega arith);
     }
 
 -- what it holds
 pub holds_of : (image : List ℕ) (layout : Layout) (bank : Bank) (bodies : List (List ℕ)) (plan text : List ℕ) → Stands image layout bank bodies
-    → plan_of image ≡ plan → content_at layout image (bank_at layout bank) ≡ text
+    → plan_of image ≡ plan → bank_content layout image (bank_at layout bank) ≡ text
     → Holds image (held_by plan layout text bodies)
 holds_of image layout bank bodies plan text stands planned content_is = record {
   opens = stands_opens image layout bank bodies stands;
   is = same_held (plan_of image) plan (image_layout image) layout (content image) text (records image) bodies
       planned stands.front.same_layout
-      (ap (λ (one : Layout). content_at one image (current_at image)) stands.front.same_layout
-      ∙ ap (content_at layout image) (stands_at image layout bank bodies stands) ∙ content_is)
+      (ap (λ (one : Layout). bank_content one image (current_at image)) stands.front.same_layout
+      ∙ ap (bank_content layout image) (stands_at image layout bank bodies stands) ∙ content_is)
       (stands_records image layout bank bodies stands);
 }
 

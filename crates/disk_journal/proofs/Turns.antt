@@ -2,7 +2,7 @@
 use Rattle.std.proofs.Common.{◌≡◌, ◌≢◌, ℕ, ◌+◌, ◌-◌, ◌^◌, ◌<◌, ◌≤◌, ◌⊎◌, ◌∙◌, List, [], length, get_or, set, sym, ap, subst, inl, inr, arith}
 use Rattle.disk_journal.proofs.Keeping.{Fresh, SameBank, bank_kept, filling, fresh_generation, fresh_kept, front_bounds, front_kept, plan_kept, stands_fresh, stands_same}
 use Rattle.disk_journal.proofs.Stands.{HasFront, IsStill, Stands, apart, behind, gate_in, held_by, holds_of, still_kept, twice_other}
-use Rattle.disk_journal.specs.Banks.{bank_at, bank_length, content_at, gate_at, generation_at, head_length, next, other, slot_at}
+use Rattle.disk_journal.specs.Banks.{bank_at, bank_length, bank_content, slot_gate, bank_generation, head_length, next, other, slot_at}
 use Rattle.disk_journal.specs.Changes.{IsZero, filled}
 use Rattle.disk_journal.specs.Forms.{Becomes, Holds}
 use Rattle.disk_journal.specs.Image.{Held, IsAtRest, IsClosedGate, IsOpenedForm, plan_of}
@@ -66,7 +66,7 @@ open_becomes old new image place opens one = record {
 -- an image at rest in which a turn begins, from this bank to the other
 pub record Starts (old : List ℕ) (layout : Layout) (bank : Bank) (bodies : List (List ℕ)) : Type 0 where
   pub stands : Stands old layout bank bodies
-  pub free : length bodies < layout.slots → gate_at layout old (bank_at layout bank) (length bodies) ≡ CLOSED
+  pub free : length bodies < layout.slots → slot_gate layout old (bank_at layout bank) (length bodies) ≡ CLOSED
   pub spare : IsZero (bank_at layout (other bank)) (bank_at layout (other bank) + bank_length layout) old
   pub still : IsStill layout old
   pub old_banks : IsZero BANKS_AT layout.banks old
@@ -119,15 +119,15 @@ new_closed image layout generation bank text stands fresh still at closed =
 pub record Turns (old : List ℕ) (layout : Layout) (generation : ℕ) (bank : Bank) (bodies : List (List ℕ)) (text : List ℕ) : Type 0 where
   pub starts : Starts old layout bank bodies
   pub sized : length text ≡ layout.content_length
-  pub later : generation ≡ next (generation_at old (bank_at layout bank))
+  pub later : generation ≡ next (bank_generation old (bank_at layout bank))
 
 pub later_fits : (old : List ℕ) (layout : Layout) (generation : ℕ) (bank : Bank) (bodies : List (List ℕ)) (text : List ℕ)
     → Turns old layout generation bank bodies text → generation < 2 ^ 64
 later_fits old layout generation bank bodies text turns =
-    let later : generation ≡ next (generation_at old (bank_at layout bank)) = turns.later in omega arith
+    let later : generation ≡ next (bank_generation old (bank_at layout bank)) = turns.later in omega arith
 
 abbrev pub before : List ℕ → Layout → Bank → List (List ℕ) → Held
-before old layout bank bodies = held_by (plan_of old) layout (content_at layout old (bank_at layout bank)) bodies
+before old layout bank bodies = held_by (plan_of old) layout (bank_content layout old (bank_at layout bank)) bodies
 
 abbrev pub after : List ℕ → Layout → List ℕ → Held
 after old layout text = held_by (plan_of old) layout text []
@@ -140,7 +140,7 @@ pub record IsNew (old : List ℕ) (layout : Layout) (generation : ℕ) (bank : B
   pub fresh : Fresh (bank_at layout bank) layout generation text image
   pub gate : get_or image (bank_at layout bank) 0 ≡ OPEN
   pub newest : (get_or image (bank_at layout (other bank)) 0 ≢ OPEN)
-      ⊎ (generation_at image (bank_at layout bank) ≡ next (generation_at image (bank_at layout (other bank))))
+      ⊎ (bank_generation image (bank_at layout bank) ≡ next (bank_generation image (bank_at layout (other bank))))
 
 pub new_stands : (old : List ℕ) (layout : Layout) (generation : ℕ) (bank : Bank) (text image : List ℕ) → IsNew old layout generation bank text image
     → Stands image layout bank []
@@ -189,7 +189,7 @@ first_step old layout generation bank bodies text image turns change =
     let same : SameBank (bank_at layout bank) layout old image =
     old_text old image layout bank (to + 1) (head_length layout - 1) change (omega arith) (omega arith) in
     rest_becomes (before old layout bank bodies) (after old layout text) image
-    (inl (holds_of image layout bank bodies (plan_of old) (content_at layout old (bank_at layout bank)) stands
+    (inl (holds_of image layout bank bodies (plan_of old) (bank_content layout old (bank_at layout bank)) stands
     (plan_kept (to + 1) (head_length layout - 1) layout old image change (omega arith) turns.starts.stands.front) same.content))
     (λ at closed.
     let here : at ≡ to = old_closed old image layout bank bodies turns.starts stands same
@@ -244,7 +244,7 @@ opened_new old image layout generation bank bodies text turns opened =
       still = still_kept to (head_length layout) layout old image opened.change far turns.starts.still;
       fresh = opened.fresh;
       gate = opened.gate;
-      newest = inr (subst (λ (back : Bank). generation_at image to ≡ next (generation_at image (bank_at layout back))) (sym (twice_other bank))
+      newest = inr (subst (λ (back : Bank). bank_generation image to ≡ next (bank_generation image (bank_at layout back))) (sym (twice_other bank))
           (fresh_generation to layout generation text image opened.fresh (later_fits old layout generation bank bodies text turns)
           ∙ turns.later ∙ ap next (sym same.generation)));
     }
@@ -264,7 +264,7 @@ gate_torn old mid image layout generation bank bodies text turns opened change =
     (elim aside [ inl before ↦ inl before | inr after ↦ inr (omega arith) ]) in
     let from_same : SameBank from layout mid image = bank_kept from 1 from layout mid image change (inr (omega arith)) in
     let old_same : SameBank from layout old mid = old_text old mid layout bank to (head_length layout) opened.change (omega arith) (omega arith) in
-    let later : generation_at mid to ≡ next (generation_at mid from) =
+    let later : bank_generation mid to ≡ next (bank_generation mid from) =
     fresh_generation to layout generation text mid opened.fresh (later_fits old layout generation bank bodies text turns)
     ∙ turns.later ∙ ap next (sym old_same.generation) in
     record {
@@ -274,7 +274,7 @@ gate_torn old mid image layout generation bank bodies text turns opened change =
       fresh = fresh_kept from 1 to layout generation text mid image change
           (elim aside [ inl before ↦ inl before | inr after ↦ inr (omega arith) ]) opened.fresh;
       gate = change.outside to (elim aside [ inl before ↦ inl (omega arith) | inr after ↦ inr after ]) ∙ opened.gate;
-      newest = inr (subst (λ (back : Bank). generation_at image to ≡ next (generation_at image (bank_at layout back))) (sym (twice_other bank))
+      newest = inr (subst (λ (back : Bank). bank_generation image to ≡ next (bank_generation image (bank_at layout back))) (sym (twice_other bank))
           (to_same.generation ∙ later ∙ ap next (sym from_same.generation)));
     }
 
@@ -338,7 +338,7 @@ second_step old mid image layout generation bank bodies text turns made change =
           old_stands old image layout bank bodies to (head_length layout) turns.starts wide (omega arith) (omega arith) shut in
           let same : SameBank from layout old image = old_text old image layout bank to (head_length layout) wide (omega arith) (omega arith) in
           torn_becomes to (before old layout bank bodies) (after old layout text) image
-          (inl (holds_of image layout bank bodies (plan_of old) (content_at layout old from) stands
+          (inl (holds_of image layout bank bodies (plan_of old) (bank_content layout old from) stands
           (plan_kept to (head_length layout) layout old image wide far turns.starts.stands.front) same.content))
           (old_closed old image layout bank bodies turns.starts stands same (still_kept to (head_length layout) layout old image wide far turns.starts.still))
           (λ torn. second_open old mid (set image to OPEN) layout generation bank bodies text turns made

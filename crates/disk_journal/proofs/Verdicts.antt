@@ -5,7 +5,7 @@ use Rattle.disk_journal.proofs.Keeping.{header_bounds}
 use Rattle.disk_journal.proofs.Reading.{plan_size}
 use Rattle.disk_journal.proofs.Stands.{HasFront, header_part, layout_behind}
 use Rattle.disk_journal.proofs.Turns.{bank_within}
-use Rattle.disk_journal.specs.Banks.{bank_at, bank_length, body_at, chosen, gate_at, generation_at, layout_of, next}
+use Rattle.disk_journal.specs.Banks.{bank_at, bank_length, slot_body, chosen, slot_gate, bank_generation, layout_of, next}
 use Rattle.disk_journal.specs.Fault.{bank_checks, banks_part, gate_checks, gates_part, header_checks, image_fault}
 use Rattle.disk_journal.specs.Header.{form_in, header_of, plan_length_in, slot_count_in}
 use Rattle.disk_journal.specs.Image.{current, current_at, first_closed, generation_of, image_layout, is_open, records, slot_count}
@@ -64,15 +64,15 @@ header_found image octets size plan_length layout sized whole same passed plan l
 pub record IsFront (image : List ℕ) (layout : Layout) (bank : Bank) (at : ℕ) (open_gate : Bool) (generation : ℕ) : Type 0 where
   pub place : at ≡ bank_at layout bank
   pub gate : open_gate ≡ (get_or image at 0 == OPEN)
-  pub number : generation ≡ generation_at image at
+  pub number : generation ≡ bank_generation image at
 
 pub front_read : (old image : List ℕ) (layout : Layout) (bank : Bank) (at : ℕ) (open_gate : Bool) (generation : ℕ) → image ≡ old
-    → at ≡ bank_at layout bank → (open_gate ≡ (get_or image at 0 == OPEN)) × (generation ≡ generation_at image at)
+    → at ≡ bank_at layout bank → (open_gate ≡ (get_or image at 0 == OPEN)) × (generation ≡ bank_generation image at)
     → IsFront old layout bank at open_gate generation
 front_read old image layout bank at open_gate generation same place read = record {
   place = place;
   gate = read.0 ∙ ap (λ (i : List ℕ). get_or i at 0 == OPEN) same;
-  number = read.1 ∙ ap (λ (i : List ℕ). generation_at i at) same;
+  number = read.1 ∙ ap (λ (i : List ℕ). bank_generation i at) same;
 }
 
 abbrev Checks : ℕ → ℕ → Bool → Bool → ℕ → ℕ → List (Check ℕ)
@@ -103,7 +103,7 @@ fronts_checks image plan_length layout first_at second_at first second a b heade
     first (is_open image First) second (is_open image Second) a (generation_of image First) b (generation_of image Second)
     one.place two.place
     (one.gate ∙ ap (λ (at : ℕ). get_or image at 0 == OPEN) one.place) (two.gate ∙ ap (λ (at : ℕ). get_or image at 0 == OPEN) two.place)
-    (one.number ∙ ap (generation_at image) one.place) (two.number ∙ ap (generation_at image) two.place)
+    (one.number ∙ ap (bank_generation image) one.place) (two.number ∙ ap (bank_generation image) two.place)
 
 same_choice : (t t' u u' : Bool) (a a' b b' : ℕ) → t ≡ t' → u ≡ u' → a ≡ a' → b ≡ b'
     → chosen t u (b == next a) ≡ chosen t' u' (b' == next a')
@@ -118,7 +118,7 @@ fronts_choice image plan_length layout first_at second_at first second a b heade
     let two = there image plan_length layout Second second_at second b header fronts.two in
     same_choice first (is_open image First) second (is_open image Second) a (generation_of image First) b (generation_of image Second)
     (one.gate ∙ ap (λ (at : ℕ). get_or image at 0 == OPEN) one.place) (two.gate ∙ ap (λ (at : ℕ). get_or image at 0 == OPEN) two.place)
-    (one.number ∙ ap (generation_at image) one.place) (two.number ∙ ap (generation_at image) two.place)
+    (one.number ∙ ap (bank_generation image) one.place) (two.number ∙ ap (bank_generation image) two.place)
 
 -- the chosen bank is the current one, and this is its generation
 pub chosen_current : (image : List ℕ) (plan_length : ℕ) (layout : Layout) (first_at second_at : ℕ) (first second : Bool) (a b : ℕ)
@@ -134,8 +134,8 @@ chosen_current image plan_length layout first_at second_at first second a b bank
       passes = subst (λ (checks : List (Check ℕ)). first_failing checks ≡ None)
           (fronts_checks image plan_length layout first_at second_at first second a b header fronts) passed;
       is_current = same;
-      generation_is = here.number ∙ ap (generation_at image) here.place
-          ∙ ap (λ (one : Bank). generation_at image (bank_at (image_layout image) one)) same;
+      generation_is = here.number ∙ ap (bank_generation image) here.place
+          ∙ ap (λ (one : Bank). bank_generation image (bank_at (image_layout image) one)) same;
     }
 
 -- banks that fail a check
@@ -169,7 +169,7 @@ pub record Looked (image : List ℕ) (plan_length : ℕ) (layout : Layout) (bank
   pub header : IsHeaderOf image plan_length layout
   pub newest : IsCurrent image bank generation
   pub place : at ≡ bank_at layout bank
-  pub first : IsFirstClosed (gate_at layout image at) layout.slots used
+  pub first : IsFirstClosed (slot_gate layout image at) layout.slots used
 
 at_current : (image : List ℕ) (plan_length : ℕ) (layout : Layout) (bank : Bank) (generation at used : ℕ)
     → Looked image plan_length layout bank generation at used → at ≡ current_at image
@@ -180,15 +180,15 @@ used_is : (image : List ℕ) (plan_length : ℕ) (layout : Layout) (bank : Bank)
     → Looked image plan_length layout bank generation at used → used ≡ first_closed image
 unfolding records
 used_is image plan_length layout bank generation at used looked =
-    counted (gate_at (image_layout image) image (current_at image)) (body_at (image_layout image) image (current_at image)) (slot_count image) used
+    counted (slot_gate (image_layout image) image (current_at image)) (slot_body (image_layout image) image (current_at image)) (slot_count image) used
     (records image)
-    (subst (λ (one : Layout). IsFirstClosed (gate_at one image (current_at image)) one.slots used) looked.header.layout_is
-    (subst (λ (n : ℕ). IsFirstClosed (gate_at layout image n) layout.slots used)
+    (subst (λ (one : Layout). IsFirstClosed (slot_gate one image (current_at image)) one.slots used) looked.header.layout_is
+    (subst (λ (n : ℕ). IsFirstClosed (slot_gate layout image n) layout.slots used)
     (at_current image plan_length layout bank generation at used looked) looked.first))
-    (records_are (gate_at (image_layout image) image (current_at image)) (body_at (image_layout image) image (current_at image)) (slot_count image))
+    (records_are (slot_gate (image_layout image) image (current_at image)) (slot_body (image_layout image) image (current_at image)) (slot_count image))
 
 abbrev pub gates_from : Layout → List ℕ → ℕ → ℕ → List (Check ℕ)
-gates_from layout image at used = gate_checks layout at (gate_at layout image at) (layout.slots - (used + 1)) (used + 1)
+gates_from layout image at used = gate_checks layout at (slot_gate layout image at) (layout.slots - (used + 1)) (used + 1)
 
 -- the checks of the gates decide, where those before pass
 gates_decide : (image : List ℕ) (plan_length : ℕ) (layout : Layout) (bank : Bank) (generation at used : ℕ)

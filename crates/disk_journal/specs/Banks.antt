@@ -22,6 +22,11 @@ version_of Old = One
 version_of Migrated = Two
 version_of New = Two
 
+-- the number of a version
+abbrev pub version_number : Version → ℕ
+version_number One = 1
+version_number Two = 2
+
 -- the magic, the first of the octets that fill the header with zeros, and where the banks begin
 abbrev pub magic_of : HeaderForm → List ℕ
 magic_of Old = MAGIC_ONE
@@ -62,8 +67,8 @@ bank_at layout Second = layout.banks + bank_length layout
 abbrev pub image_end : Layout → ℕ
 image_end layout = layout.banks + 2 * bank_length layout
 
--- The layout is the one of its form and slots: the banks stand behind the plan, and what stands before their slots fills
--- blocks of a slot's length.
+-- The layout is the one of its form and slots: the banks stand behind the plan, and what stands before their slots
+-- fills blocks of a slot's length.
 pub record IsLayout (layout : Layout) : Type 0 where
   pub is : layout ≡ layout_of layout.form layout.slots
   pub behind_plan : HEADER_LENGTH + PLAN_ROOM ≤ layout.banks
@@ -79,17 +84,17 @@ other Second = First
 abbrev pub slot_at : Layout → ℕ → ℕ → ℕ
 slot_at layout bank i = bank + head_length layout + SLOT_LENGTH * i
 
-abbrev pub gate_at : Layout → List ℕ → ℕ → ℕ → ℕ
-gate_at layout image bank i = slice_index image (slot_at layout bank i)
+abbrev pub slot_gate : Layout → List ℕ → ℕ → ℕ → ℕ
+slot_gate layout image bank i = slice_index image (slot_at layout bank i)
 
-abbrev pub body_at : Layout → List ℕ → ℕ → ℕ → List ℕ
-body_at layout image bank i = take BODY_LENGTH (drop (slot_at layout bank i + 1) image)
+abbrev pub slot_body : Layout → List ℕ → ℕ → ℕ → List ℕ
+slot_body layout image bank i = take BODY_LENGTH (drop (slot_at layout bank i + 1) image)
 
-abbrev pub generation_at : List ℕ → ℕ → ℕ
-generation_at image bank = big_number GENERATION_LENGTH (take GENERATION_LENGTH (drop (bank + GENERATION_AT) image))
+abbrev pub bank_generation : List ℕ → ℕ → ℕ
+bank_generation image bank = big_number GENERATION_LENGTH (take GENERATION_LENGTH (drop (bank + GENERATION_AT) image))
 
-abbrev pub content_at : Layout → List ℕ → ℕ → List ℕ
-content_at layout image bank = take layout.content_length (drop (bank + CONTENT_AT) image)
+abbrev pub bank_content : Layout → List ℕ → ℕ → List ℕ
+bank_content layout image bank = take layout.content_length (drop (bank + CONTENT_AT) image)
 
 -- the generation after this one
 abbrev pub next : ℕ → ℕ

@@ -10,7 +10,7 @@ use Rattle.disk_journal.specs.Moments.{AllBut, EachImage}
 use Rattle.disk_journal.specs.declared.layout.Layout.{Layout}
 use Rattle.disk_journal.specs.declared.layout.HeaderForm.{HeaderForm}
 use Rattle.disk_journal.specs.declared.layout.HeaderForm.TheVariants.{Old}
-use Rattle.disk_journal.specs.Banks.{head_length, bank_length, content_at, image_end}
+use Rattle.disk_journal.specs.Banks.{head_length, bank_length, bank_content, image_end}
 use Rattle.disk_journal.specs.declared.layout.TheConstants.{BANKS_AT, MIGRATED_AT, GENERATION_AT, GENERATION_LENGTH}
 use Rattle.disk_journal.specs.declared.layout.TheConstants.{CONTENT_AT}
 
@@ -114,7 +114,7 @@ pub record HasNewBanks (layout : Layout) (generation : ℕ) (content image : Lis
   pub gate : slice_index image layout.banks ≡ OPEN
   pub has_generation : take GENERATION_LENGTH (drop (layout.banks + GENERATION_AT) image)
       ≡ big_bytes GENERATION_LENGTH generation
-  pub has_content : content_at layout image layout.banks ≡ content
+  pub has_content : bank_content layout image layout.banks ≡ content
   pub zero : IsZero (layout.banks + head_length layout) (image_end layout) image
 
 -- old with new banks behind its own, which end the image, if it was no longer

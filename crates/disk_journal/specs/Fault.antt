@@ -9,7 +9,7 @@ use Rattle.disk_journal.specs.Header.{header_of, plan_length_in, slot_count_in, 
 use Rattle.disk_journal.specs.declared.layout.Bank.TheVariants.{First, Second}
 use Rattle.disk_journal.specs.declared.layout.Layout.{Layout}
 use Rattle.disk_journal.specs.declared.layout.TheConstants.{MAGIC_ONE, MAGIC_TWO, GENERATION_AT}
-use Rattle.disk_journal.specs.Banks.{zeros_at_of, layout_of, bank_at, image_end, slot_at, gate_at, next}
+use Rattle.disk_journal.specs.Banks.{zeros_at_of, layout_of, bank_at, image_end, slot_at, slot_gate, next}
 use Rattle.disk_journal.specs.Image.{image_layout, slot_count, is_open, generation_of, current_at, first_closed}
 
 -- the checks of a whole header in an image of this length
@@ -47,7 +47,7 @@ banks_part image = bank_checks (is_open image First) (is_open image Second) (gen
 -- the checks of the gates after the first closed one of the current bank
 abbrev pub gates_part : List ℕ → List (Check ℕ)
 gates_part image = gate_checks (image_layout image) (current_at image)
-    (gate_at (image_layout image) image (current_at image)) (slot_count image - (first_closed image + 1))
+    (slot_gate (image_layout image) image (current_at image)) (slot_count image - (first_closed image + 1))
     (first_closed image + 1)
 
 -- the checks of an image: its length, its header, its banks, and the gates of the current one

@@ -10,8 +10,8 @@ use Rattle.disk_journal.specs.declared.layout.Bank.{Bank}
 use Rattle.disk_journal.specs.declared.layout.Bank.TheVariants.{First, Second}
 use Rattle.disk_journal.specs.declared.layout.Layout.{Layout}
 use Rattle.disk_journal.specs.declared.layout.HeaderForm.TheVariants.{Old}
-use Rattle.disk_journal.specs.Banks.{version_of, layout_of, bank_at, other, slot_at, gate_at, body_at, generation_at, content_at}
-use Rattle.disk_journal.specs.Banks.{next, chosen}
+use Rattle.disk_journal.specs.Banks.{version_of, layout_of, bank_at, other, slot_at, slot_gate, slot_body, next, chosen}
+use Rattle.disk_journal.specs.Banks.{bank_generation, bank_content}
 
 -- where the banks stand
 unfoldable pub image_layout : List ℕ → Layout
@@ -34,7 +34,7 @@ abbrev pub is_open : List ℕ → Bank → Bool
 is_open image bank = slice_index image (bank_at (image_layout image) bank) == OPEN
 
 abbrev pub generation_of : List ℕ → Bank → ℕ
-generation_of image bank = generation_at image (bank_at (image_layout image) bank)
+generation_of image bank = bank_generation image (bank_at (image_layout image) bank)
 
 -- the open bank, or of two open ones the one of the later generation
 unfoldable pub current : List ℕ → Bank
@@ -50,12 +50,12 @@ other_at image = bank_at (image_layout image) (other (current image))
 
 -- the content of the current bank
 abbrev pub content : List ℕ → List ℕ
-content image = content_at (image_layout image) image (current_at image)
+content image = bank_content (image_layout image) image (current_at image)
 
 -- the records of the journal: the bodies of the current bank's slots before the first closed one
 unfoldable pub records : List ℕ → List (List ℕ)
-records image = gated (gate_at (image_layout image) image (current_at image))
-    (body_at (image_layout image) image (current_at image)) (slot_count image) 0
+records image = gated (slot_gate (image_layout image) image (current_at image))
+    (slot_body (image_layout image) image (current_at image)) (slot_count image) 0
 
 -- the first closed slot; if none is closed, the number of slots
 abbrev pub first_closed : List ℕ → ℕ

@@ -8,7 +8,7 @@ use Rattle.disk_journal.specs.declared.fault.JournalFault.TheVariants.{SiteFault
 use Rattle.disk_journal.specs.declared.layout.Bank.{Bank}
 use Rattle.disk_journal.specs.declared.layout.Layout.{Layout}
 use Rattle.disk_journal.specs.declared.layout.TheConstants.{BANKS_AT, HEADER_LENGTH}
-use Rattle.disk_journal.specs.Banks.{bank_length, generation_at}
+use Rattle.disk_journal.specs.Banks.{bank_length, bank_generation}
 use Rattle.disk_journal.specs.Image.{image_layout, plan_of, current, current_at, other_at, first_closed, IsAtRest}
 use Rattle.disk_journal.specs.Fault.{header_checks, banks_part, image_fault}
 use Rattle.sdls_base.specs.FirstFailing.{first_failing}
@@ -30,7 +30,7 @@ pub record IsJournalOf (image : List ℕ) (journal : JournalView) : Type 0 where
   pub plan : journal.plan_length ≡ length (plan_of image)
   pub layout : journal.layout ≡ image_layout image
   pub bank : journal.bank ≡ current image
-  pub generation : journal.generation ≡ generation_at image (current_at image)
+  pub generation : journal.generation ≡ bank_generation image (current_at image)
   pub used : journal.used ≡ first_closed image
 
 -- the journal is the one of the site's image, all of which is on the disk
@@ -88,4 +88,4 @@ pub record IsHeaderOf (image : List ℕ) (plan_length : ℕ) (layout : Layout) :
 pub record IsCurrent (image : List ℕ) (bank : Bank) (generation : ℕ) : Type 0 where
   pub passes : first_failing (banks_part image) ≡ None
   pub is_current : bank ≡ current image
-  pub generation_is : generation ≡ generation_at image (current_at image)
+  pub generation_is : generation ≡ bank_generation image (current_at image)

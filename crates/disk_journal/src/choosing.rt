@@ -4,7 +4,7 @@ ghost use Rattle.std.specs.Prelude.{MatchResult};
 ghost use Rattle.sdls_base.specs.FirstFailing.{first_failing};
 ghost use Rattle.sdls_outside.specs.Faults.{HasCause};
 ghost use Rattle.disk_journal.specs.declared.layout.TheConstants.{OPEN};
-ghost use Rattle.disk_journal.specs.Banks.{generation_at, next, chosen};
+ghost use Rattle.disk_journal.specs.Banks.{bank_generation, next, chosen};
 ghost use Rattle.disk_journal.specs.Fault.{bank_checks};
 
 use crate::layout::{Bank, CONTENT_AT, GENERATION_AT, OPEN, next_generation};
@@ -24,7 +24,7 @@ pub(crate) fn read_front<O: Site>(site: &mut O, bank: u64) -> Result<Front, Fail
     requires within { IsTrue O.told → bank + CONTENT_AT ≤ length (O.trace site.old).now.image }
     ensures front { IsTrue O.told → IfOk result (λ front.
         (front.open ≡ (slice_index (O.trace site.old).now.image bank == OPEN))
-        × (front.generation ≡ generation_at (O.trace site.old).now.image bank)) }
+        × (front.generation ≡ bank_generation (O.trace site.old).now.image bank)) }
     ensures same { IsTrue O.told → O.trace site.new ≡ O.trace site.old }
     ensures cause { HasCause (O.faults site.old) (O.faults site.new) result }
     ensures puts { O.put_faults site.new ≡ O.put_faults site.old }

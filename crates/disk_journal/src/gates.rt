@@ -3,7 +3,7 @@ ghost use Rattle.std.specs.Prelude.{◌≡◌, ◌+◌, ◌-◌, ◌*◌, ◌^�
 ghost use Rattle.sdls_outside.specs.Faults.{HasCause};
 ghost use Rattle.sdls_base.specs.FirstFailing.{first_failing};
 ghost use Rattle.disk_journal.specs.Gates.{IsFirstClosed, IsFirstOther};
-ghost use Rattle.disk_journal.specs.Banks.{bank_length, gate_at};
+ghost use Rattle.disk_journal.specs.Banks.{bank_length, slot_gate};
 ghost use Rattle.disk_journal.specs.Fault.{gate_checks};
 
 use crate::layout::{CLOSED, Layout, OPEN, RUN, RUN_LENGTH, SLOT_LENGTH};
@@ -40,12 +40,12 @@ fn first_other_in_run<O: Site>(
     requires within { IsTrue O.told → bank + bank_length layout ≤ length (O.trace site.old).now.image }
     ensures within { IfOk result (λ index. index ≤ end) }
     ensures found { IsTrue O.told → IfOk result
-        (IsFirstOther (gate_at layout (O.trace site.old).now.image bank) gate first end) }
+        (IsFirstOther (slot_gate layout (O.trace site.old).now.image bank) gate first end) }
     ensures same { IsTrue O.told → O.trace site.new ≡ O.trace site.old }
     ensures cause { HasCause (O.faults site.old) (O.faults site.new) result }
     ensures puts { O.put_faults site.new ≡ O.put_faults site.old }
 {
-    site.read_at(layout.slot_offset(bank, first), slots)?;
+    site.read_at(layout.slot_at(bank, first), slots)?;
     Ok(first + first_other_of(slots, end - first, gate))
 }
 
@@ -61,7 +61,7 @@ fn first_other<O: Site>(
     requires within { IsTrue O.told → bank + bank_length layout ≤ length (O.trace site.old).now.image }
     ensures within { IfOk result (λ index. index ≤ layout.slots) }
     ensures found { IsTrue O.told → IfOk result
-        (IsFirstOther (gate_at layout (O.trace site.old).now.image bank) gate from layout.slots) }
+        (IsFirstOther (slot_gate layout (O.trace site.old).now.image bank) gate from layout.slots) }
     ensures same { IsTrue O.told → O.trace site.new ≡ O.trace site.old }
     ensures cause { HasCause (O.faults site.old) (O.faults site.new) result }
     ensures puts { O.put_faults site.new ≡ O.put_faults site.old }
@@ -87,7 +87,7 @@ pub(crate) fn first_closed<O: Site>(site: &mut O, layout: Layout, bank: u64) -> 
     requires within { IsTrue O.told → bank + bank_length layout ≤ length (O.trace site.old).now.image }
     ensures within { IfOk result (λ index. index ≤ layout.slots) }
     ensures found { IsTrue O.told → IfOk result
-        (IsFirstClosed (gate_at layout (O.trace site.old).now.image bank) layout.slots) }
+        (IsFirstClosed (slot_gate layout (O.trace site.old).now.image bank) layout.slots) }
     ensures same { IsTrue O.told → O.trace site.new ≡ O.trace site.old }
     ensures cause { HasCause (O.faults site.old) (O.faults site.new) result }
     ensures puts { O.put_faults site.new ≡ O.put_faults site.old }
@@ -105,14 +105,14 @@ pub(crate) fn stray_gate<O: Site>(
     requires place { bank + bank_length layout < 2 ^ 64 }
     requires within { IsTrue O.told → bank + bank_length layout ≤ length (O.trace site.old).now.image }
     ensures found { IsTrue O.told → IfOk result (λ stray. stray ≡ first_failing
-        (gate_checks layout bank (gate_at layout (O.trace site.old).now.image bank) (layout.slots - from) from)) }
+        (gate_checks layout bank (slot_gate layout (O.trace site.old).now.image bank) (layout.slots - from) from)) }
     ensures same { IsTrue O.told → O.trace site.new ≡ O.trace site.old }
     ensures cause { HasCause (O.faults site.old) (O.faults site.new) result }
     ensures puts { O.put_faults site.new ≡ O.put_faults site.old }
 {
     let index = first_other(site, layout, bank, from, CLOSED)?;
     if index < layout.slots {
-        return Ok(Some(layout.slot_offset(bank, index)));
+        return Ok(Some(layout.slot_at(bank, index)));
     }
     Ok(None)
 }

@@ -1,18 +1,20 @@
 // The journal.
-ghost use Rattle.std.specs.Prelude.{◌≡◌, ℕ, ◌+◌, ◌^◌, ◌<◌, ◌≤◌, ◌⊎◌, IsTrue, IfOk, OnOk, OnErr, slice_get, List, length};
-ghost use Rattle.std.specs.Prelude.{take, slice_index};
+ghost use Rattle.std.specs.Prelude.{◌≡◌, ℕ, ◌+◌, ◌^◌, ◌<◌, ◌≤◌, ◌⊎◌, IsTrue, IfOk, OnOk, OnErr, List, length};
+ghost use Rattle.std.specs.Prelude.{take, slice_get, slice_index};
 ghost use Rattle.sdls_base.specs.Version.{content_length_of};
 ghost use Rattle.sdls_outside.specs.Disk.{IsSynced, Leaves};
 ghost use Rattle.sdls_outside.specs.Faults.{HasCause};
 ghost use Rattle.disk_journal.specs.Moments.{EachImage, OnlySyncs};
 ghost use Rattle.disk_journal.specs.declared.layout.TheConstants.{CLOSED, MIGRATED_AT};
-ghost use Rattle.disk_journal.specs.Banks.{version_of, layout_of, image_end, bank_at, slot_at, other, next};
+ghost use Rattle.disk_journal.specs.Banks.{version_of, version_number, layout_of, image_end, bank_at, slot_at};
+ghost use Rattle.disk_journal.specs.Banks.{other, next};
 ghost use Rattle.disk_journal.specs.Image.{records, plan_of, content, current_at, record_at, held, grown, turned};
 ghost use Rattle.disk_journal.specs.Image.{version_in, migrated};
 ghost use Rattle.disk_journal.specs.Changes.{KeepsBeside, KeepsPlan, KeepsPast};
 ghost use Rattle.disk_journal.specs.Fault.{image_fault};
 ghost use Rattle.disk_journal.specs.Forms.{Becomes, Settles};
-ghost use Rattle.disk_journal.specs.Journal.{JournalView, IsJournalOf, IsOpen, IsClosed, IsSettled, HasFault, HasSiteFault};
+ghost use Rattle.disk_journal.specs.Journal.{JournalView, IsJournalOf, IsOpen, IsClosed, IsSettled};
+ghost use Rattle.disk_journal.specs.Journal.{HasFault, HasSiteFault};
 ghost use Rattle.disk_journal.specs.Rest.{IsRest};
 ghost use Rattle.disk_journal.specs.Runs.{Has, IsRunOf};
 
@@ -145,9 +147,9 @@ impl Journal {
         ensures cause { HasCause (O.faults site.old) (O.faults site.new) result }
         ensures puts { O.put_faults site.new ≡ O.put_faults site.old }
     {
-        let at = self.layout.bank_offset(self.bank);
-        let spare = self.layout.bank_offset(self.bank.other());
-        let slot = self.layout.slot_offset(at, self.used);
+        let at = self.layout.bank_at(self.bank);
+        let spare = self.layout.bank_at(self.bank.other());
+        let slot = self.layout.slot_at(at, self.used);
         close_slot(site, slot, self.used, self.layout.slots)?;
         close_gate(site, spare)?;
         clear_spare(site, spare, self.layout.blocks())
@@ -192,7 +194,7 @@ impl Journal {
         ensures is { result ≡ bank_at self.now.layout self.now.bank + CONTENT_AT }
         ensures place { (image : List ℕ) → IsJournalOf image self.now → result ≡ current_at image + CONTENT_AT }
     {
-        self.layout.bank_offset(self.bank) + CONTENT_AT
+        self.layout.bank_at(self.bank) + CONTENT_AT
     }
 
     /// Reads the body of a record; the first one's index is 0.
@@ -206,7 +208,7 @@ impl Journal {
         ensures puts { O.put_faults site.new ≡ O.put_faults site.old }
     {
         let mut body = [0; BODY_LENGTH];
-        match site.read_at(self.record_offset(index) + 1, &mut body) {
+        match site.read_at(self.record_at(index) + 1, &mut body) {
             Ok(()) => Ok(body),
             Err(Failed) => Err(JournalFault::SiteFault(site.faults())),
         }
@@ -224,7 +226,7 @@ impl Journal {
     {
         let count = RUN.min(self.used - index);
         let slots = &mut run.slots[..SLOT_LENGTH as usize * count as usize];
-        site.read_at(self.record_offset(index), slots)?;
+        site.read_at(self.record_at(index), slots)?;
         run.first = index;
         run.end = index + count;
         Ok(())
@@ -258,13 +260,13 @@ impl Journal {
     }
 
     /// Where the record with this index begins.
-    pub fn record_offset(&self, index: u32) -> u64
+    pub fn record_at(&self, index: u32) -> u64
         ensures is { result ≡ slot_at self.now.layout (bank_at self.now.layout self.now.bank) index }
         ensures place { (image : List ℕ) → IsJournalOf image self.now → result ≡ record_at image index }
         ensures short { result < 2 ^ 63 }
     {
-        let bank = self.layout.bank_offset(self.bank);
-        self.layout.slot_offset(bank, index)
+        let bank = self.layout.bank_at(self.bank);
+        self.layout.slot_at(bank, index)
     }
 
     /// Adds a record. After `Ok` every crash leaves an image that has it. After a fault the image may
@@ -297,7 +299,7 @@ impl Journal {
         ensures fault { HasSiteFault (O.faults site.old) (O.faults site.new) result }
         ensures puts { O.put_faults site.new ≡ O.put_faults site.old }
     {
-        match store_record(site, self.record_offset(self.used), body) {
+        match store_record(site, self.record_at(self.used), body) {
             Ok(()) => {
                 self.used += 1;
                 Ok(())
@@ -341,9 +343,9 @@ impl Journal {
         ensures fault { HasSiteFault (O.faults site.old) (O.faults site.new) result }
         ensures puts { O.put_faults site.new ≡ O.put_faults site.old }
     {
-        let from = self.layout.bank_offset(self.bank);
+        let from = self.layout.bank_at(self.bank);
         let bank = self.bank.other();
-        let to = self.layout.bank_offset(bank);
+        let to = self.layout.bank_at(bank);
         let generation = next_generation(self.generation);
         match turn_banks(site, self.layout, from, to, generation, content) {
             Ok(()) => {
@@ -356,8 +358,20 @@ impl Journal {
         }
     }
 
+    /// The number of the image's version, 1 or 2.
+    pub fn version(&self) -> u8
+        ensures is { result ≡ version_number (version_of self.now.layout.form) }
+        ensures of_image { (image : List ℕ) → IsJournalOf image self.now
+            → result ≡ version_number (version_in image) }
+    {
+        match self.content_version() {
+            Version::One => 1,
+            Version::Two => 2,
+        }
+    }
+
     /// The version of the image: how much its contents have room for.
-    pub fn version(&self) -> Version
+    pub fn content_version(&self) -> Version
         ensures is { result ≡ version_of self.now.layout.form }
         ensures of_image { (image : List ℕ) → IsJournalOf image self.now → result ≡ version_in image }
         ensures sized { self.now.layout.content_length ≡ content_length_of result }

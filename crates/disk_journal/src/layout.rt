@@ -53,7 +53,8 @@ pub const MAGIC_TWO: [u8; 8] = *b"SDLSBNK2";
 /// Where the octet stands that is 1 once an image of version 1 is migrated.
 pub const MIGRATED_AT: u64 = ZEROS_AT;
 
-/// Where the banks begin, behind the header and the plan; those of a migrated image begin behind the banks of version 1.
+/// Where the banks begin, behind the header and the plan; those of a migrated image begin behind the banks of
+/// version 1.
 pub const BANKS_AT: u64 = HEADER_LENGTH + PLAN_ROOM;
 
 /// Where the generation stands in a bank, behind its gate.
@@ -199,7 +200,7 @@ impl Layout {
     }
 
     /// Where a bank begins.
-    pub(crate) fn bank_offset(self, bank: Bank) -> u64
+    pub(crate) fn bank_at(self, bank: Bank) -> u64
         requires { image_end self < 2 ^ 64 }
         ensures { result ≡ bank_at self bank }
     {
@@ -219,7 +220,7 @@ impl Layout {
     }
 
     /// Where slot `index` begins, of the bank that begins at `bank`.
-    pub(crate) fn slot_offset(self, bank: u64, index: u32) -> u64
+    pub(crate) fn slot_at(self, bank: u64, index: u32) -> u64
         requires { slot_at self bank index < 2 ^ 64 }
         ensures { result ≡ slot_at self bank index }
     {

@@ -43,7 +43,7 @@ fn inspect_slots<O: Site>(
         plan_length,
         layout,
     } = header;
-    let at = layout.bank_offset(bank);
+    let at = layout.bank_at(bank);
     let used = first_closed(site, layout, at)?;
     match stray_gate(site, layout, at, used + 1)? {
         Some(offset) => Ok(Verdict::Fails(offset)),
@@ -67,8 +67,8 @@ fn inspect_banks<O: Site>(site: &mut O, header: Header) -> Result<Verdict, Faile
     ensures cause { HasCause (O.faults site.old) (O.faults site.new) result }
     ensures puts { O.put_faults site.new ≡ O.put_faults site.old }
 {
-    let first_at = header.layout.bank_offset(Bank::First);
-    let second_at = header.layout.bank_offset(Bank::Second);
+    let first_at = header.layout.bank_at(Bank::First);
+    let second_at = header.layout.bank_at(Bank::Second);
     let first = read_front(site, first_at)?;
     let second = read_front(site, second_at)?;
     match choose(first, second, first_at, second_at) {

@@ -4,7 +4,7 @@ use Rattle.std.proofs.Common.{slice_index, ◌≢◌, ◌≡◌, ◌⊎◌, ℕ,
 use Rattle.disk_journal.proofs.Gating.{AreRecords, records_are}
 use Rattle.disk_journal.proofs.Ranges.{set_but}
 use Rattle.disk_journal.specs.Moments.{AllBut}
-use Rattle.disk_journal.specs.Banks.{bank_at, slot_at, other, gate_at, body_at}
+use Rattle.disk_journal.specs.Banks.{bank_at, slot_at, other, slot_gate, slot_body}
 use Rattle.disk_journal.specs.Image.{Held, IsAtRest, IsOpenedForm, held, migrated, plan_of, records, image_layout, current, current_at, first_closed, slot_count}
 use Rattle.disk_journal.specs.Fault.{image_fault}
 use Rattle.disk_journal.specs.Forms.{Holds, HasOneClosed, Becomes, StaysWithin}
@@ -25,11 +25,11 @@ pub use Rattle.disk_journal.proofs.Moments.{only_syncs_moments}
 
 -- the records by place
 pub records_of : (image : List ℕ)
-    → AreRecords (gate_at (image_layout image) image (current_at image)) (body_at (image_layout image) image (current_at image))
+    → AreRecords (slot_gate (image_layout image) image (current_at image)) (slot_body (image_layout image) image (current_at image))
     (slot_count image) (records image)
 unfolding records
 records_of image =
-    records_are (gate_at (image_layout image) image (current_at image)) (body_at (image_layout image) image (current_at image))
+    records_are (slot_gate (image_layout image) image (current_at image)) (slot_body (image_layout image) image (current_at image))
     (slot_count image)
 
 -- the octet that migrates an image of version 1 is not 1

@@ -145,7 +145,7 @@ fn bring_up<O: Site>(
     ensures puts { O.put_faults site.new ≡ O.put_faults site.old }
     ensures fault { HasSiteFault (O.faults site.old) (O.faults site.new) result }
 {
-    match journal.version() {
+    match journal.content_version() {
         Version::Two => Ok(()),
         Version::One => {
             write_content_two(state, room);

@@ -130,7 +130,7 @@ pub(crate) fn read_state<O: Site>(
     ensures fault { HasOpenFault (O.faults site.old) (O.faults site.new)
         (λ offset. IsTrue O.told → IsNoContent (O.trace site.old).now.image plan.now offset) result }
 {
-    let version = journal.version();
+    let version = journal.content_version();
     let content = &mut room[..version.content_length()];
     match journal.content(site, content) {
         Ok(()) => {}
@@ -198,7 +198,7 @@ fn take_record<O: Site>(
             Ok(()) => Ok(()),
             Err(NoMemory) => Err(OpenFault::NoMemory),
         },
-        Ok(None) => Err(OpenFault::Image(journal.record_offset(index))),
+        Ok(None) => Err(OpenFault::Image(journal.record_at(index))),
         Err(NoMemory) => Err(OpenFault::NoMemory),
     }
 }

@@ -1,6 +1,6 @@
 use Rattle.std.proofs.Common.{◌≡◌, ℕ, ◌-◌, ◌<◌, ◌≤◌, length, IsTrue}
 use Rattle.disk_journal.specs.declared.layout.TheConstants.{RUN_LENGTH}
-use Rattle.disk_journal.specs.Banks.{gate_at}
+use Rattle.disk_journal.specs.Banks.{slot_gate}
 use Rattle.disk_journal.proofs.gates.first_other.Given as goal
 
 abbrev pub decreases-loop-first : goal.decreases-loop-first
@@ -13,5 +13,5 @@ invariant-loop-first g l = record {
   same : IsTrue g.O.Site.told → g.O.Site.trace l.site ≡ g.O.Site.trace l.initial.site;
   sized : length l.room ≡ RUN_LENGTH;
   low : l.from ≤ l.first;
-  before : IsTrue g.O.Site.told → (k : ℕ) → l.from ≤ k → k < l.first → gate_at l.layout (g.O.Site.trace l.initial.site).now.image l.bank k ≡ l.gate;
+  before : IsTrue g.O.Site.told → (k : ℕ) → l.from ≤ k → k < l.first → slot_gate l.layout (g.O.Site.trace l.initial.site).now.image l.bank k ≡ l.gate;
 }

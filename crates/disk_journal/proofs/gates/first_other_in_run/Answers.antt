@@ -10,5 +10,5 @@ returns-clause-found g c = λ told.
     let long : length slots ≡ SLOT_LENGTH * (c.args.end - c.args.first) = omega arith in
     other_read c.args.layout c.args.bank image slots c.args.gate c.args.first c.args.end (length c.args.slots.now) c.first_other_of.result
     c.requires.ordered
-    (c.in_ok-read_at.ensures.read told ∙ ap (λ (at : ℕ). take (length c.args.slots.now) (drop at image)) c.slot_offset.ensures)
+    (c.in_ok-read_at.ensures.read told ∙ ap (λ (at : ℕ). take (length c.args.slots.now) (drop at image)) c.slot_at.ensures)
     long c.first_other_of.ensures

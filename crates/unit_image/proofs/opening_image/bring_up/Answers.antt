@@ -11,7 +11,7 @@ pub returns-in-One-clause-brings : goal.returns-in-One-clause-brings
 returns-in-One-clause-brings g c = λ told.
     let old = g.O.Site.trace c.args.site.now in
     brings_two c.args.state.now c.write_content_two.new.out c.migrate.result c.migrate.new.self old (g.O.Site.trace c.migrate.new.site)
-    (version_is old c.args.journal.now One (c.requires.settled told) (sym c.in-One.is ∙ c.version.ensures.is))
+    (version_is old c.args.journal.now One (c.requires.settled told) (sym c.in-One.is ∙ c.content_version.ensures.is))
     c.write_content_two.ensures.written
     (is_content old.now.image c.args.state.now (c.requires.shows told) c.requires.rules c.write_content_two.ensures.rows)
     (c.migrate.ensures.becomes told) (both _ _ c.migrate.result (c.migrate.ensures.stored told) (c.migrate.ensures.holds told))

@@ -14,12 +14,12 @@ close_slot-requires-clause-within g c = λ told.
     let old = g.O.Site.trace c.args.site.now in
     let journal : JournalView = record { plan_length = c.self.inside.plan_length; layout = c.self.inside.layout; bank = c.self.inside.bank; generation = c.self.inside.generation; used = c.self.inside.used } in
     let opened : IsOpen old journal = subst (λ (view : JournalView). IsOpen old view) (sym c.self.view_is) (c.requires.opened told) in
-    let slot = c.slot_offset-slot.result in
-    let spare = c.bank_offset-spare.result in
+    let slot = c.slot_at-slot.result in
+    let spare = c.bank_at-spare.result in
     let sites : Sites old.now.image journal slot spare = record {
       of_image = opened.of_image;
-      slot_is = c.slot_offset-slot.ensures ∙ ap (λ (n : ℕ). slot_at c.self.inside.layout n c.self.inside.used) c.bank_offset-at.ensures;
-      spare_is = c.bank_offset-spare.ensures ∙ ap (bank_at c.self.inside.layout) c.other.ensures;
+      slot_is = c.slot_at-slot.ensures ∙ ap (λ (n : ℕ). slot_at c.self.inside.layout n c.self.inside.used) c.bank_at-at.ensures;
+      spare_is = c.bank_at-spare.ensures ∙ ap (bank_at c.self.inside.layout) c.other.ensures;
     } in
     λ room. slot_within old journal slot spare sites room
 
@@ -28,12 +28,12 @@ returns-in_err-close_slot-clause-any_moment g c = λ told.
     let old = g.O.Site.trace c.args.site.now in
     let journal : JournalView = record { plan_length = c.self.inside.plan_length; layout = c.self.inside.layout; bank = c.self.inside.bank; generation = c.self.inside.generation; used = c.self.inside.used } in
     let opened : IsOpen old journal = subst (λ (view : JournalView). IsOpen old view) (sym c.self.view_is) (c.requires.opened told) in
-    let slot = c.slot_offset-slot.result in
-    let spare = c.bank_offset-spare.result in
+    let slot = c.slot_at-slot.result in
+    let spare = c.bank_at-spare.result in
     let sites : Sites old.now.image journal slot spare = record {
       of_image = opened.of_image;
-      slot_is = c.slot_offset-slot.ensures ∙ ap (λ (n : ℕ). slot_at c.self.inside.layout n c.self.inside.used) c.bank_offset-at.ensures;
-      spare_is = c.bank_offset-spare.ensures ∙ ap (bank_at c.self.inside.layout) c.other.ensures;
+      slot_is = c.slot_at-slot.ensures ∙ ap (λ (n : ℕ). slot_at c.self.inside.layout n c.self.inside.used) c.bank_at-at.ensures;
+      spare_is = c.bank_at-spare.ensures ∙ ap (bank_at c.self.inside.layout) c.other.ensures;
     } in
     first_part old (g.O.Site.trace c.close_slot.new.site) journal slot spare sites (c.close_slot.ensures.any_moment told)
 
@@ -42,12 +42,12 @@ close_gate-requires-clause-within g c = λ told.
     let old = g.O.Site.trace c.args.site.now in
     let journal : JournalView = record { plan_length = c.self.inside.plan_length; layout = c.self.inside.layout; bank = c.self.inside.bank; generation = c.self.inside.generation; used = c.self.inside.used } in
     let opened : IsOpen old journal = subst (λ (view : JournalView). IsOpen old view) (sym c.self.view_is) (c.requires.opened told) in
-    let slot = c.slot_offset-slot.result in
-    let spare = c.bank_offset-spare.result in
+    let slot = c.slot_at-slot.result in
+    let spare = c.bank_at-spare.result in
     let sites : Sites old.now.image journal slot spare = record {
       of_image = opened.of_image;
-      slot_is = c.slot_offset-slot.ensures ∙ ap (λ (n : ℕ). slot_at c.self.inside.layout n c.self.inside.used) c.bank_offset-at.ensures;
-      spare_is = c.bank_offset-spare.ensures ∙ ap (bank_at c.self.inside.layout) c.other.ensures;
+      slot_is = c.slot_at-slot.ensures ∙ ap (λ (n : ℕ). slot_at c.self.inside.layout n c.self.inside.used) c.bank_at-at.ensures;
+      spare_is = c.bank_at-spare.ensures ∙ ap (bank_at c.self.inside.layout) c.other.ensures;
     } in
     let within = spare_within old journal slot spare sites in
     let same : length (g.O.Site.trace c.close_slot.new.site).now.image ≡ length old.now.image =
@@ -59,12 +59,12 @@ returns-in_err-close_gate-clause-any_moment g c = λ told.
     let old = g.O.Site.trace c.args.site.now in
     let journal : JournalView = record { plan_length = c.self.inside.plan_length; layout = c.self.inside.layout; bank = c.self.inside.bank; generation = c.self.inside.generation; used = c.self.inside.used } in
     let opened : IsOpen old journal = subst (λ (view : JournalView). IsOpen old view) (sym c.self.view_is) (c.requires.opened told) in
-    let slot = c.slot_offset-slot.result in
-    let spare = c.bank_offset-spare.result in
+    let slot = c.slot_at-slot.result in
+    let spare = c.bank_at-spare.result in
     let sites : Sites old.now.image journal slot spare = record {
       of_image = opened.of_image;
-      slot_is = c.slot_offset-slot.ensures ∙ ap (λ (n : ℕ). slot_at c.self.inside.layout n c.self.inside.used) c.bank_offset-at.ensures;
-      spare_is = c.bank_offset-spare.ensures ∙ ap (bank_at c.self.inside.layout) c.other.ensures;
+      slot_is = c.slot_at-slot.ensures ∙ ap (λ (n : ℕ). slot_at c.self.inside.layout n c.self.inside.used) c.bank_at-at.ensures;
+      spare_is = c.bank_at-spare.ensures ∙ ap (bank_at c.self.inside.layout) c.other.ensures;
     } in
     let mid = g.O.Site.trace c.close_slot.new.site in
     let closed = g.O.Site.trace c.close_gate.new.site in
@@ -76,12 +76,12 @@ clear_spare-requires-clause-within g c = λ told.
     let old = g.O.Site.trace c.args.site.now in
     let journal : JournalView = record { plan_length = c.self.inside.plan_length; layout = c.self.inside.layout; bank = c.self.inside.bank; generation = c.self.inside.generation; used = c.self.inside.used } in
     let opened : IsOpen old journal = subst (λ (view : JournalView). IsOpen old view) (sym c.self.view_is) (c.requires.opened told) in
-    let slot = c.slot_offset-slot.result in
-    let spare = c.bank_offset-spare.result in
+    let slot = c.slot_at-slot.result in
+    let spare = c.bank_at-spare.result in
     let sites : Sites old.now.image journal slot spare = record {
       of_image = opened.of_image;
-      slot_is = c.slot_offset-slot.ensures ∙ ap (λ (n : ℕ). slot_at c.self.inside.layout n c.self.inside.used) c.bank_offset-at.ensures;
-      spare_is = c.bank_offset-spare.ensures ∙ ap (bank_at c.self.inside.layout) c.other.ensures;
+      slot_is = c.slot_at-slot.ensures ∙ ap (λ (n : ℕ). slot_at c.self.inside.layout n c.self.inside.used) c.bank_at-at.ensures;
+      spare_is = c.bank_at-spare.ensures ∙ ap (bank_at c.self.inside.layout) c.other.ensures;
     } in
     let mid = g.O.Site.trace c.close_slot.new.site in
     let closed = g.O.Site.trace c.close_gate.new.site in
@@ -105,12 +105,12 @@ returns-clause-any_moment g c = λ told.
     let old = g.O.Site.trace c.args.site.now in
     let journal : JournalView = record { plan_length = c.self.inside.plan_length; layout = c.self.inside.layout; bank = c.self.inside.bank; generation = c.self.inside.generation; used = c.self.inside.used } in
     let opened : IsOpen old journal = subst (λ (view : JournalView). IsOpen old view) (sym c.self.view_is) (c.requires.opened told) in
-    let slot = c.slot_offset-slot.result in
-    let spare = c.bank_offset-spare.result in
+    let slot = c.slot_at-slot.result in
+    let spare = c.bank_at-spare.result in
     let sites : Sites old.now.image journal slot spare = record {
       of_image = opened.of_image;
-      slot_is = c.slot_offset-slot.ensures ∙ ap (λ (n : ℕ). slot_at c.self.inside.layout n c.self.inside.used) c.bank_offset-at.ensures;
-      spare_is = c.bank_offset-spare.ensures ∙ ap (bank_at c.self.inside.layout) c.other.ensures;
+      slot_is = c.slot_at-slot.ensures ∙ ap (λ (n : ℕ). slot_at c.self.inside.layout n c.self.inside.used) c.bank_at-at.ensures;
+      spare_is = c.bank_at-spare.ensures ∙ ap (bank_at c.self.inside.layout) c.other.ensures;
     } in
     let mid = g.O.Site.trace c.close_slot.new.site in
     let closed = g.O.Site.trace c.close_gate.new.site in
@@ -133,12 +133,12 @@ returns-clause-closed g c = λ told.
     let old = g.O.Site.trace c.args.site.now in
     let journal : JournalView = record { plan_length = c.self.inside.plan_length; layout = c.self.inside.layout; bank = c.self.inside.bank; generation = c.self.inside.generation; used = c.self.inside.used } in
     let opened : IsOpen old journal = subst (λ (view : JournalView). IsOpen old view) (sym c.self.view_is) (c.requires.opened told) in
-    let slot = c.slot_offset-slot.result in
-    let spare = c.bank_offset-spare.result in
+    let slot = c.slot_at-slot.result in
+    let spare = c.bank_at-spare.result in
     let sites : Sites old.now.image journal slot spare = record {
       of_image = opened.of_image;
-      slot_is = c.slot_offset-slot.ensures ∙ ap (λ (n : ℕ). slot_at c.self.inside.layout n c.self.inside.used) c.bank_offset-at.ensures;
-      spare_is = c.bank_offset-spare.ensures ∙ ap (bank_at c.self.inside.layout) c.other.ensures;
+      slot_is = c.slot_at-slot.ensures ∙ ap (λ (n : ℕ). slot_at c.self.inside.layout n c.self.inside.used) c.bank_at-at.ensures;
+      spare_is = c.bank_at-spare.ensures ∙ ap (bank_at c.self.inside.layout) c.other.ensures;
     } in
     let mid = g.O.Site.trace c.close_slot.new.site in
     let closed = g.O.Site.trace c.close_gate.new.site in
@@ -161,12 +161,12 @@ returns-clause-beside g c = λ told.
     let old = g.O.Site.trace c.args.site.now in
     let journal : JournalView = record { plan_length = c.self.inside.plan_length; layout = c.self.inside.layout; bank = c.self.inside.bank; generation = c.self.inside.generation; used = c.self.inside.used } in
     let opened : IsOpen old journal = subst (λ (view : JournalView). IsOpen old view) (sym c.self.view_is) (c.requires.opened told) in
-    let slot = c.slot_offset-slot.result in
-    let spare = c.bank_offset-spare.result in
+    let slot = c.slot_at-slot.result in
+    let spare = c.bank_at-spare.result in
     let sites : Sites old.now.image journal slot spare = record {
       of_image = opened.of_image;
-      slot_is = c.slot_offset-slot.ensures ∙ ap (λ (n : ℕ). slot_at c.self.inside.layout n c.self.inside.used) c.bank_offset-at.ensures;
-      spare_is = c.bank_offset-spare.ensures ∙ ap (bank_at c.self.inside.layout) c.other.ensures;
+      slot_is = c.slot_at-slot.ensures ∙ ap (λ (n : ℕ). slot_at c.self.inside.layout n c.self.inside.used) c.bank_at-at.ensures;
+      spare_is = c.bank_at-spare.ensures ∙ ap (bank_at c.self.inside.layout) c.other.ensures;
     } in
     let mid = g.O.Site.trace c.close_slot.new.site in
     let closed = g.O.Site.trace c.close_gate.new.site in

@@ -11,15 +11,15 @@ turn_banks-requires-clause-within g c = λ told.
     let settled : IsSettled old journal =
     subst (λ (view : JournalView). IsSettled old view) (sym c.self.view_is) (c.requires.settled told) in
     let sized : length c.args.content.now ≡ c.self.inside.layout.content_length = c.requires.sized ∙ ap (λ (view : JournalView). view.layout.content_length) (sym c.self.view_is) in
-    let from = c.bank_offset-from.result in
-    let to = c.bank_offset-to.result in
+    let from = c.bank_at-from.result in
+    let to = c.bank_at-to.result in
     let generation = c.next_generation-generation.result in
     let bank = c.other-bank.result in
     let written : Written old.now.image journal from to generation bank = record {
       of_image = settled.of_image;
-      from_is = c.bank_offset-from.ensures;
+      from_is = c.bank_at-from.ensures;
       bank_is = c.other-bank.ensures;
-      to_is = c.bank_offset-to.ensures;
+      to_is = c.bank_at-to.ensures;
       later = c.next_generation-generation.ensures;
     } in
     turn_within old journal from to generation bank written
@@ -31,15 +31,15 @@ returns-in-Err-clause-becomes g c = λ told.
     let settled : IsSettled old journal =
     subst (λ (view : JournalView). IsSettled old view) (sym c.self.view_is) (c.requires.settled told) in
     let sized : length c.args.content.now ≡ c.self.inside.layout.content_length = c.requires.sized ∙ ap (λ (view : JournalView). view.layout.content_length) (sym c.self.view_is) in
-    let from = c.bank_offset-from.result in
-    let to = c.bank_offset-to.result in
+    let from = c.bank_at-from.result in
+    let to = c.bank_at-to.result in
     let generation = c.next_generation-generation.result in
     let bank = c.other-bank.result in
     let written : Written old.now.image journal from to generation bank = record {
       of_image = settled.of_image;
-      from_is = c.bank_offset-from.ensures;
+      from_is = c.bank_at-from.ensures;
       bank_is = c.other-bank.ensures;
-      to_is = c.bank_offset-to.ensures;
+      to_is = c.bank_at-to.ensures;
       later = c.next_generation-generation.ensures;
     } in
     turn_moments old (g.O.Site.trace c.turn_banks.new.site) journal c.args.content.now from to generation bank written sized (c.turn_banks.ensures.any_moment told)
@@ -51,15 +51,15 @@ returns-in-Ok-clause-becomes g c = λ told.
     let settled : IsSettled old journal =
     subst (λ (view : JournalView). IsSettled old view) (sym c.self.view_is) (c.requires.settled told) in
     let sized : length c.args.content.now ≡ c.self.inside.layout.content_length = c.requires.sized ∙ ap (λ (view : JournalView). view.layout.content_length) (sym c.self.view_is) in
-    let from = c.bank_offset-from.result in
-    let to = c.bank_offset-to.result in
+    let from = c.bank_at-from.result in
+    let to = c.bank_at-to.result in
     let generation = c.next_generation-generation.result in
     let bank = c.other-bank.result in
     let written : Written old.now.image journal from to generation bank = record {
       of_image = settled.of_image;
-      from_is = c.bank_offset-from.ensures;
+      from_is = c.bank_at-from.ensures;
       bank_is = c.other-bank.ensures;
-      to_is = c.bank_offset-to.ensures;
+      to_is = c.bank_at-to.ensures;
       later = c.next_generation-generation.ensures;
     } in
     turn_moments old (g.O.Site.trace c.turn_banks.new.site) journal c.args.content.now from to generation bank written sized (c.turn_banks.ensures.any_moment told)
@@ -71,15 +71,15 @@ returns-in-Ok-clause-stored g c = λ told.
     let settled : IsSettled old journal =
     subst (λ (view : JournalView). IsSettled old view) (sym c.self.view_is) (c.requires.settled told) in
     let sized : length c.args.content.now ≡ c.self.inside.layout.content_length = c.requires.sized ∙ ap (λ (view : JournalView). view.layout.content_length) (sym c.self.view_is) in
-    let from = c.bank_offset-from.result in
-    let to = c.bank_offset-to.result in
+    let from = c.bank_at-from.result in
+    let to = c.bank_at-to.result in
     let generation = c.next_generation-generation.result in
     let bank = c.other-bank.result in
     let written : Written old.now.image journal from to generation bank = record {
       of_image = settled.of_image;
-      from_is = c.bank_offset-from.ensures;
+      from_is = c.bank_at-from.ensures;
       bank_is = c.other-bank.ensures;
-      to_is = c.bank_offset-to.ensures;
+      to_is = c.bank_at-to.ensures;
       later = c.next_generation-generation.ensures;
     } in
     (turn_stored old (g.O.Site.trace c.turn_banks.new.site) journal c.args.content.now from to generation bank written sized (c.in-Ok.ensures.turned told)).0
@@ -91,15 +91,15 @@ returns-in-Ok-clause-holds g c = λ told.
     let settled : IsSettled old journal =
     subst (λ (view : JournalView). IsSettled old view) (sym c.self.view_is) (c.requires.settled told) in
     let sized : length c.args.content.now ≡ c.self.inside.layout.content_length = c.requires.sized ∙ ap (λ (view : JournalView). view.layout.content_length) (sym c.self.view_is) in
-    let from = c.bank_offset-from.result in
-    let to = c.bank_offset-to.result in
+    let from = c.bank_at-from.result in
+    let to = c.bank_at-to.result in
     let generation = c.next_generation-generation.result in
     let bank = c.other-bank.result in
     let written : Written old.now.image journal from to generation bank = record {
       of_image = settled.of_image;
-      from_is = c.bank_offset-from.ensures;
+      from_is = c.bank_at-from.ensures;
       bank_is = c.other-bank.ensures;
-      to_is = c.bank_offset-to.ensures;
+      to_is = c.bank_at-to.ensures;
       later = c.next_generation-generation.ensures;
     } in
     (turn_stored old (g.O.Site.trace c.turn_banks.new.site) journal c.args.content.now from to generation bank written sized (c.in-Ok.ensures.turned told)).1
@@ -111,15 +111,15 @@ returns-in-Ok-clause-rest g c = λ told.
     let settled : IsSettled old journal =
     subst (λ (view : JournalView). IsSettled old view) (sym c.self.view_is) (c.requires.settled told) in
     let sized : length c.args.content.now ≡ c.self.inside.layout.content_length = c.requires.sized ∙ ap (λ (view : JournalView). view.layout.content_length) (sym c.self.view_is) in
-    let from = c.bank_offset-from.result in
-    let to = c.bank_offset-to.result in
+    let from = c.bank_at-from.result in
+    let to = c.bank_at-to.result in
     let generation = c.next_generation-generation.result in
     let bank = c.other-bank.result in
     let written : Written old.now.image journal from to generation bank = record {
       of_image = settled.of_image;
-      from_is = c.bank_offset-from.ensures;
+      from_is = c.bank_at-from.ensures;
       bank_is = c.other-bank.ensures;
-      to_is = c.bank_offset-to.ensures;
+      to_is = c.bank_at-to.ensures;
       later = c.next_generation-generation.ensures;
     } in
     turn_rest old (g.O.Site.trace c.turn_banks.new.site) journal c.args.content.now from to generation bank written sized (c.in-Ok.ensures.turned told)
@@ -131,15 +131,15 @@ returns-in-Ok-clause-beside g c = λ told.
     let settled : IsSettled old journal =
     subst (λ (view : JournalView). IsSettled old view) (sym c.self.view_is) (c.requires.settled told) in
     let sized : length c.args.content.now ≡ c.self.inside.layout.content_length = c.requires.sized ∙ ap (λ (view : JournalView). view.layout.content_length) (sym c.self.view_is) in
-    let from = c.bank_offset-from.result in
-    let to = c.bank_offset-to.result in
+    let from = c.bank_at-from.result in
+    let to = c.bank_at-to.result in
     let generation = c.next_generation-generation.result in
     let bank = c.other-bank.result in
     let written : Written old.now.image journal from to generation bank = record {
       of_image = settled.of_image;
-      from_is = c.bank_offset-from.ensures;
+      from_is = c.bank_at-from.ensures;
       bank_is = c.other-bank.ensures;
-      to_is = c.bank_offset-to.ensures;
+      to_is = c.bank_at-to.ensures;
       later = c.next_generation-generation.ensures;
     } in
     subst (λ (view : JournalView). KeepsBeside view.layout old.now.image (g.O.Site.trace c.turn_banks.new.site).now.image) c.self.view_is
