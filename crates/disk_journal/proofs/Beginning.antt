@@ -1,10 +1,10 @@
 -- The writes of the image that a journal begins with.
-use Rattle.std.proofs.Common.{◌≡◌, ℕ, zero, suc, ◌+◌, ◌-◌, ◌*◌, ◌<◌, ◌≤◌, ◌⊎◌, ◌==◌, ◌++◌, ◌∷◌, ◌∙◌, not, true, List, [], length, get_or, take, drop, replicate, Some, refl, sym, ap, subst, inl, inr, arith, append-nil, append_assoc, length-append, Result, Ok, Err}
+use Rattle.std.proofs.Common.{◌≡◌, ℕ, zero, suc, ◌+◌, ◌-◌, ◌*◌, ◌≤◌, ◌⊎◌, ◌++◌, ◌∷◌, ◌∙◌, List, [], length, get_or, take, drop, replicate, max, Some, refl, sym, ap, subst, inl, inr, arith, append-nil, append_assoc, length-append, Result, Ok, Err}
 use Rattle.disk_journal.proofs.Refused.{header_verdict, short_verdict}
 use Rattle.disk_journal.specs.Banks.{bank_length, banks_of, image_end, layout_of, version_of}
-use Rattle.disk_journal.specs.Changes.{with_front, with_gate}
+use Rattle.disk_journal.specs.Changes.{IsPendingIn, KeepsOutside, filled, with_gate}
 use Rattle.disk_journal.specs.Fault.{header_checks, image_fault}
-use Rattle.disk_journal.specs.Initial.{IsLaid, IsShut, banks_at_rest, created_image, fields_of, front_image, laid_image, rest_image}
+use Rattle.disk_journal.specs.Initial.{IsLaid, banks_at_rest, created_image, fields_of, front_image, laid_image, rest_image}
 use Rattle.disk_journal.specs.declared.layout.Bank.{Bank}
 use Rattle.disk_journal.specs.declared.layout.Bank.TheVariants.{First}
 use Rattle.disk_journal.specs.declared.layout.HeaderForm.{HeaderForm}
@@ -12,20 +12,18 @@ use Rattle.disk_journal.specs.declared.layout.HeaderForm.TheVariants.{Old, Migra
 use Rattle.disk_journal.specs.declared.layout.Layout.{Layout}
 use Rattle.disk_journal.specs.declared.layout.TheConstants.{BANKS_AT, CONTENT_AT, FIRST_GENERATION, GENERATION_AT, GENERATION_LENGTH, CLOSED, HEADER_LENGTH, MAGIC_AT, OPEN, PLAN_ROOM, SLOT_LENGTH}
 use Rattle.byteorder.specs.Endian.{big_bytes}
-use Rattle.disk_journal.proofs.Lengths.{synced_ok}
 use Rattle.disk_journal.proofs.ZeroLists.{length_zeros, more_zeros, zeros_end}
-use Rattle.disk_journal.proofs.Moments.{image_same, image_then, image_weaker, sync_moments}
+use Rattle.disk_journal.proofs.Moments.{image_then, image_weaker}
 use Rattle.disk_journal.proofs.Ranges.{overwritten_length}
 use Rattle.disk_journal.specs.Moments.{AllBut, EachImage}
 use Rattle.disk_journal.specs.Header.{header_of}
 use Rattle.disk_journal.specs.Zeros.{zeros}
 use Rattle.sdls_base.specs.FirstFailing.{first_failing}
 use Rattle.sdls_base.specs.Version.{content_length_of}
-use Rattle.sdls_outside.proofs.Moments.{each_writes}
-use Rattle.sdls_outside.specs.Disk.{Disk, IsSynced, Leaves, Outside}
+use Rattle.sdls_outside.specs.Disk.{IsSynced, Leaves}
 use Rattle.sdls_outside.specs.Moments.{Trace}
-use Rattle.sdls_outside.specs.Site.{Syncs, Writes, Wrote, overwritten}
-use Rattle.std.proofs.Math.ListN.{replicate-append-replicate}
+use Rattle.sdls_outside.specs.Site.{Syncs, Writes, overwritten}
+use Rattle.std.proofs.Math.ListN.{get_or-eq_default, replicate-append-replicate}
 use Rattle.std.proofs.Math.Seq.{drop-append-add, take-append-add}
 use Rattle.std.proofs.lemmas.Bool.{cases_lt}
 use Rattle.std.proofs.lemmas.List.{drop-replicate, get_or-take, take-replicate}
@@ -35,64 +33,56 @@ use Rattle.std.specs.Result.{OnOk}
 abbrev pub ShutImage : List ℕ → Type 0
 ShutImage image = get_or image 0 0 ≡ CLOSED
 
-pub shut_leaves : (disk : Disk) → IsShut disk → (image : List ℕ) → Leaves disk image → ShutImage image
-shut_leaves disk shut image leaves = let some : 1 ≤ length disk.synced = shut.some in leaves.outside 0 (omega arith) shut.away ∙ shut.synced
-
-pub shut_wrote : (at count : ℕ) (old new : Trace) → 1 ≤ at → IsShut old.now → Wrote at count old new → IsShut new.now
-shut_wrote at count old new behind shut wrote =
-    let low : 0 < at = omega arith in
-    record {
-      some = subst (λ (octets : List ℕ). 1 ≤ length octets) (sym wrote.synced) shut.some;
-      synced = ap (λ (octets : List ℕ). get_or octets 0 0) wrote.synced ∙ shut.synced;
-      away = subst (λ (ranges : List (ℕ × ℕ)). Outside ranges 0) (sym wrote.ranges) (inl low, shut.away);
-      reads = sym (get_or-take at new.now.image 0 0 low) ∙ ap (λ (front : List ℕ). get_or front 0 0) wrote.torn.before
-          ∙ get_or-take at old.now.image 0 0 low ∙ shut.reads;
-    }
-
--- one write behind the first octet
-pub write_shut : {T E : Type 0} → (at : ℕ) (octets : List ℕ) (result : Result T E) (old new : Trace) → 1 ≤ at → IsShut old.now
-    → Writes at octets result old new → EachImage old new ShutImage
-write_shut {E = E} at octets (Ok value) old new behind shut writes = record {
-  moments = each_writes {E = E} at octets (Ok value) old new (λ image sunk. ShutImage image × (sunk ≡ old.now.sunk)) writes
-      (λ image leaves. (shut_leaves old.now shut image leaves, refl))
-      (λ wrote image leaves. (shut_leaves new.now (shut_wrote at (length octets) old new behind shut wrote) image leaves, refl));
-  sunk = writes.0.sunk;
-}
-write_shut at octets (Err error) old new behind shut (inl same) = image_same old new ShutImage same (shut_leaves old.now shut)
-write_shut {T = T} at octets (Err error) old new behind shut (inr wrote) = record {
-  moments = each_writes {T = T} at octets (Err error) old new (λ image sunk. ShutImage image × (sunk ≡ old.now.sunk)) (inr wrote)
-      (λ image leaves. (shut_leaves old.now shut image leaves, refl))
-      (λ wrote image leaves. (shut_leaves new.now (shut_wrote at (length octets) old new behind shut wrote) image leaves, refl));
-  sunk = wrote.sunk;
-}
-
-pub none_shut : (old : Trace) → IsShut old.now → EachImage old old ShutImage
-none_shut old shut = image_same old old ShutImage refl (shut_leaves old.now shut)
-
-pub sync_shut : {T E : Type 0} → (result : Result T E) (old new : Trace) → IsShut old.now → Syncs result old new → EachImage old new ShutImage
-sync_shut result old new shut syncs = sync_moments result old new ShutImage syncs (shut_leaves old.now shut) shut.reads
-
 pub first_zero : zeros 1 ≡ CLOSED ∷ []
 unfolding zeros
 first_zero = refl
 
-pub begun_shut : (new : Trace) → IsSynced new.now → new.now.image ≡ zeros 1 → IsShut new.now
-begun_shut new synced begun =
-    let is : new.now.synced ≡ CLOSED ∷ [] = synced.1 ∙ begun ∙ first_zero in
+-- moments of writes behind the first octet
+pub shut_each : (count : ℕ) (old new : Trace) → IsSynced old.now → old.now.image ≡ zeros 1
+    → EachImage old new (KeepsOutside 1 count old.now.synced) → EachImage old new ShutImage
+shut_each count old new synced begun each =
+    let first : get_or old.now.synced 0 0 ≡ CLOSED =
+    ap (λ (octets : List ℕ). get_or octets 0 0) (synced.1 ∙ begun ∙ first_zero) in
+    image_weaker old new (KeepsOutside 1 count old.now.synced) ShutImage (λ image keeps. keeps.outside 0 (inl (omega arith)) ∙ first) each
+
+-- where there is no image, nothing is pending
+pub none_pending : (old : Trace) → old.now.image ≡ [] → Leaves old.now old.now.image → IsPendingIn 0 1 old.now
+none_pending old empty stays =
+    let none : length old.now.image ≡ 0 = ap (λ (octets : List ℕ). length octets) empty in
+    let shorter : length old.now.synced ≤ length old.now.image = stays.no_shorter in
     record {
-      some = subst (λ (octets : List ℕ). 1 ≤ length octets) (sym is) (omega arith);
-      synced = ap (λ (octets : List ℕ). get_or octets 0 0) is;
-      away = subst (λ (ranges : List (ℕ × ℕ)). Outside ranges 0) (sym synced.0) tt;
-      reads = ap (λ (octets : List ℕ). get_or octets 0 0) (begun ∙ first_zero);
+      within = omega arith;
+      away = λ i below away. absurd (omega arith);
+      keeps = record {
+        no_shorter = shorter;
+        no_longer = omega arith;
+        outside = λ i away. get_or-eq_default old.now.image 0 (omega arith) ∙ sym (get_or-eq_default old.now.synced 0 (omega arith));
+      };
     }
+
+pub short_each : (old new : Trace) → old.now.image ≡ [] → Leaves old.now old.now.image
+    → EachImage old new (KeepsOutside 0 1 old.now.synced) → EachImage old new (λ image. length image ≤ 1)
+short_each old new empty stays each =
+    let none : length old.now.image ≡ 0 = ap (λ (octets : List ℕ). length octets) empty in
+    let shorter : length old.now.synced ≤ length old.now.image = stays.no_shorter in
+    image_weaker old new (KeepsOutside 0 1 old.now.synced) (λ image. length image ≤ 1)
+    (λ image keeps. let longer : length image ≤ max (length old.now.synced) (0 + 1) = keeps.no_longer in omega arith) each
+
+pub synced_ok : {T E : Type 0} → (result : Result T E) (old new : Trace) (image : List ℕ) → Syncs result old new → old.now.image ≡ image
+    → OnOk result (IsSynced new.now × (new.now.image ≡ image))
+synced_ok (Ok value) old new image synced is = (synced.is_synced, synced.image ∙ is)
+synced_ok (Err error) old new image same is = tt
+
+-- zeros up to an end
+pub zeros_to : (old new : List ℕ) (end : ℕ) → 1 ≤ end → old ≡ zeros 1 → new ≡ overwritten old 1 (zeros (end - 1)) → new ≡ zeros end
+zeros_to old new end some begun written =
+    let whole : 1 + (end - 1) ≡ end = omega arith in
+    written ∙ ap (λ (image : List ℕ). overwritten image 1 (zeros (end - 1))) begun ∙ more_zeros 1 (end - 1) ∙ ap zeros whole
 
 pub first_written : (old mid : List ℕ) → old ≡ [] → mid ≡ overwritten old 0 (CLOSED ∷ []) → mid ≡ zeros 1
 first_written old mid empty written = written ∙ ap (λ (image : List ℕ). overwritten image 0 (CLOSED ∷ [])) empty ∙ sym first_zero
 
 -- what such an image is refused with
-shut_test : (first : ℕ) → first ≡ CLOSED → not (first == OPEN) ≡ true
-shut_test first shut = rw shut refl
-
 gate_first : (header : List ℕ) (size : ℕ) → get_or header 0 0 ≡ CLOSED → first_failing (header_checks header size) ≡ Some 0
 gate_first header size shut = rw shut refl
 
@@ -212,10 +202,9 @@ bank_join form plan slots generation left text begun sized =
 -- all of the writes
 pub laid_is : (form : HeaderForm) (plan : List ℕ) (slots generation size : ℕ) (text : List ℕ) → IsBegun form
     → size ≡ image_end (layout_of form slots) → length plan ≤ PLAN_ROOM → length text ≡ content_length_of (version_of form)
-    → overwritten (with_front BANKS_AT generation
-    (overwritten (overwritten (zeros size) MAGIC_AT (fields_of form (length plan) slots)) HEADER_LENGTH plan)) (BANKS_AT + CONTENT_AT) text
+    → filled BANKS_AT generation text (with_gate OPEN BANKS_AT
+    (overwritten (overwritten (zeros size) MAGIC_AT (fields_of form (length plan) slots)) HEADER_LENGTH plan))
     ≡ rest_image form CLOSED plan slots text generation First
-unfolding with_front
 laid_is form plan slots generation size text begun sized room long =
     let fields = fields_of form (length plan) slots in
     let number = big_bytes GENERATION_LENGTH generation in
@@ -254,26 +243,12 @@ laid_is form plan slots generation size text begun sized room long =
     e4 ∙ bank_join form plan slots generation (size - end) text begun (omega (arith, whole))
 
 -- the calls, one after the other
-pub two_written : {T E : Type 0} → (result : Result T E) (old mid new : List ℕ) (at next : ℕ) (first named second : List ℕ)
-    → mid ≡ overwritten old at first → first ≡ named → OnOk result (new ≡ overwritten mid next second)
-    → OnOk result (new ≡ overwritten (overwritten old at named) next second)
+pub two_written : {T E : Type 0} → (result : Result T E) (old : List ℕ) (mid new : Trace) (at next : ℕ) (first named second : List ℕ)
+    → mid.now.image ≡ overwritten old at first → first ≡ named → Writes next second result mid new
+    → OnOk result (new.now.image ≡ overwritten (overwritten old at named) next second)
 two_written (Ok value) old mid new at next first named second one name two =
-    two ∙ ap (λ (image : List ℕ). overwritten image next second) (one ∙ ap (λ (octets : List ℕ). overwritten old at octets) name)
+    two.1 ∙ ap (λ (image : List ℕ). overwritten image next second) (one ∙ ap (λ (octets : List ℕ). overwritten old at octets) name)
 two_written (Err error) old mid new at next first named second one name two = tt
-
-pub front_written : {T E : Type 0} → (result : Result T E) (old mid new : List ℕ) (bank generation : ℕ) (number : List ℕ)
-    → mid ≡ overwritten old bank (OPEN ∷ []) → number ≡ big_bytes GENERATION_LENGTH generation
-    → OnOk result (new ≡ overwritten mid (bank + GENERATION_AT) number) → OnOk result (new ≡ with_front bank generation old)
-unfolding with_front
-front_written (Ok value) old mid new bank generation number one is two =
-    two ∙ ap (λ (image : List ℕ). overwritten image (bank + GENERATION_AT) number) one
-    ∙ ap (λ (octets : List ℕ). overwritten (with_gate OPEN bank old) (bank + GENERATION_AT) octets) is
-front_written (Err error) old mid new bank generation number one is two = tt
-
-pub bank_written : {T E : Type 0} → (result : Result T E) (old mid new : List ℕ) (at : ℕ) (text : List ℕ) → mid ≡ old
-    → OnOk result (new ≡ overwritten mid at text) → OnOk result (new ≡ overwritten old at text)
-bank_written (Ok value) old mid new at text one two = two ∙ ap (λ (image : List ℕ). overwritten image at text) one
-bank_written (Err error) old mid new at text one two = tt
 
 pub wrote_size : (old new octets : List ℕ) (at : ℕ) → new ≡ overwritten old at octets → at + length octets ≤ length old
     → length new ≡ length old
@@ -283,11 +258,11 @@ pub laid_ok : {T E : Type 0} → (result : Result T E) (old new : Trace) (form :
     (text zeroed headed : List ℕ) → IsBegun form → size ≡ image_end (layout_of form slots) → length plan ≤ PLAN_ROOM
     → length text ≡ content_length_of (version_of form) → zeroed ≡ zeros size
     → headed ≡ overwritten (overwritten zeroed MAGIC_AT (fields_of form (length plan) slots)) HEADER_LENGTH plan
-    → old.now.image ≡ overwritten (with_front BANKS_AT FIRST_GENERATION headed) (BANKS_AT + CONTENT_AT) text
+    → old.now.image ≡ filled BANKS_AT FIRST_GENERATION text (with_gate OPEN BANKS_AT headed)
     → Syncs result old new → OnOk result (IsSynced new.now × (new.now.image ≡ laid_image form plan slots text))
 laid_ok result old new form plan slots size text zeroed headed begun sized room long empty head bank syncs =
     synced_ok result old new (laid_image form plan slots text) syncs
-    (bank ∙ ap (λ (image : List ℕ). overwritten (with_front BANKS_AT FIRST_GENERATION image) (BANKS_AT + CONTENT_AT) text)
+    (bank ∙ ap (λ (image : List ℕ). filled BANKS_AT FIRST_GENERATION text (with_gate OPEN BANKS_AT image))
     (head ∙ ap (λ (image : List ℕ). overwritten (overwritten image MAGIC_AT (fields_of form (length plan) slots)) HEADER_LENGTH plan) empty)
     ∙ laid_is form plan slots FIRST_GENERATION size text begun sized room long)
 
@@ -352,15 +327,6 @@ created_ok (Err error) form plan slots text mid new laid stored = tt
 pub gate_within : (form : HeaderForm) (plan : List ℕ) (slots : ℕ) (text image : List ℕ) → image ≡ laid_image form plan slots text → 0 + 1 ≤ length image
 gate_within form plan slots text image laid = subst (λ (octets : List ℕ). 1 ≤ length octets) (sym laid) (laid_length form plan slots text)
 
-rest_block : zeros 511 ≡ replicate 511 0
-unfolding zeros
-rest_block = refl
-
-pub first_block : (old mid : List ℕ) → old ≡ zeros 1 → mid ≡ overwritten old 1 (replicate 511 0) → mid ≡ zeros SLOT_LENGTH
-first_block old mid begun written =
-    written ∙ ap (λ (image : List ℕ). overwritten image 1 (replicate 511 0)) begun
-    ∙ ap (λ (octets : List ℕ). overwritten (zeros 1) 1 octets) (sym rest_block) ∙ more_zeros 1 511
-
 pub headed_size : (form : HeaderForm) (zeroed headed plan : List ℕ) (slots size : ℕ) → zeroed ≡ zeros size → BANKS_AT ≤ size → length plan ≤ PLAN_ROOM
     → headed ≡ overwritten (overwritten zeroed MAGIC_AT (fields_of form (length plan) slots)) HEADER_LENGTH plan → length headed ≡ size
 headed_size form zeroed headed plan slots size empty far room written =
@@ -370,19 +336,13 @@ headed_size form zeroed headed plan slots size empty far room written =
     let first : length (overwritten zeroed MAGIC_AT fields) ≡ length zeroed = overwritten_length zeroed MAGIC_AT fields (omega arith) in
     wrote_size (overwritten zeroed MAGIC_AT fields) headed plan HEADER_LENGTH written (omega arith) ∙ first ∙ long
 
-pub blocks_size : (form : HeaderForm) (slots blocks : ℕ) (layout : Layout) → IsBegun form → SLOT_LENGTH * blocks ≡ bank_length layout
-    → layout ≡ layout_of form slots → SLOT_LENGTH * (129 + 2 * blocks) ≡ image_end (layout_of form slots)
-blocks_size form slots blocks layout begun sized is =
-    let at = first_banks form slots begun in
-    let same : bank_length layout ≡ bank_length (layout_of form slots) = ap (λ (one : Layout). bank_length one) is in
-    omega (arith, at, same, sized)
+pub end_size : (form : HeaderForm) (slots end : ℕ) (layout : Layout) → end ≡ image_end layout → layout ≡ layout_of form slots
+    → end ≡ image_end (layout_of form slots)
+end_size form slots end layout ends is = ends ∙ ap image_end is
 
-pub front_size : (old new : List ℕ) (bank generation : ℕ) → new ≡ with_front bank generation old → bank + CONTENT_AT ≤ length old
-    → length new ≡ length old
-unfolding with_front
-front_size old new bank generation written within =
-    let gated = with_gate OPEN bank old in
-    let first : length gated ≡ length old = overwritten_length old bank (OPEN ∷ []) (omega arith) in
-    let number = big_bytes GENERATION_LENGTH generation in
-    let eight : length number ≡ 8 = refl in
-    wrote_size gated new number (bank + GENERATION_AT) written (omega arith) ∙ first
+-- the head of the first bank lies within the zeros
+pub head_within : (form : HeaderForm) (slots end count : ℕ) → IsBegun form → end ≡ image_end (layout_of form slots)
+    → count ≡ content_length_of (version_of form) → BANKS_AT + CONTENT_AT + count ≤ end
+head_within form slots end count begun ends sized =
+    let at : banks_of form slots ≡ BANKS_AT = first_banks form slots begun in
+    omega (arith, at, ends, sized)

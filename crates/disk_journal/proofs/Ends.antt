@@ -3,9 +3,8 @@ use Rattle.std.proofs.Common.{◌≡◌, ℕ, ◌+◌, ◌-◌, ◌<◌, ◌≤�
 use Rattle.disk_journal.proofs.Keeping.{beside_of, beside_then, fresh_generation}
 use Rattle.disk_journal.proofs.Stands.{IsStill, Stands, opens_stands, stands_at, stands_current, stands_opens, stands_records, twice_other}
 use Rattle.disk_journal.proofs.Turns.{IsNew, Opened, Starts, Turns, after, bank_within, before, first_step, fourth_step, gate_inside, gate_torn, is_filled, later_fits, new_holds, new_rests, new_stands, rest_new, second_step, third_step, with_other_gate}
-use Rattle.disk_journal.proofs.Zeros.{cleared}
 use Rattle.disk_journal.specs.Banks.{bank_at, bank_length, slot_gate, bank_generation, head_length, next, other, slot_at}
-use Rattle.disk_journal.specs.Changes.{IsCleared, IsZero, KeepsBeside, Steps, filled, with_gate}
+use Rattle.disk_journal.specs.Changes.{IsErased, IsZero, KeepsBeside, Steps, filled, with_gate}
 use Rattle.disk_journal.specs.Forms.{Becomes, Holds}
 use Rattle.disk_journal.specs.Image.{current, current_at, first_closed, held, image_layout, other_at, plan_of, records, turned}
 use Rattle.disk_journal.specs.Journal.{IsSettled, IsSettledImage, JournalView}
@@ -117,10 +116,11 @@ pub record Ended (old : List ℕ) (layout : Layout) (generation : ℕ) (bank : B
   pub beside : KeepsBeside layout old image
   pub rest : IsRest image (other bank) generation text
 
-pub zero_all : (from size : ℕ) (image : List ℕ) → get_or image from 0 ≡ CLOSED → IsZero (from + 1) (from + size) image → IsZero from (from + size) image
-zero_all from size image first rest i low high = elim (cases_eq i from) [
+pub zero_all : (from size : ℕ) (image : List ℕ) → 1 ≤ size → get_or image from 0 ≡ CLOSED
+    → IsZero (from + 1) (from + 1 + (size - 1)) image → IsZero from (from + size) image
+zero_all from size image some first rest i low high = elim (cases_eq i from) [
   | inl same ↦ ap (λ (k : ℕ). get_or image k 0) same ∙ first
-  | inr other ↦ rest i (omega arith) high
+  | inr other ↦ rest i (omega arith) (omega arith)
 ]
 
 ended_beside : (old : List ℕ) (layout : Layout) (generation : ℕ) (bank : Bank) (bodies : List (List ℕ)) (text image : List ℕ)
@@ -142,7 +142,7 @@ ended_beside old layout generation bank bodies text image turns change =
 
 pub ended : (old : List ℕ) (layout : Layout) (generation : ℕ) (bank : Bank) (bodies : List (List ℕ)) (text image : List ℕ)
     → Turns old layout generation bank bodies text
-    → IsCleared (bank_at layout bank) (bank_length layout)
+    → IsErased (bank_at layout bank + 1) (bank_length layout - 1)
     (with_gate CLOSED (bank_at layout bank) (with_gate OPEN (bank_at layout (other bank)) (filled (bank_at layout (other bank)) generation text old))) image
     → Ended old layout generation bank text image
 ended old layout generation bank bodies text image turns cleared =
@@ -156,7 +156,7 @@ ended old layout generation bank bodies text image turns cleared =
     let count : image_layout image ≡ layout = image_new.front.same_layout in
     let is_current : current image ≡ other bank = stands_current image layout (other bank) [] stands in
     let none : records image ≡ [] = stands_records image layout (other bank) [] stands in
-    let empty : IsZero from (from + bank_length layout) image = zero_all from (bank_length layout) image shut cleared.zero in
+    let empty : IsZero from (from + bank_length layout) image = zero_all from (bank_length layout) image (omega arith) shut cleared.zero in
     let spare : IsZero (bank_at layout (other (other bank))) (bank_at layout (other (other bank)) + bank_length layout) image =
     subst (λ (back : Bank). IsZero (bank_at layout back) (bank_at layout back + bank_length layout) image) (sym (twice_other bank)) empty in
     let beside : KeepsBeside layout old image = ended_beside old layout generation bank bodies text image turns cleared.change in
@@ -256,23 +256,23 @@ turn_moments old new journal text from to generation bank written sized each =
 
 pub turn_ended : (old new : Trace) (journal : JournalView) (text : List ℕ) (from to generation : ℕ) (bank : Bank)
     → Written old.now.image journal from to generation bank → length text ≡ journal.layout.content_length
-    → IsCleared from (bank_length journal.layout) (with_gate CLOSED from (with_gate OPEN to (filled to generation text old.now.image))) new.now.image
+    → IsErased (from + 1) (bank_length journal.layout - 1) (with_gate CLOSED from (with_gate OPEN to (filled to generation text old.now.image))) new.now.image
     → Ended old.now.image (image_layout old.now.image) generation (current old.now.image) text new.now.image
 turn_ended old new journal text from to generation bank written sized cleared =
     let image = old.now.image in
     let at = placed image journal from to generation bank written in
     ended image (image_layout image) generation (current image) (records image) text new.now.image
     (turns_of image text journal generation written.of_image (sized_there image journal text written.of_image sized) written.later)
-    (subst (λ (n : Layout). IsCleared (current_at image) (bank_length n)
+    (subst (λ (n : Layout). IsErased (current_at image + 1) (bank_length n - 1)
     (with_gate CLOSED (current_at image) (with_gate OPEN (other_at image) (filled (other_at image) generation text image))) new.now.image) at.same_layout
-    (subst (λ (n : ℕ). IsCleared (current_at image) (bank_length journal.layout)
+    (subst (λ (n : ℕ). IsErased (current_at image + 1) (bank_length journal.layout - 1)
     (with_gate CLOSED (current_at image) (with_gate OPEN n (filled n generation text image))) new.now.image) at.to_same
-    (subst (λ (n : ℕ). IsCleared n (bank_length journal.layout)
+    (subst (λ (n : ℕ). IsErased (n + 1) (bank_length journal.layout - 1)
     (with_gate CLOSED n (with_gate OPEN to (filled to generation text image))) new.now.image) at.from_same cleared)))
 
 pub turn_stored : (old new : Trace) (journal : JournalView) (text : List ℕ) (from to generation : ℕ) (bank : Bank)
     → Written old.now.image journal from to generation bank → length text ≡ journal.layout.content_length
-    → IsSynced new.now × IsCleared from (bank_length journal.layout) (with_gate CLOSED from (with_gate OPEN to (filled to generation text old.now.image))) new.now.image
+    → IsSynced new.now × IsErased (from + 1) (bank_length journal.layout - 1) (with_gate CLOSED from (with_gate OPEN to (filled to generation text old.now.image))) new.now.image
     → IsSettled new (fresh_view journal.plan_length journal.layout bank generation) × (held new.now.image ≡ turned text (held old.now.image))
 turn_stored old new journal text from to generation bank written sized stored =
     let at = placed old.now.image journal from to generation bank written in
@@ -288,7 +288,7 @@ turn_stored old new journal text from to generation bank written sized stored =
 
 pub turn_rest : (old new : Trace) (journal : JournalView) (text : List ℕ) (from to generation : ℕ) (bank : Bank)
     → Written old.now.image journal from to generation bank → length text ≡ journal.layout.content_length
-    → IsSynced new.now × IsCleared from (bank_length journal.layout) (with_gate CLOSED from (with_gate OPEN to (filled to generation text old.now.image))) new.now.image
+    → IsSynced new.now × IsErased (from + 1) (bank_length journal.layout - 1) (with_gate CLOSED from (with_gate OPEN to (filled to generation text old.now.image))) new.now.image
     → (image : List ℕ) → Leaves new.now image → IsRest image bank generation text
 turn_rest old new journal text from to generation bank written sized stored image leaves =
     let at = placed old.now.image journal from to generation bank written in
@@ -298,7 +298,7 @@ turn_rest old new journal text from to generation bank written sized stored imag
 
 pub turn_beside : (old new : Trace) (journal : JournalView) (text : List ℕ) (from to generation : ℕ) (bank : Bank)
     → Written old.now.image journal from to generation bank → length text ≡ journal.layout.content_length
-    → IsSynced new.now × IsCleared from (bank_length journal.layout) (with_gate CLOSED from (with_gate OPEN to (filled to generation text old.now.image))) new.now.image
+    → IsSynced new.now × IsErased (from + 1) (bank_length journal.layout - 1) (with_gate CLOSED from (with_gate OPEN to (filled to generation text old.now.image))) new.now.image
     → KeepsBeside journal.layout old.now.image new.now.image
 turn_beside old new journal text from to generation bank written sized stored =
     let at = placed old.now.image journal from to generation bank written in

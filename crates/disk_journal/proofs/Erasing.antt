@@ -1,28 +1,33 @@
--- Octets that are zeroed, gate and all.
-use Rattle.std.proofs.Common.{ℕ, ◌+◌, sym, subst, inl, refl, Result, Ok, Err}
-use Rattle.disk_journal.specs.Changes.{GatedForm, IsErased, IsZero, Row}
-use Rattle.disk_journal.specs.declared.layout.HeaderForm.{HeaderForm}
-use Rattle.disk_journal.proofs.Moments.{image_same, synced_holds}
-use Rattle.disk_journal.specs.Moments.{AllBut, EachImage}
+-- Octets that are zeroed and brought to the disk.
+use Rattle.std.proofs.Common.{◌≡◌, ℕ, ◌+◌, ◌≤◌, ◌∙◌, List, length, sym, subst, arith, Result, Ok, Err}
+use Rattle.std.specs.Result.{OnOk}
 use Rattle.sdls_outside.specs.Disk.{IsSynced}
 use Rattle.sdls_outside.specs.Moments.{Trace}
-use Rattle.sdls_outside.specs.Site.{Syncs}
-use Rattle.std.specs.Result.{OnOk}
+use Rattle.sdls_outside.specs.Site.{Syncs, overwritten}
+use Rattle.disk_journal.specs.Changes.{IsErased}
+use Rattle.disk_journal.specs.Moments.{AllBut}
+use Rattle.disk_journal.specs.Zeros.{zeros}
+use Rattle.disk_journal.proofs.Overwriting.{zeroed}
+use Rattle.disk_journal.proofs.Ranges.{overwritten_but}
+use Rattle.disk_journal.proofs.ZeroLists.{length_zeros}
 
--- the sync behind the zeros
-pub erased : {E : Type 0} → (result : Result (Unit {0}) E) (at size : ℕ) (old mid new : Trace) → Row at size old.now.image old mid
-    → IsZero at (at + size) mid.now.image → Syncs result mid new
-    → OnOk result (IsSynced new.now × IsErased at size old.now.image new.now.image)
-erased (Ok value) at size old mid new row empty synced = (
-  synced.is_synced,
-  record {
-    change = subst (AllBut at size old.now.image) (sym synced.image) row.pending.change;
-    zero = subst (IsZero at (at + size)) (sym synced.image) empty;
-  },
-)
-erased (Err error) at size old mid new row empty synced = tt
+zeros_but : (image new : List ℕ) (at count : ℕ) → at + count ≤ length image → new ≡ overwritten image at (zeros count)
+    → AllBut at count image new
+zeros_but image new at count within written =
+    let size : length (zeros count) ≡ count = length_zeros count in
+    subst (AllBut at count image) (sym written)
+    (subst (λ (n : ℕ). AllBut at n image (overwritten image at (zeros count))) size
+    (overwritten_but image at (zeros count) (omega arith)))
 
--- an image that is not of version 1
-pub form_here : (form : HeaderForm) (old : Trace) → IsSynced old.now → EachImage old old (GatedForm form old.now.image)
-form_here form old synced = image_same old old (GatedForm form old.now.image) refl
-    (synced_holds old.now (GatedForm form old.now.image) synced (inl refl))
+pub erased : {E : Type 0} → (result : Result (Unit {0}) E) (at count : ℕ) (old mid new : Trace)
+    → at + count ≤ length old.now.image → mid.now.image ≡ overwritten old.now.image at (zeros count) → Syncs result mid new
+    → OnOk result (IsSynced new.now × IsErased at count old.now.image new.now.image)
+erased (Ok value) at count old mid new within written synced =
+    let filled : new.now.image ≡ overwritten old.now.image at (zeros count) = synced.image ∙ written in (
+      synced.is_synced,
+      record {
+        change = zeros_but old.now.image new.now.image at count within filled;
+        zero = (zeroed old.now.image new.now.image at count (omega arith) filled).zero;
+      },
+    )
+erased (Err error) at count old mid new within written synced = tt

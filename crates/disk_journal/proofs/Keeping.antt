@@ -139,14 +139,6 @@ bank_kept at count bank layout old new change apart = record {
       (elim apart [ inl before ↦ inl (omega arith) | inr after ↦ inr (omega arith) ]);
 }
 
-pub bank_then : (bank : ℕ) (layout : Layout) (old mid new : List ℕ) → SameBank bank layout old mid → SameBank bank layout mid new → SameBank bank layout old new
-bank_then bank layout old mid new first second = record {
-  generation = second.generation ∙ first.generation;
-  content = second.content ∙ first.content;
-  gates = λ k below. second.gates k below ∙ first.gates k below;
-  bodies = λ k below. second.bodies k below ∙ first.bodies k below;
-}
-
 -- a bank that stays current
 pub stands_same : (old new : List ℕ) (layout : Layout) (bank : Bank) (bodies : List (List ℕ)) → Stands old layout bank bodies → HasFront new layout
     → SameBank (bank_at layout bank) layout old new → get_or new (bank_at layout bank) 0 ≡ OPEN

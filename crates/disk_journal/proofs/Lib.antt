@@ -4,13 +4,13 @@ pub mod Gating
 pub mod Failing
 pub mod SlotWrites
 pub mod ZeroLists
-pub mod Lengths
 pub mod Calls
-pub mod Pending
+pub mod Writing
+pub mod Overwriting
+pub mod Heads
 pub mod Zeros
-pub mod Joined
 pub mod Erasing
-pub mod Behind
+pub mod Joined
 pub mod Laying
 pub mod Chosen
 pub mod GateChecks

@@ -1,5 +1,5 @@
 -- The stages of bringing an image to rest: the octet that migrates it, its banks, and the old banks of a migrated one.
-use Rattle.std.proofs.Common.{◌≡◌, ◌≢◌, ℕ, ◌+◌, ◌*◌, ◌<◌, ◌≤◌, ◌⊎◌, ◌∙◌, List, length, get_or, refl, sym, ap, subst, inl, inr, arith, Result, Ok, Err}
+use Rattle.std.proofs.Common.{◌≡◌, ◌≢◌, ℕ, ◌+◌, ◌-◌, ◌<◌, ◌≤◌, ◌⊎◌, ◌∙◌, List, length, get_or, refl, sym, ap, subst, inl, inr, arith, Result, Ok, Err}
 use Rattle.disk_journal.proofs.Keeping.{SameBank, bank_kept, front_bounds, front_kept, low_bank, plan_kept}
 use Rattle.disk_journal.proofs.Moving.{KeepsBanks, moved_bank, moved_plan, moved_stands}
 use Rattle.disk_journal.proofs.Rests.{regates_one}
@@ -14,7 +14,7 @@ use Rattle.disk_journal.specs.Journal.{IsClosed, IsJournalOf, IsOpen, IsSettled,
 use Rattle.disk_journal.specs.declared.layout.Bank.{Bank}
 use Rattle.disk_journal.specs.declared.layout.HeaderForm.TheVariants.{Old}
 use Rattle.disk_journal.specs.declared.layout.Layout.{Layout}
-use Rattle.disk_journal.specs.declared.layout.TheConstants.{BANKS_AT, MIGRATED_AT, CLOSED, HEADER_LENGTH, OPEN, PLAN_ROOM, SLOT_LENGTH}
+use Rattle.disk_journal.specs.declared.layout.TheConstants.{BANKS_AT, MIGRATED_AT, CLOSED, HEADER_LENGTH, OPEN, PLAN_ROOM}
 use Rattle.disk_journal.proofs.Gating.{records_stay}
 use Rattle.disk_journal.proofs.Moments.{image_then, image_weaker}
 use Rattle.disk_journal.specs.Moments.{AllBut, EachImage}
@@ -163,9 +163,6 @@ erased old new at count none rests change low high =
       banks = here;
     }
 
-pub erased_settles : (old new : List ℕ) → Erased old new → Settles old new
-erased_settles old new done = inr (rest_becomes (held old) (held old) new (inl done.holds) done.rests)
-
 -- the moments of all three
 pub record Stages (old mid closed : Trace) (journal : JournalView) : Type 0 where
   pub opened : IsOpen old journal
@@ -199,41 +196,41 @@ second_moments old mid new journal opened first shut each next =
     (λ image settles. settles_then old.now.image mid.now.image image (form_gated old.now.image mid.now.image journal opened.of_image first)
     still.same still.gates settles) next)
 
-erased_of : (old mid closed : Trace) (image : List ℕ) (journal : JournalView) (blocks : ℕ) → Stages old mid closed journal
-    → BANKS_AT + SLOT_LENGTH * blocks ≡ journal.layout.banks → AllBut BANKS_AT (SLOT_LENGTH * blocks) closed.now.image image
+erased_of : (old mid closed : Trace) (image : List ℕ) (journal : JournalView) (size : ℕ) → Stages old mid closed journal
+    → BANKS_AT + size ≡ journal.layout.banks → AllBut BANKS_AT (size) closed.now.image image
     → Erased closed.now.image image
-erased_of old mid closed image journal blocks stages sized change =
+erased_of old mid closed image journal size stages sized change =
     let of_image = stages.is_closed.of_image in
     let banks : journal.layout.banks ≡ (image_layout closed.now.image).banks = ap (λ (one : Layout). one.banks) of_image.layout in
-    erased closed.now.image image BANKS_AT (SLOT_LENGTH * blocks) of_image.opens stages.is_closed.rests change (omega arith) (omega (arith, sized, banks))
+    erased closed.now.image image BANKS_AT (size) of_image.opens stages.is_closed.rests change (omega arith) (omega (arith, sized, banks))
 
-pub third_moments : (old mid closed new : Trace) (journal : JournalView) (blocks : ℕ) → Stages old mid closed journal
-    → BANKS_AT + SLOT_LENGTH * blocks ≡ journal.layout.banks
-    → EachImage old closed (Settles old.now.image) → EachImage closed new (AllBut BANKS_AT (SLOT_LENGTH * blocks) closed.now.image)
+pub third_moments : (old mid closed new : Trace) (journal : JournalView) (size : ℕ) → Stages old mid closed journal
+    → BANKS_AT + size ≡ journal.layout.banks
+    → EachImage old closed (Settles old.now.image) → EachImage closed new (AllBut BANKS_AT (size) closed.now.image)
     → EachImage old new (Settles old.now.image)
-third_moments old mid closed new journal blocks stages sized each next =
+third_moments old mid closed new journal size stages sized each next =
     let still = stilled old.now.image mid.now.image journal stages.opened.of_image stages.first stages.shut in
     let same : held closed.now.image ≡ held old.now.image = stages.same ∙ still.same in
     image_then old closed new (Settles old.now.image) each
-    (image_weaker closed new (AllBut BANKS_AT (SLOT_LENGTH * blocks) closed.now.image) (Settles old.now.image)
+    (image_weaker closed new (AllBut BANKS_AT (size) closed.now.image) (Settles old.now.image)
     (λ image change.
-    let done = erased_of old mid closed image journal blocks stages sized change in
+    let done = erased_of old mid closed image journal size stages sized change in
     inr (rest_becomes (held old.now.image) (held old.now.image) image
     (inl (record { opens = done.holds.opens; is = done.holds.is ∙ same })) done.rests)) next)
 
 -- the end
-pub rested_end : {E : Type 0} → (result : Result (Unit {0}) E) (old mid closed new : Trace) (journal : JournalView) (blocks : ℕ)
-    → Stages old mid closed journal → BANKS_AT + SLOT_LENGTH * blocks ≡ journal.layout.banks
-    → OnOk result (IsSynced new.now × IsErased BANKS_AT (SLOT_LENGTH * blocks) closed.now.image new.now.image)
+pub rested_end : {E : Type 0} → (result : Result (Unit {0}) E) (old mid closed new : Trace) (journal : JournalView) (size : ℕ)
+    → Stages old mid closed journal → BANKS_AT + size ≡ journal.layout.banks
+    → OnOk result (IsSynced new.now × IsErased BANKS_AT (size) closed.now.image new.now.image)
     → OnOk result (IsSettled new journal × (held new.now.image ≡ held old.now.image))
-rested_end (Err error) old mid closed new journal blocks stages sized made = tt
-rested_end (Ok value) old mid closed new journal blocks stages sized made =
+rested_end (Err error) old mid closed new journal size stages sized made = tt
+rested_end (Ok value) old mid closed new journal size stages sized made =
     let image = closed.now.image in
     let after = new.now.image in
     let of_image = stages.is_closed.of_image in
     let still = stilled old.now.image mid.now.image journal stages.opened.of_image stages.first stages.shut in
     let change = made.1.change in
-    let done = erased_of old mid closed after journal blocks stages sized change in
+    let done = erased_of old mid closed after journal size stages sized change in
     let count : image_layout after ≡ image_layout image = done.stands.front.same_layout in
     let one : current after ≡ current image = stands_current after (image_layout image) (current image) (records image) done.stands in
     let same : records after ≡ records image = stands_records after (image_layout image) (current image) (records image) done.stands in
@@ -265,12 +262,12 @@ rested_end (Ok value) old mid closed new journal blocks stages sized made =
     )
 
 -- what stands beside all banks
-pub rested_beside : {E : Type 0} → (result : Result (Unit {0}) E) (old mid closed new : Trace) (journal : JournalView) (blocks : ℕ)
-    → Stages old mid closed journal → BANKS_AT + SLOT_LENGTH * blocks ≡ journal.layout.banks
-    → OnOk result (IsSynced new.now × IsErased BANKS_AT (SLOT_LENGTH * blocks) closed.now.image new.now.image)
+pub rested_beside : {E : Type 0} → (result : Result (Unit {0}) E) (old mid closed new : Trace) (journal : JournalView) (size : ℕ)
+    → Stages old mid closed journal → BANKS_AT + size ≡ journal.layout.banks
+    → OnOk result (IsSynced new.now × IsErased BANKS_AT (size) closed.now.image new.now.image)
     → OnOk result (KeepsPlan journal.layout old.now.image new.now.image)
-rested_beside (Err error) old mid closed new journal blocks stages sized made = tt
-rested_beside (Ok value) old mid closed new journal blocks stages sized made =
+rested_beside (Err error) old mid closed new journal size stages sized made = tt
+rested_beside (Ok value) old mid closed new journal size stages sized made =
     let still = stilled old.now.image mid.now.image journal stages.opened.of_image stages.first stages.shut in
     let far : HEADER_LENGTH + PLAN_ROOM ≤ journal.layout.banks = omega arith in
     record {
@@ -287,10 +284,13 @@ rested_beside (Ok value) old mid closed new journal blocks stages sized made =
       ];
     }
 
+pub old_size : (banks : ℕ) → BANKS_AT ≤ banks → BANKS_AT + (banks - BANKS_AT) ≡ banks
+old_size banks far = omega arith
+
 -- the old banks lie within the image
-pub old_within : (closed : Trace) (journal : JournalView) (blocks : ℕ) → IsClosed closed.now.image journal
-    → BANKS_AT + SLOT_LENGTH * blocks ≡ journal.layout.banks → BANKS_AT + SLOT_LENGTH * blocks ≤ length closed.now.image
-old_within closed journal blocks is_closed sized =
+pub old_within : (closed : Trace) (journal : JournalView) (size : ℕ) → IsClosed closed.now.image journal
+    → BANKS_AT + size ≡ journal.layout.banks → BANKS_AT + size ≤ length closed.now.image
+old_within closed journal size is_closed sized =
     let image = closed.now.image in
     let long : image_end (image_layout image) ≤ length image = front_bounds image (image_layout image) (opens_stands image is_closed.of_image.opens).front in
     let banks : journal.layout.banks ≡ (image_layout image).banks = ap (λ (one : Layout). one.banks) is_closed.of_image.layout in

@@ -1,10 +1,11 @@
 -- An image that is brought to rest.
-use Rattle.std.proofs.Common.{◌≡◌, ◌≢◌, ℕ, ◌+◌, ◌-◌, ◌<◌, ◌≤◌, ◌⊎◌, ◌∙◌, List, length, get_or, refl, sym, ap, subst, inl, inr, arith}
+use Rattle.std.proofs.Common.{◌≡◌, ◌≢◌, ℕ, ◌+◌, ◌<◌, ◌≤◌, ◌⊎◌, ◌∙◌, List, length, get_or, refl, sym, ap, subst, inl, inr, arith}
 use Rattle.disk_journal.proofs.Keeping.{SameBank, bank_kept, front_kept, plan_kept}
 use Rattle.disk_journal.proofs.Stands.{HasFront, IsStill, Stands, apart, behind, gate_in, held_by, holds_of}
 use Rattle.disk_journal.proofs.Turns.{after, before, rest_becomes}
 use Rattle.disk_journal.specs.Banks.{bank_at, bank_length, slot_body, bank_content, slot_gate, bank_generation, head_length, other, slot_at}
-use Rattle.disk_journal.specs.Changes.{Gated, GatedSlot, IsCleared, IsZero}
+use Rattle.disk_journal.specs.declared.layout.HeaderForm.{HeaderForm}
+use Rattle.disk_journal.specs.Changes.{Gated, GatedForm, GatedSlot}
 use Rattle.disk_journal.specs.Forms.{Holds, Regates, Settles}
 use Rattle.disk_journal.specs.Image.{IsAtRest, IsClosedGate, current, held, image_layout, plan_of, records}
 use Rattle.disk_journal.specs.declared.layout.Bank.{Bank}
@@ -13,7 +14,7 @@ use Rattle.disk_journal.specs.declared.layout.TheConstants.{CONTENT_AT, CLOSED, 
 use Rattle.byteorder.specs.Endian.{big_number}
 use Rattle.disk_journal.proofs.Gating.{records_stay}
 use Rattle.disk_journal.proofs.Moments.{image_same, synced_holds}
-use Rattle.disk_journal.proofs.Ranges.{all_but_same, same_stretch}
+use Rattle.disk_journal.proofs.Ranges.{same_stretch}
 use Rattle.disk_journal.specs.Moments.{AllBut, EachImage}
 use Rattle.disk_journal.specs.Slots.{gated}
 use Rattle.sdls_base.specs.declared.TheConstants.{BODY_LENGTH}
@@ -173,15 +174,10 @@ regates_two old mid new at first same closed gated =
       others = λ i away. second i away ∙ first.others i away;
     }
 
--- a bank that is zero already
-pub all_zero : (bank size : ℕ) (old : List ℕ) → IsZero bank (bank + size) old → IsCleared bank size old old
-all_zero bank size old empty = record {
-  change = all_but_same (bank + 1) (size - 1) old;
-  zero = λ i low high. empty i (omega arith) high;
-}
-
-pub gated_all : (at : ℕ) (old new : List ℕ) → get_or old at 0 ≢ CLOSED → AllBut at 1 old new → Gated at old new
-gated_all at old new torn change = inr (torn, change)
+-- an image that is not of version 1
+pub form_here : (form : HeaderForm) (old : Trace) → IsSynced old.now → EachImage old old (GatedForm form old.now.image)
+form_here form old synced = image_same old old (GatedForm form old.now.image) refl
+    (synced_holds old.now (GatedForm form old.now.image) synced (inl refl))
 
 pub gated_here : (at : ℕ) (old new : Trace) → IsSynced old.now → new ≡ old → EachImage old new (Gated at old.now.image)
 gated_here at old new synced same = image_same old new (Gated at old.now.image) same (synced_holds old.now (Gated at old.now.image) synced (inl refl))

@@ -1,13 +1,12 @@
 -- The call that brings an image to rest.
-use Rattle.std.proofs.Common.{◌≡◌, ℕ, ◌+◌, ◌-◌, ◌*◌, ◌<◌, ◌≤◌, ◌⊎◌, ◌∙◌, List, length, get_or, refl, sym, ap, subst, inl, inr, arith, Result, Ok, Err}
+use Rattle.std.proofs.Common.{◌≡◌, ℕ, ◌+◌, ◌-◌, ◌<◌, ◌≤◌, ◌⊎◌, ◌∙◌, List, length, get_or, refl, sym, ap, subst, inl, inr, arith, Result, Ok, Err}
 use Rattle.disk_journal.proofs.Ends.{zero_all}
 use Rattle.disk_journal.proofs.Keeping.{beside_of, beside_same, beside_then}
 use Rattle.disk_journal.proofs.Rests.{Keeps, Rested, keeps_other, keeps_same, keeps_slot, regates_one, regates_two, rested, rested_settles}
 use Rattle.disk_journal.proofs.Stands.{IsStill, apart, behind, opens_stands, stands_at, stands_current, stands_records, still_kept}
 use Rattle.disk_journal.proofs.Turns.{after, bank_within, before}
-use Rattle.disk_journal.proofs.Zeros.{cleared}
 use Rattle.disk_journal.specs.Banks.{bank_at, bank_length, bank_generation, next, other, slot_at}
-use Rattle.disk_journal.specs.Changes.{Gated, GatedSlot, IsCleared, IsZero, KeepsBeside}
+use Rattle.disk_journal.specs.Changes.{Gated, GatedSlot, IsErased, IsZero, KeepsBeside}
 use Rattle.disk_journal.specs.Forms.{Regates, Settles}
 use Rattle.disk_journal.specs.Image.{Held, current, current_at, first_closed, held, image_layout, other_at, records, slot_count}
 use Rattle.disk_journal.specs.Journal.{IsClosed, IsJournalOf, JournalView}
@@ -16,7 +15,7 @@ use Rattle.disk_journal.specs.declared.layout.Layout.{Layout}
 use Rattle.disk_journal.proofs.Moments.{image_then, image_weaker}
 use Rattle.disk_journal.specs.Moments.{AllBut, EachImage}
 use Rattle.disk_journal.specs.Slots.{gated}
-use Rattle.disk_journal.specs.declared.layout.TheConstants.{CLOSED, HEADER_LENGTH, PLAN_ROOM, SLOT_LENGTH}
+use Rattle.disk_journal.specs.declared.layout.TheConstants.{CLOSED, HEADER_LENGTH, PLAN_ROOM}
 use Rattle.sdls_outside.specs.Disk.{IsSynced}
 use Rattle.sdls_outside.specs.Moments.{Trace}
 use Rattle.std.specs.Result.{OnOk}
@@ -190,7 +189,7 @@ third_part old mid closed new journal slot spare closing each next =
 -- the end
 pub settled_end : {E : Type 0} → (result : Result (Unit {0}) E) (old mid closed new : Trace) (journal : JournalView) (slot spare : ℕ)
     → Closing old.now.image mid.now.image closed.now.image journal slot spare
-    → OnOk result (IsSynced new.now × IsCleared spare (bank_length journal.layout) closed.now.image new.now.image)
+    → OnOk result (IsSynced new.now × IsErased (spare + 1) (bank_length journal.layout - 1) closed.now.image new.now.image)
     → OnOk result (IsSynced new.now × IsClosed new.now.image journal × (held new.now.image ≡ held old.now.image))
 settled_end (Err error) old mid closed new journal slot spare closing cleared = tt
 settled_end (Ok value) old mid closed new journal slot spare closing cleared =
@@ -204,7 +203,7 @@ settled_end (Ok value) old mid closed new journal slot spare closing cleared =
     let one : current after ≡ current image = stands_current after (image_layout image) (current image) (records image) done.stands in
     let same : records after ≡ records image = stands_records after (image_layout image) (current image) (records image) done.stands in
     let shut : get_or after spare 0 ≡ CLOSED = change.outside spare (inl (omega arith)) ∙ closing.spare_shut in
-    let empty : IsZero spare (spare + bank_length journal.layout) after = zero_all spare (bank_length journal.layout) after shut cleared.1.zero in
+    let empty : IsZero spare (spare + bank_length journal.layout) after = zero_all spare (bank_length journal.layout) after (omega arith) shut cleared.1.zero in
     let place : spare ≡ other_at image = spare_place image journal slot spare closing.sites in (
       cleared.0,
       record {
@@ -235,7 +234,7 @@ slot_beside old mid journal slot spare sites (inr (room, torn, change)) =
 
 pub settle_beside : {E : Type 0} → (result : Result (Unit {0}) E) (old mid closed new : Trace) (journal : JournalView) (slot spare : ℕ)
     → 1 ≤ bank_length journal.layout → Closing old.now.image mid.now.image closed.now.image journal slot spare
-    → OnOk result (IsSynced new.now × IsCleared spare (bank_length journal.layout) closed.now.image new.now.image)
+    → OnOk result (IsSynced new.now × IsErased (spare + 1) (bank_length journal.layout - 1) closed.now.image new.now.image)
     → OnOk result (KeepsBeside journal.layout old.now.image new.now.image)
 settle_beside (Err error) old mid closed new journal slot spare some closing cleared = tt
 settle_beside (Ok value) old mid closed new journal slot spare some closing cleared =
@@ -248,23 +247,10 @@ settle_beside (Ok value) old mid closed new journal slot spare some closing clea
     (beside_of (spare + 1) (bank_length journal.layout - 1) journal.layout (other journal.bank) closed.now.image new.now.image cleared.1.change
     (omega (arith, place)) (omega (arith, place, some))))
 
--- lengths, and blocks
+-- lengths
 pub slot_long : (old new : List ℕ) (at index slots : ℕ) → GatedSlot at index slots old new → length new ≡ length old
 slot_long old new at index slots (inl same) = ap (λ (octets : List ℕ). length octets) same
 slot_long old new at index slots (inr (room, torn, change)) = change.same_length
 
 pub gate_long : (old new : List ℕ) (at : ℕ) → Gated at old new → length new ≡ length old
 gate_long old new at gated = (gated_but at old new gated).same_length
-
-pub blocks_moments : (old new : Trace) (bank blocks : ℕ) (layout : Layout) → SLOT_LENGTH * blocks ≡ bank_length layout
-    → EachImage old new (AllBut (bank + 1) (SLOT_LENGTH * blocks - 1) old.now.image)
-    → EachImage old new (AllBut (bank + 1) (bank_length layout - 1) old.now.image)
-blocks_moments old new bank blocks layout sized each =
-    subst (λ (n : ℕ). EachImage old new (AllBut (bank + 1) (n - 1) old.now.image)) sized each
-
-pub blocks_cleared : {E : Type 0} → (result : Result (Unit {0}) E) (old new : Trace) (bank blocks : ℕ) (layout : Layout)
-    → SLOT_LENGTH * blocks ≡ bank_length layout
-    → OnOk result (IsSynced new.now × IsCleared bank (SLOT_LENGTH * blocks) old.now.image new.now.image)
-    → OnOk result (IsSynced new.now × IsCleared bank (bank_length layout) old.now.image new.now.image)
-blocks_cleared result old new bank blocks layout sized cleared =
-    subst (λ (n : ℕ). OnOk result (IsSynced new.now × IsCleared bank n old.now.image new.now.image)) sized cleared

@@ -1,15 +1,10 @@
 -- The moments of the writes to a slot.
-use Rattle.std.proofs.Common.{◌≡◌, ℕ, ◌+◌, ◌⊎◌, List, length, subst, inl, inr, Result, Ok, Err}
-use Rattle.std.specs.Result.{OnOk}
+use Rattle.std.proofs.Common.{◌≡◌, ℕ, ◌+◌, ◌⊎◌, List, length, subst, inl, inr}
 use Rattle.sdls_outside.specs.Moments.{Trace}
 use Rattle.sdls_outside.specs.Site.{overwritten}
 use Rattle.sdls_base.specs.declared.TheConstants.{BODY_LENGTH}
 use Rattle.disk_journal.specs.Moments.{AllBut, EachImage}
 use Rattle.disk_journal.proofs.Moments.{image_then, image_weaker}
-
-pub ok_weaker : {T E : Type 0} → (result : Result T E) (P Q : Type 0) → (P → Q) → OnOk result P → OnOk result Q
-ok_weaker (Ok value) P Q weaker holds = weaker holds
-ok_weaker (Err error) P Q weaker holds = tt
 
 -- a record's body, and then its gate
 abbrev pub Storing : ℕ → List ℕ → List ℕ → List ℕ → Type 0

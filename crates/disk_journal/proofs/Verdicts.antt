@@ -9,7 +9,7 @@ use Rattle.disk_journal.specs.Banks.{bank_at, bank_length, slot_body, chosen, sl
 use Rattle.disk_journal.specs.Fault.{bank_checks, banks_part, gate_checks, gates_part, header_checks, image_fault}
 use Rattle.disk_journal.specs.Header.{form_in, header_of, plan_length_in, slot_count_in}
 use Rattle.disk_journal.specs.Image.{current, current_at, first_closed, generation_of, image_layout, is_open, records, slot_count}
-use Rattle.disk_journal.specs.Journal.{IsCurrent, IsHeaderOf, IsJournalOf, IsOpen, JournalView}
+use Rattle.disk_journal.specs.Journal.{IsCurrent, IsHeaderOf, IsJournalOf}
 use Rattle.disk_journal.specs.Verdict.{IsVerdict}
 use Rattle.disk_journal.specs.declared.layout.Bank.{Bank}
 use Rattle.disk_journal.specs.declared.layout.Bank.TheVariants.{First, Second}
@@ -225,13 +225,6 @@ clear_verdict old mid plan_length layout bank generation at used looked same cle
       generation = looked.newest.generation_is;
       used = used_is image plan_length layout bank generation at used looked;
     }
-
--- the journal of the image is the one of the site, once that has synced
-pub opened_journal : (old new : Trace) (journal : JournalView) → Synced old new → IsJournalOf old.now.image journal → IsOpen new journal
-opened_journal old new journal synced of_image = record {
-  synced = synced.is_synced;
-  of_image = subst (λ (image : List ℕ). IsJournalOf image journal) (sym synced.image) of_image;
-}
 
 -- a run begun, a sync, and reads behind it
 pub same_verdict : {E : Type 0} → (result : Result Verdict E) (old first mid : Trace) → first ≡ old → Synced first mid

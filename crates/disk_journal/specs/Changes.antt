@@ -24,23 +24,28 @@ pub record KeepsPast (at : ℕ) (old new : List ℕ) : Type 0 where
   pub length_is : length new ≡ max (length old) at
   pub past : (i : ℕ) → at ≤ i → slice_index new i ≡ slice_index old i
 
--- all that is pending lies in this range, and the image is this one but for the range
-pub record Pending (at count : ℕ) (base : List ℕ) (disk : Disk) : Type 0 where
-  pub synced : disk.synced ≡ base
-  pub away : (i : ℕ) → (i < at) ⊎ (at + count ≤ i) → Outside disk.ranges i
-  pub change : AllBut at count base disk.image
+-- new is old outside of this range, and may have grown up to the range's end
+pub record KeepsOutside (at count : ℕ) (old new : List ℕ) : Type 0 where
+  pub no_shorter : length old ≤ length new
+  pub no_longer : length new ≤ max (length old) (at + count)
+  pub outside : (i : ℕ) → (i < at) ⊎ (at + count ≤ i) → slice_index new i ≡ slice_index old i
 
--- The image on the disk reaches up to this place. All that is pending lies at the place or behind it, and the image is
--- the one on the disk before it.
-pub record IsPendingBehind (at : ℕ) (disk : Disk) : Type 0 where
+-- All that is pending lies in this range, up to which the image stands on the disk.
+pub record IsPendingIn (at count : ℕ) (disk : Disk) : Type 0 where
   pub within : at ≤ length disk.synced
-  pub away : (i : ℕ) → i < at → Outside disk.ranges i
-  pub keeps : KeepsBelow at disk.synced disk.image
+  pub away : (i : ℕ) → i < length disk.synced → (i < at) ⊎ (at + count ≤ i) → Outside disk.ranges i
+  pub keeps : KeepsOutside at count disk.synced disk.image
 
--- a row of writes so far, which one sync is to bring to the disk
-pub record Row (at count : ℕ) (base : List ℕ) (old new : Trace) : Type 0 where
-  pub each : EachImage old new (AllBut at count base)
-  pub pending : Pending at count base new.now
+-- a row of writes in this range, which one sync is to bring to the disk
+pub record Row (at count : ℕ) (old new : Trace) : Type 0 where
+  pub each : EachImage old new (KeepsOutside at count old.now.synced)
+  pub pending : IsPendingIn at count new.now
+  pub synced : new.now.synced ≡ old.now.synced
+
+-- What was written lies in this range: it goes on with a row in any range around it.
+abbrev pub WritesIn : ℕ → ℕ → Trace → Trace → Type 0
+WritesIn at count old new = (from size : ℕ) → from ≤ at → at + count ≤ from + size → IsPendingIn from size old.now
+    → Row from size old new
 
 -- new is old, but for what stands in the banks
 abbrev pub KeepsBeside : Layout → List ℕ → List ℕ → Type 0
@@ -59,21 +64,11 @@ IsZero from to image = (i : ℕ) → from ≤ i → i < to → slice_index image
 abbrev pub with_gate : ℕ → ℕ → List ℕ → List ℕ
 with_gate octet bank image = overwritten image bank (octet ∷ [])
 
--- the image with an open gate and this generation in the bank that begins here
-unfoldable pub with_front : ℕ → ℕ → List ℕ → List ℕ
-with_front bank generation image =
-    overwritten (with_gate OPEN bank image) (bank + GENERATION_AT) (big_bytes GENERATION_LENGTH generation)
-
 -- the image with this generation and content in the bank that begins here
 abbrev pub filled : ℕ → ℕ → List ℕ → List ℕ → List ℕ
 filled bank generation content image =
     overwritten (overwritten image (bank + GENERATION_AT) (big_bytes GENERATION_LENGTH generation)) (bank + CONTENT_AT)
     content
-
--- new is old, but that the rest of a bank, past its gate, is 0
-pub record IsCleared (bank size : ℕ) (old new : List ℕ) : Type 0 where
-  pub change : AllBut (bank + 1) (size - 1) old new
-  pub zero : IsZero (bank + 1) (bank + size) new
 
 -- new is old, but that so many octets from here on are 0
 pub record IsErased (at size : ℕ) (old new : List ℕ) : Type 0 where

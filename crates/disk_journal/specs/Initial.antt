@@ -1,7 +1,7 @@
 -- The image that a journal begins with, and how it is written (profile).
-use Rattle.std.specs.Prelude.{◌≡◌, ℕ, ◌-◌, ◌*◌, ◌≤◌, ◌⊎◌, List, [], ◌∷◌, ◌++◌, length, slice_index, Some}
+use Rattle.std.specs.Prelude.{◌≡◌, ℕ, ◌-◌, ◌*◌, ◌⊎◌, List, [], ◌∷◌, ◌++◌, length, Some}
 use Rattle.byteorder.specs.Endian.{big_bytes}
-use Rattle.sdls_outside.specs.Disk.{Disk, Outside, IsSynced}
+use Rattle.sdls_outside.specs.Disk.{IsSynced}
 use Rattle.sdls_outside.specs.Moments.{Trace}
 use Rattle.disk_journal.specs.declared.layout.TheConstants.{HEADER_LENGTH, PLAN_ROOM, SLOT_LENGTH, FIELD_LENGTH}
 use Rattle.disk_journal.specs.declared.layout.TheConstants.{OPEN, CLOSED, BANKS_AT, MIGRATED_AT, GENERATION_LENGTH}
@@ -76,13 +76,6 @@ pub record BeginsAtRest (form : HeaderForm) (plan : List ℕ) (slots : ℕ) (tex
     generation = FIRST_GENERATION;
     used = 0;
   })
-
--- Whatever a crash leaves, its first octet is 0: it is 0 on the disk, and nothing that is pending touches it.
-pub record IsShut (disk : Disk) : Type 0 where
-  pub some : 1 ≤ length disk.synced
-  pub synced : slice_index disk.synced 0 ≡ CLOSED
-  pub away : Outside disk.ranges 0
-  pub reads : slice_index disk.image 0 ≡ CLOSED
 
 -- A crash early in the call leaves an image that is refused at its first octet. From then on the image without its gate
 -- is on the disk, and a crash leaves the initial image but for the gate.

@@ -26,7 +26,7 @@ use crate::layout::{
 use crate::migrating::migrate_banks;
 use crate::opening_image::{Verdict, inspect_synced};
 use crate::record_run::RecordRun;
-use crate::settling::{clear_old_banks, clear_spare, close_gate, close_migration, close_slot};
+use crate::settling::{clear_others, close_gate, close_migration, close_slot};
 use crate::storing::store_record;
 use crate::turning::turn_banks;
 use sdls_base::{BODY_LENGTH, CONTENT_LENGTH_TWO, Version};
@@ -129,7 +129,7 @@ impl Journal {
     {
         close_migration(site, self.layout.form)?;
         self.close_banks(site)?;
-        clear_old_banks(site, BANKS_AT, self.layout.old_blocks())
+        clear_others(site, BANKS_AT, self.layout.banks - BANKS_AT)
     }
 
     /// Closes the gates of an image that is not on its way to be migrated, and clears the other bank.
@@ -152,7 +152,7 @@ impl Journal {
         let slot = self.layout.slot_at(at, self.used);
         close_slot(site, slot, self.used, self.layout.slots)?;
         close_gate(site, spare)?;
-        clear_spare(site, spare, self.layout.blocks())
+        clear_others(site, spare + 1, self.layout.bank_length() - 1)
     }
 
     /// Reads the text of the plan into the front of `out`, and answers how many octets it has. After a

@@ -183,20 +183,12 @@ impl Layout {
         }
     }
 
-    /// The octets of the banks of version 1 before those of a migrated image, in blocks of a slot's length.
-    pub(crate) fn old_blocks(self) -> u32
-        requires { IsLayout self }
-        ensures { BANKS_AT + SLOT_LENGTH * result ≡ self.banks }
+    /// The octets of a bank.
+    pub(crate) fn bank_length(self) -> u64
+        requires { image_end self < 2 ^ 64 }
+        ensures { result ≡ bank_length self }
     {
-        ((self.banks - BANKS_AT) / SLOT_LENGTH) as u32
-    }
-
-    /// The octets of a bank, in blocks of a slot's length.
-    pub(crate) fn blocks(self) -> u32
-        requires { IsLayout self }
-        ensures { SLOT_LENGTH * result ≡ bank_length self }
-    {
-        ((CONTENT_AT + self.content_length) / SLOT_LENGTH) as u32 + self.slots
+        CONTENT_AT + self.content_length + SLOT_LENGTH * self.slots as u64
     }
 
     /// Where a bank begins.
@@ -206,8 +198,7 @@ impl Layout {
     {
         match bank {
             Bank::First => self.banks,
-            Bank::Second => self.banks
-                + (CONTENT_AT + self.content_length + SLOT_LENGTH * self.slots as u64),
+            Bank::Second => self.banks + self.bank_length(),
         }
     }
 
@@ -216,7 +207,7 @@ impl Layout {
         requires { image_end self < 2 ^ 64 }
         ensures { result ≡ image_end self }
     {
-        self.banks + 2 * (CONTENT_AT + self.content_length + SLOT_LENGTH * self.slots as u64)
+        self.banks + 2 * self.bank_length()
     }
 
     /// Where slot `index` begins, of the bank that begins at `bank`.

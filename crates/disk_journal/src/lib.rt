@@ -24,7 +24,6 @@ mod record_run;
 mod settling;
 mod storing;
 mod turning;
-mod zeroing;
 
 pub use creating::{create, create_two};
 pub use fault::JournalFault;

@@ -1,13 +1,13 @@
 // Bringing an image to rest.
-ghost use Rattle.std.specs.Prelude.{◌≡◌, ◌+◌, ◌-◌, ◌*◌, ◌^◌, ◌≤◌, ◌<◌, ◌⊎◌, IsTrue, OnOk, IfOk, length, slice_index};
+ghost use Rattle.std.specs.Prelude.{◌≡◌, ◌+◌, ◌^◌, ◌≤◌, ◌<◌, IsTrue, OnOk, IfOk, length, slice_index};
 ghost use Rattle.sdls_outside.specs.Disk.{IsSynced};
 ghost use Rattle.sdls_outside.specs.Faults.{HasCause};
 ghost use Rattle.disk_journal.specs.Moments.{AllBut, EachImage};
-ghost use Rattle.disk_journal.specs.Changes.{IsZero, IsCleared, IsErased, Gated, GatedSlot, GatedForm};
+ghost use Rattle.disk_journal.specs.Changes.{IsZero, IsErased, Gated, GatedSlot, GatedForm};
 
 use crate::header::has_other;
-use crate::layout::{BANKS_AT, CLOSED, HeaderForm, MIGRATED_AT, RUN, RUN_LENGTH, SLOT_LENGTH};
-use crate::storing::{clear_bank, clear_blocks, store};
+use crate::layout::{BANKS_AT, CLOSED, HeaderForm, MIGRATED_AT, RUN_LENGTH};
+use crate::storing::{clear, store};
 use sdls_outside::{Failed, Site};
 
 /// Writes 0 as the gate at `at`, if it is not 0.
@@ -86,62 +86,42 @@ fn reads_zeros<O: Site>(site: &mut O, at: u64, octets: &mut [u8]) -> Result<bool
     Ok(!has_other(octets))
 }
 
-/// Whether so many blocks of a slot's length are 0, from `bank` on.
-fn is_zero<O: Site>(site: &mut O, bank: u64, blocks: u32) -> Result<bool, Failed>
-    requires place { bank + SLOT_LENGTH * blocks < 2 ^ 64 }
-    requires within { IsTrue O.told → bank + SLOT_LENGTH * blocks ≤ length (O.trace site.old).now.image }
+/// Whether so many octets are 0, from `at` on.
+fn is_zero<O: Site>(site: &mut O, at: u64, count: u64) -> Result<bool, Failed>
+    requires place { at + count < 2 ^ 64 }
+    requires within { IsTrue O.told → at + count ≤ length (O.trace site.old).now.image }
     ensures zero { IsTrue O.told → IfOk result (λ found. IsTrue found
-        → IsZero bank (bank + SLOT_LENGTH * blocks) (O.trace site.old).now.image) }
+        → IsZero at (at + count) (O.trace site.old).now.image) }
     ensures same { IsTrue O.told → O.trace site.new ≡ O.trace site.old }
     ensures cause { HasCause (O.faults site.old) (O.faults site.new) result }
     ensures puts { O.put_faults site.new ≡ O.put_faults site.old }
 {
     let mut room = [0; RUN_LENGTH];
-    let mut block = 0;
-    while block < blocks {
-        let count = RUN.min(blocks - block);
-        let octets = &mut room[..SLOT_LENGTH as usize * count as usize];
-        if !reads_zeros(site, bank + SLOT_LENGTH * block as u64, octets)? {
+    let mut done = 0;
+    while done < count {
+        let piece = (count - done).min(RUN_LENGTH as u64) as usize;
+        if !reads_zeros(site, at + done, &mut room[..piece])? {
             return Ok(false);
         }
-        block += count;
+        done += piece as u64;
     }
     Ok(true)
 }
 
-/// Writes zeros over the rest of a bank whose gate is 0, if it has other octets.
-pub(crate) fn clear_spare<O: Site>(site: &mut O, bank: u64, blocks: u32) -> Result<(), Failed>
-    requires some { 1 ≤ blocks }
-    requires place { bank + SLOT_LENGTH * blocks < 2 ^ 64 }
+/// Writes zeros over so many octets from `at` on, if they are others.
+pub(crate) fn clear_others<O: Site>(site: &mut O, at: u64, count: u64) -> Result<(), Failed>
+    requires place { at + count < 2 ^ 64 }
     requires synced { IsTrue O.told → IsSynced (O.trace site.old).now }
-    requires within { IsTrue O.told → bank + SLOT_LENGTH * blocks ≤ length (O.trace site.old).now.image }
+    requires within { IsTrue O.told → at + count ≤ length (O.trace site.old).now.image }
     ensures cleared { IsTrue O.told → OnOk result (IsSynced (O.trace site.new).now
-        × IsCleared bank (SLOT_LENGTH * blocks) (O.trace site.old).now.image (O.trace site.new).now.image) }
+        × IsErased at count (O.trace site.old).now.image (O.trace site.new).now.image) }
     ensures any_moment { IsTrue O.told → EachImage (O.trace site.old) (O.trace site.new)
-        (AllBut (bank + 1) (SLOT_LENGTH * blocks - 1) (O.trace site.old).now.image) }
+        (AllBut at count (O.trace site.old).now.image) }
     ensures cause { HasCause (O.faults site.old) (O.faults site.new) result }
     ensures puts { O.put_faults site.new ≡ O.put_faults site.old }
 {
-    if is_zero(site, bank, blocks)? {
+    if is_zero(site, at, count)? {
         return Ok(());
     }
-    clear_bank(site, bank, blocks)
-}
-
-/// Writes zeros over so many blocks of a slot's length from `at` on, if they have other octets.
-pub(crate) fn clear_old_banks<O: Site>(site: &mut O, at: u64, blocks: u32) -> Result<(), Failed>
-    requires place { at + SLOT_LENGTH * blocks < 2 ^ 64 }
-    requires synced { IsTrue O.told → IsSynced (O.trace site.old).now }
-    requires within { IsTrue O.told → at + SLOT_LENGTH * blocks ≤ length (O.trace site.old).now.image }
-    ensures cleared { IsTrue O.told → OnOk result (IsSynced (O.trace site.new).now
-        × IsErased at (SLOT_LENGTH * blocks) (O.trace site.old).now.image (O.trace site.new).now.image) }
-    ensures any_moment { IsTrue O.told → EachImage (O.trace site.old) (O.trace site.new)
-        (AllBut at (SLOT_LENGTH * blocks) (O.trace site.old).now.image) }
-    ensures cause { HasCause (O.faults site.old) (O.faults site.new) result }
-    ensures puts { O.put_faults site.new ≡ O.put_faults site.old }
-{
-    if is_zero(site, at, blocks)? {
-        return Ok(());
-    }
-    clear_blocks(site, at, blocks)
+    clear(site, at, count)
 }

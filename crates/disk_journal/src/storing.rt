@@ -1,16 +1,105 @@
-// Writes that are brought to the disk.
-ghost use Rattle.std.specs.Prelude.{◌≡◌, ◌+◌, ◌-◌, ◌*◌, ◌^◌, ◌≤◌, ◌<◌, ◌⊎◌, IsTrue, OnOk, length, [], ◌∷◌};
+// Writes in a row, and writes that are brought to the disk.
+ghost use Rattle.std.specs.Prelude.{◌≡◌, ◌+◌, ◌-◌, ◌^◌, ◌≤◌, ◌<◌, ◌⊎◌, IsTrue, OnOk, length, replicate, [], ◌∷◌};
 ghost use Rattle.sdls_outside.specs.Disk.{IsSynced};
 ghost use Rattle.sdls_outside.specs.Faults.{HasCause};
 ghost use Rattle.sdls_outside.specs.Site.{overwritten};
+ghost use Rattle.disk_journal.specs.Changes.{filled, with_gate, IsErased, WritesIn};
 ghost use Rattle.disk_journal.specs.Moments.{AllBut, EachImage};
-ghost use Rattle.disk_journal.specs.Changes.{filled, IsZero, IsCleared, IsErased, Row};
+ghost use Rattle.disk_journal.specs.Zeros.{zeros};
 
 use crate::layout::{CONTENT_AT, GENERATION_AT, GENERATION_LENGTH, OPEN, RUN_LENGTH, SLOT_LENGTH};
-use crate::zeroing::{piece_of, zeros_of};
 use byteorder::{BigEndian, ByteOrder};
 use sdls_base::BODY_LENGTH;
 use sdls_outside::{Failed, Site};
+
+/// How many of so many octets the next piece has that begins at `at`: those that a block of a slot's
+/// length lacks, or else as many blocks as are written in a call.
+fn piece_of(at: u64, left: u64) -> usize
+    requires { 0 < left }
+    ensures some { 0 < result }
+    ensures within { result ≤ left }
+    ensures short { result ≤ RUN_LENGTH }
+{
+    let begun = at % SLOT_LENGTH;
+    if begun == 0 {
+        left.min(RUN_LENGTH as u64) as usize
+    } else {
+        left.min(SLOT_LENGTH - begun) as usize
+    }
+}
+
+/// So many of these zeros.
+fn zeros_of(octets: &[u8; RUN_LENGTH], count: usize) -> &[u8]
+    requires zeros { octets.now ≡ replicate RUN_LENGTH 0 }
+    requires short { count ≤ RUN_LENGTH }
+    ensures { result.now ≡ zeros count }
+{
+    &octets[..count]
+}
+
+/// Writes zeros over so many octets from `at` on, and past the end. They are not brought to the disk.
+pub(crate) fn write_zeros<O: Site>(site: &mut O, at: u64, count: u64) -> Result<(), Failed>
+    requires place { at + count < 2 ^ 64 }
+    requires within { IsTrue O.told → at ≤ length (O.trace site.old).now.image }
+    ensures written { IsTrue O.told → OnOk result ((O.trace site.new).now.image
+        ≡ overwritten (O.trace site.old).now.image at (zeros count)) }
+    ensures row { IsTrue O.told → WritesIn at count (O.trace site.old) (O.trace site.new) }
+    ensures cause { HasCause (O.faults site.old) (O.faults site.new) result }
+    ensures puts { O.put_faults site.new ≡ O.put_faults site.old }
+{
+    let octets = [0; RUN_LENGTH];
+    let mut done = 0;
+    while done < count {
+        let piece = piece_of(at + done, count - done);
+        site.write_at(at + done, zeros_of(&octets, piece))?;
+        done += piece as u64;
+    }
+    Ok(())
+}
+
+/// Writes a generation and a content into the bank that begins at `bank`, behind its gate. They are
+/// not brought to the disk.
+fn write_head<O: Site>(
+    site: &mut O,
+    bank: u64,
+    generation: u64,
+    content: &[u8],
+) -> Result<(), Failed>
+    requires place { bank + CONTENT_AT + length content.now < 2 ^ 64 }
+    requires within { IsTrue O.told → bank + CONTENT_AT ≤ length (O.trace site.old).now.image }
+    ensures written { IsTrue O.told → OnOk result ((O.trace site.new).now.image
+        ≡ filled bank generation content.now (O.trace site.old).now.image) }
+    ensures row { IsTrue O.told → WritesIn (bank + 1) (CONTENT_AT + length content.now - 1)
+        (O.trace site.old) (O.trace site.new) }
+    ensures cause { HasCause (O.faults site.old) (O.faults site.new) result }
+    ensures puts { O.put_faults site.new ≡ O.put_faults site.old }
+{
+    let mut number = [0; GENERATION_LENGTH];
+    BigEndian::write_u64(&mut number, generation);
+    site.write_at(bank + GENERATION_AT, &number)?;
+    site.write_at(bank + CONTENT_AT, content)
+}
+
+/// Writes an open gate, a generation and a content into the bank that begins at `bank`. They are not
+/// brought to the disk.
+pub(crate) fn write_open_bank<O: Site>(
+    site: &mut O,
+    bank: u64,
+    generation: u64,
+    content: &[u8],
+) -> Result<(), Failed>
+    requires place { bank + CONTENT_AT + length content.now < 2 ^ 64 }
+    requires within { IsTrue O.told → bank + CONTENT_AT ≤ length (O.trace site.old).now.image }
+    ensures written { IsTrue O.told → OnOk result ((O.trace site.new).now.image
+        ≡ filled bank generation content.now (with_gate OPEN bank (O.trace site.old).now.image)) }
+    ensures row { IsTrue O.told → WritesIn bank (CONTENT_AT + length content.now)
+        (O.trace site.old) (O.trace site.new) }
+    ensures cause { HasCause (O.faults site.old) (O.faults site.new) result }
+    ensures puts { O.put_faults site.new ≡ O.put_faults site.old }
+{
+    site.write_at(bank, &[OPEN])?;
+    write_head(site, bank, generation, content)
+}
 
 /// Writes octets over the image from `at` on, and brings them to the disk.
 pub(crate) fn store<O: Site>(site: &mut O, at: u64, octets: &[u8]) -> Result<(), Failed>
@@ -52,7 +141,7 @@ pub(crate) fn store_record<O: Site>(
 }
 
 /// Writes a generation and a content into the bank that begins at `bank`, and brings them to the disk.
-pub(crate) fn fill_bank<O: Site>(
+pub(crate) fn store_head<O: Site>(
     site: &mut O,
     bank: u64,
     generation: u64,
@@ -68,95 +157,22 @@ pub(crate) fn fill_bank<O: Site>(
     ensures cause { HasCause (O.faults site.old) (O.faults site.new) result }
     ensures puts { O.put_faults site.new ≡ O.put_faults site.old }
 {
-    let mut number = [0; GENERATION_LENGTH];
-    BigEndian::write_u64(&mut number, generation);
-    site.write_at(bank + GENERATION_AT, &number)?;
-    site.write_at(bank + CONTENT_AT, content)?;
+    write_head(site, bank, generation, content)?;
     site.sync()
 }
 
-/// Writes zeros over the blocks of a slot's length after the first, of the bank that begins at `bank`
-/// and has so many. They are not brought to the disk.
-fn zero_blocks<O: Site>(site: &mut O, bank: u64, blocks: u32) -> Result<(), Failed>
-    requires some { 1 ≤ blocks }
-    requires place { bank + SLOT_LENGTH * blocks < 2 ^ 64 }
+/// Writes zeros over so many octets from `at` on, and brings them to the disk.
+pub(crate) fn clear<O: Site>(site: &mut O, at: u64, count: u64) -> Result<(), Failed>
+    requires place { at + count < 2 ^ 64 }
     requires synced { IsTrue O.told → IsSynced (O.trace site.old).now }
-    requires within { IsTrue O.told → bank + SLOT_LENGTH * blocks ≤ length (O.trace site.old).now.image }
-    ensures zeroed { IsTrue O.told → OnOk result
-        (IsZero (bank + SLOT_LENGTH) (bank + SLOT_LENGTH * blocks) (O.trace site.new).now.image) }
-    ensures row { IsTrue O.told → OnOk result (Row (bank + 1) (SLOT_LENGTH * blocks - 1) (O.trace site.old).now.image
-        (O.trace site.old) (O.trace site.new)) }
-    ensures any_moment { IsTrue O.told → EachImage (O.trace site.old) (O.trace site.new)
-        (AllBut (bank + 1) (SLOT_LENGTH * blocks - 1) (O.trace site.old).now.image) }
-    ensures cause { HasCause (O.faults site.old) (O.faults site.new) result }
-    ensures puts { O.put_faults site.new ≡ O.put_faults site.old }
-{
-    let zeros = [0; RUN_LENGTH];
-    let mut block = 1;
-    while block < blocks {
-        let count = piece_of(blocks - block);
-        let octets = zeros_of(&zeros, count);
-        site.write_at(bank + SLOT_LENGTH * block as u64, octets)?;
-        block += count;
-    }
-    Ok(())
-}
-
-/// Writes zeros over the rest of the bank that begins at `bank` and has so many blocks of a slot's
-/// length, past its gate, and brings them to the disk.
-pub(crate) fn clear_bank<O: Site>(site: &mut O, bank: u64, blocks: u32) -> Result<(), Failed>
-    requires some { 1 ≤ blocks }
-    requires place { bank + SLOT_LENGTH * blocks < 2 ^ 64 }
-    requires synced { IsTrue O.told → IsSynced (O.trace site.old).now }
-    requires within { IsTrue O.told → bank + SLOT_LENGTH * blocks ≤ length (O.trace site.old).now.image }
+    requires within { IsTrue O.told → at + count ≤ length (O.trace site.old).now.image }
     ensures cleared { IsTrue O.told → OnOk result (IsSynced (O.trace site.new).now
-        × IsCleared bank (SLOT_LENGTH * blocks) (O.trace site.old).now.image (O.trace site.new).now.image) }
+        × IsErased at count (O.trace site.old).now.image (O.trace site.new).now.image) }
     ensures any_moment { IsTrue O.told → EachImage (O.trace site.old) (O.trace site.new)
-        (AllBut (bank + 1) (SLOT_LENGTH * blocks - 1) (O.trace site.old).now.image) }
+        (AllBut at count (O.trace site.old).now.image) }
     ensures cause { HasCause (O.faults site.old) (O.faults site.new) result }
     ensures puts { O.put_faults site.new ≡ O.put_faults site.old }
 {
-    zero_blocks(site, bank, blocks)?;
-    site.write_at(bank + 1, &[0; (SLOT_LENGTH - 1) as usize])?;
+    write_zeros(site, at, count)?;
     site.sync()
-}
-
-/// Writes zeros over so many blocks of a slot's length from `at` on, and brings them to the disk.
-pub(crate) fn clear_blocks<O: Site>(site: &mut O, at: u64, blocks: u32) -> Result<(), Failed>
-    requires place { at + SLOT_LENGTH * blocks < 2 ^ 64 }
-    requires synced { IsTrue O.told → IsSynced (O.trace site.old).now }
-    requires within { IsTrue O.told → at + SLOT_LENGTH * blocks ≤ length (O.trace site.old).now.image }
-    ensures cleared { IsTrue O.told → OnOk result (IsSynced (O.trace site.new).now
-        × IsErased at (SLOT_LENGTH * blocks) (O.trace site.old).now.image (O.trace site.new).now.image) }
-    ensures any_moment { IsTrue O.told → EachImage (O.trace site.old) (O.trace site.new)
-        (AllBut at (SLOT_LENGTH * blocks) (O.trace site.old).now.image) }
-    ensures cause { HasCause (O.faults site.old) (O.faults site.new) result }
-    ensures puts { O.put_faults site.new ≡ O.put_faults site.old }
-{
-    write_zeros(site, at, blocks)?;
-    site.sync()
-}
-
-/// Writes zeros over so many blocks of a slot's length from `at` on. They are not brought to the disk.
-fn write_zeros<O: Site>(site: &mut O, at: u64, blocks: u32) -> Result<(), Failed>
-    requires place { at + SLOT_LENGTH * blocks < 2 ^ 64 }
-    requires synced { IsTrue O.told → IsSynced (O.trace site.old).now }
-    requires within { IsTrue O.told → at + SLOT_LENGTH * blocks ≤ length (O.trace site.old).now.image }
-    ensures zeroed { IsTrue O.told → OnOk result (IsZero at (at + SLOT_LENGTH * blocks) (O.trace site.new).now.image) }
-    ensures row { IsTrue O.told → OnOk result (Row at (SLOT_LENGTH * blocks) (O.trace site.old).now.image
-        (O.trace site.old) (O.trace site.new)) }
-    ensures any_moment { IsTrue O.told → EachImage (O.trace site.old) (O.trace site.new)
-        (AllBut at (SLOT_LENGTH * blocks) (O.trace site.old).now.image) }
-    ensures cause { HasCause (O.faults site.old) (O.faults site.new) result }
-    ensures puts { O.put_faults site.new ≡ O.put_faults site.old }
-{
-    let zeros = [0; RUN_LENGTH];
-    let mut block = 0;
-    while block < blocks {
-        let count = piece_of(blocks - block);
-        let octets = zeros_of(&zeros, count);
-        site.write_at(at + SLOT_LENGTH * block as u64, octets)?;
-        block += count;
-    }
-    Ok(())
 }

@@ -1,13 +1,13 @@
 // The turn.
-ghost use Rattle.std.specs.Prelude.{◌≡◌, ◌+◌, ◌^◌, ◌≤◌, ◌<◌, IsTrue, OnOk, length};
+ghost use Rattle.std.specs.Prelude.{◌≡◌, ◌+◌, ◌-◌, ◌^◌, ◌≤◌, ◌<◌, IsTrue, OnOk, length};
 ghost use Rattle.sdls_outside.specs.Disk.{IsSynced};
 ghost use Rattle.sdls_outside.specs.Faults.{HasCause};
 ghost use Rattle.disk_journal.specs.Moments.{EachImage};
 ghost use Rattle.disk_journal.specs.Banks.{IsLayout, head_length, bank_length};
-ghost use Rattle.disk_journal.specs.Changes.{filled, with_gate, IsCleared, Steps};
+ghost use Rattle.disk_journal.specs.Changes.{filled, with_gate, IsErased, Steps};
 
 use crate::layout::{CLOSED, Layout, OPEN};
-use crate::storing::{clear_bank, fill_bank, store};
+use crate::storing::{clear, store, store_head};
 use sdls_outside::{Failed, Site};
 
 /// Makes the bank that begins at `to` the current one in place of the bank that begins at `from`.
@@ -25,7 +25,8 @@ pub(crate) fn turn_banks<O: Site>(
     requires synced { IsTrue O.told → IsSynced (O.trace site.old).now }
     requires within { IsTrue O.told → (from + bank_length layout ≤ length (O.trace site.old).now.image)
         × (to + bank_length layout ≤ length (O.trace site.old).now.image) }
-    ensures turned { IsTrue O.told → OnOk result (IsSynced (O.trace site.new).now × IsCleared from (bank_length layout)
+    ensures turned { IsTrue O.told → OnOk result (IsSynced (O.trace site.new).now
+        × IsErased (from + 1) (bank_length layout - 1)
         (with_gate CLOSED from (with_gate OPEN to (filled to generation content.now (O.trace site.old).now.image)))
         (O.trace site.new).now.image) }
     ensures any_moment { IsTrue O.told → EachImage (O.trace site.old) (O.trace site.new)
@@ -33,8 +34,8 @@ pub(crate) fn turn_banks<O: Site>(
     ensures cause { HasCause (O.faults site.old) (O.faults site.new) result }
     ensures puts { O.put_faults site.new ≡ O.put_faults site.old }
 {
-    fill_bank(site, to, generation, content)?;
+    store_head(site, to, generation, content)?;
     store(site, to, &[OPEN])?;
     store(site, from, &[CLOSED])?;
-    clear_bank(site, from, layout.blocks())
+    clear(site, from + 1, layout.bank_length() - 1)
 }

@@ -1,15 +1,18 @@
-use Rattle.std.proofs.Common.{ℕ, ◌≡◌, [], ◌∷◌, List, ap, length, arith}
+use Rattle.std.proofs.Common.{◌∷◌, [], arith}
 use Rattle.disk_journal.specs.declared.layout.TheConstants.{CLOSED}
 use Rattle.disk_journal.specs.Zeros.{zeros}
-use Rattle.disk_journal.proofs.Lengths.{failed_short, then_done, then_sync, none_yet, synced_ok}
-use Rattle.disk_journal.proofs.Beginning.{first_written}
+use Rattle.disk_journal.proofs.Beginning.{first_written, none_pending, short_each, synced_ok}
+use Rattle.disk_journal.proofs.Writing.{row_synced, writes_in}
 use Rattle.disk_journal.proofs.creating.shut.Goals as goal
 
 pub returns-in_err-write_at-clause-any_moment : goal.returns-in_err-write_at-clause-any_moment
 returns-in_err-write_at-clause-any_moment g c = λ told.
-    let size : length (g.O.Site.trace c.args.site.now).now.image ≡ 0 = ap (λ (octets : List ℕ). length octets) (c.requires told) in
-    failed_short 0 (CLOSED ∷ []) 1 (g.O.Site.trace c.args.site.now) (g.O.Site.trace c.write_at.new.self) (omega arith) (omega arith)
-    (c.in_err-write_at.ensures.written told)
+    let old = g.O.Site.trace c.args.site.now in
+    let mid = g.O.Site.trace c.write_at.new.self in
+    let stays = g.met.O.Site.image_may_stay c.args.site.now told in
+    short_each old mid (c.requires told) stays
+    (writes_in 0 (CLOSED ∷ []) c.write_at.result old mid (c.write_at.ensures.written told) 0 1 (omega arith) (omega arith)
+    (none_pending old (c.requires told) stays)).each
 
 pub returns-clause-shut : goal.returns-clause-shut
 returns-clause-shut g c = λ told.
@@ -19,8 +22,11 @@ returns-clause-shut g c = λ told.
 
 pub returns-clause-any_moment : goal.returns-clause-any_moment
 returns-clause-any_moment g c = λ told.
-    let size : length (g.O.Site.trace c.args.site.now).now.image ≡ 0 = ap (λ (octets : List ℕ). length octets) (c.requires told) in
-    then_sync c.sync.result 1 (g.O.Site.trace c.args.site.now) (g.O.Site.trace c.write_at.new.self) (g.O.Site.trace c.sync.new.self)
-    (then_done 0 (CLOSED ∷ []) 1 (g.O.Site.trace c.args.site.now) (g.O.Site.trace c.args.site.now) (g.O.Site.trace c.write_at.new.self)
-    (none_yet (g.O.Site.trace c.args.site.now) 1 (c.requires told)) (omega arith) (omega arith) (c.in_ok-write_at.ensures.written told))
-    (c.sync.ensures.synced told)
+    let old = g.O.Site.trace c.args.site.now in
+    let mid = g.O.Site.trace c.write_at.new.self in
+    let new = g.O.Site.trace c.sync.new.self in
+    let stays = g.met.O.Site.image_may_stay c.args.site.now told in
+    short_each old new (c.requires told) stays
+    (row_synced c.sync.result 0 1 old mid new
+    (writes_in 0 (CLOSED ∷ []) c.write_at.result old mid (c.write_at.ensures.written told) 0 1 (omega arith) (omega arith)
+    (none_pending old (c.requires told) stays)) (c.sync.ensures.synced told))

@@ -1,4 +1,4 @@
-use Rattle.disk_journal.proofs.Beginning.{begun_shut, first_refused, then_refused, laid_late, created_ok, gate_within}
+use Rattle.disk_journal.proofs.Beginning.{first_refused, then_refused, laid_late, created_ok, gate_within}
 use Rattle.std.proofs.Common.{inl, refl}
 use Rattle.disk_journal.proofs.creating.write_image.Goals as goal
 
@@ -7,10 +7,6 @@ returns-in_err-shut-clause-any_moment g c = λ told. (
   g.O.Site.trace c.shut.new.site,
   record { early = first_refused (g.O.Site.trace c.args.site.now) (g.O.Site.trace c.shut.new.site) (c.shut.ensures.any_moment told); late = inl refl },
 )
-
-pub lay-requires-clause-shut : goal.lay-requires-clause-shut
-lay-requires-clause-shut g c = λ told.
-    begun_shut (g.O.Site.trace c.shut.new.site) (c.in_ok-shut.ensures.shut told).0 (c.in_ok-shut.ensures.shut told).1
 
 pub returns-in_err-lay-clause-any_moment : goal.returns-in_err-lay-clause-any_moment
 returns-in_err-lay-clause-any_moment g c = λ told. (

@@ -1,4 +1,4 @@
-use Rattle.disk_journal.proofs.Erasing.{form_here}
+use Rattle.disk_journal.proofs.Rests.{form_here}
 use Rattle.disk_journal.proofs.settling.close_migration.Goals as goal
 
 pub returns-in-Migrated-clause-any_moment : goal.returns-in-Migrated-clause-any_moment

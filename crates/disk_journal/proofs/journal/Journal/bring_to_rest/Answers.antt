@@ -1,9 +1,10 @@
-use Rattle.std.proofs.Common.{◌≡◌, sym, subst}
+use Rattle.std.proofs.Common.{◌≡◌, ◌-◌, sym, subst, arith}
+use Rattle.disk_journal.specs.declared.layout.TheConstants.{BANKS_AT}
 use Rattle.std.specs.Result.{OnOk}
 use Rattle.disk_journal.specs.Image.{held}
 use Rattle.disk_journal.specs.Journal.{JournalView, IsClosed, IsOpen, IsSettled}
 use Rattle.disk_journal.specs.Changes.{KeepsBeside, KeepsPlan}
-use Rattle.disk_journal.proofs.Resting.{Stages, form_within, open_stilled, old_within, first_moments, second_moments, third_moments, rested_end, rested_beside}
+use Rattle.disk_journal.proofs.Resting.{Stages, form_within, open_stilled, old_within, first_moments, second_moments, third_moments, rested_end, rested_beside, old_size}
 use Rattle.disk_journal.proofs.journal.Journal.bring_to_rest.Goals as goal
 
 pub close_migration-requires-clause-within : goal.close_migration-requires-clause-within
@@ -40,8 +41,8 @@ returns-in_err-close_banks-clause-any_moment g c = λ told.
     second_moments old mid (g.O.Site.trace c.close_banks.new.site) journal opened (c.in_ok-close_migration.ensures.ends told)
     (c.in_ok-close_migration.ensures.closed told).1 (c.in_ok-close_migration.ensures.any_moment told) (c.close_banks.ensures.any_moment told)
 
-pub clear_old_banks-requires-clause-within : goal.clear_old_banks-requires-clause-within
-clear_old_banks-requires-clause-within g c = λ told.
+pub clear_others-requires-clause-within : goal.clear_others-requires-clause-within
+clear_others-requires-clause-within g c = λ told.
     let old = g.O.Site.trace c.args.site.now in
     let journal : JournalView = record { plan_length = c.self.inside.plan_length; layout = c.self.inside.layout; bank = c.self.inside.bank; generation = c.self.inside.generation; used = c.self.inside.used } in
     let opened : IsOpen old journal = subst (λ (view : JournalView). IsOpen old view) (sym c.self.view_is) (c.requires told) in
@@ -56,7 +57,7 @@ clear_old_banks-requires-clause-within g c = λ told.
       same = (c.in_ok-close_banks.ensures.closed told).2;
       beside = subst (λ (one : JournalView). KeepsBeside one.layout mid.now.image closed.now.image) (sym view) (c.in_ok-close_banks.ensures.beside told);
     } in
-    old_within closed journal c.old_blocks.result stages.is_closed c.old_blocks.ensures
+    old_within closed journal (c.self.inside.layout.banks - BANKS_AT) stages.is_closed (old_size c.self.inside.layout.banks (omega arith))
 
 pub returns-clause-any_moment : goal.returns-clause-any_moment
 returns-clause-any_moment g c = λ told.
@@ -74,10 +75,10 @@ returns-clause-any_moment g c = λ told.
       same = (c.in_ok-close_banks.ensures.closed told).2;
       beside = subst (λ (one : JournalView). KeepsBeside one.layout mid.now.image closed.now.image) (sym view) (c.in_ok-close_banks.ensures.beside told);
     } in
-    third_moments old mid closed (g.O.Site.trace c.clear_old_banks.new.site) journal c.old_blocks.result stages c.old_blocks.ensures
+    third_moments old mid closed (g.O.Site.trace c.clear_others.new.site) journal (c.self.inside.layout.banks - BANKS_AT) stages (old_size c.self.inside.layout.banks (omega arith))
     (second_moments old mid closed journal opened (c.in_ok-close_migration.ensures.ends told)
     (c.in_ok-close_migration.ensures.closed told).1 (c.in_ok-close_migration.ensures.any_moment told) (c.in_ok-close_banks.ensures.any_moment told))
-    (c.clear_old_banks.ensures.any_moment told)
+    (c.clear_others.ensures.any_moment told)
 
 pub returns-clause-settled : goal.returns-clause-settled
 returns-clause-settled g c = λ told.
@@ -95,10 +96,10 @@ returns-clause-settled g c = λ told.
       same = (c.in_ok-close_banks.ensures.closed told).2;
       beside = subst (λ (one : JournalView). KeepsBeside one.layout mid.now.image closed.now.image) (sym view) (c.in_ok-close_banks.ensures.beside told);
     } in
-    subst (λ (one : JournalView). OnOk c.clear_old_banks.result (IsSettled (g.O.Site.trace c.clear_old_banks.new.site) one
-    × (held (g.O.Site.trace c.clear_old_banks.new.site).now.image ≡ held old.now.image))) view
-    (rested_end c.clear_old_banks.result old mid closed (g.O.Site.trace c.clear_old_banks.new.site) journal c.old_blocks.result stages
-    c.old_blocks.ensures (c.clear_old_banks.ensures.cleared told))
+    subst (λ (one : JournalView). OnOk c.clear_others.result (IsSettled (g.O.Site.trace c.clear_others.new.site) one
+    × (held (g.O.Site.trace c.clear_others.new.site).now.image ≡ held old.now.image))) view
+    (rested_end c.clear_others.result old mid closed (g.O.Site.trace c.clear_others.new.site) journal (c.self.inside.layout.banks - BANKS_AT) stages
+    (old_size c.self.inside.layout.banks (omega arith)) (c.clear_others.ensures.cleared told))
 
 pub returns-clause-beside : goal.returns-clause-beside
 returns-clause-beside g c = λ told.
@@ -116,7 +117,7 @@ returns-clause-beside g c = λ told.
       same = (c.in_ok-close_banks.ensures.closed told).2;
       beside = subst (λ (one : JournalView). KeepsBeside one.layout mid.now.image closed.now.image) (sym view) (c.in_ok-close_banks.ensures.beside told);
     } in
-    subst (λ (one : JournalView). OnOk c.clear_old_banks.result (KeepsPlan one.layout old.now.image (g.O.Site.trace c.clear_old_banks.new.site).now.image))
+    subst (λ (one : JournalView). OnOk c.clear_others.result (KeepsPlan one.layout old.now.image (g.O.Site.trace c.clear_others.new.site).now.image))
     view
-    (rested_beside c.clear_old_banks.result old mid closed (g.O.Site.trace c.clear_old_banks.new.site) journal c.old_blocks.result stages
-    c.old_blocks.ensures (c.clear_old_banks.ensures.cleared told))
+    (rested_beside c.clear_others.result old mid closed (g.O.Site.trace c.clear_others.new.site) journal (c.self.inside.layout.banks - BANKS_AT) stages
+    (old_size c.self.inside.layout.banks (omega arith)) (c.clear_others.ensures.cleared told))

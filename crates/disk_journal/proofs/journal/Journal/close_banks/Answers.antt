@@ -1,12 +1,13 @@
-use Rattle.std.proofs.Common.{ℕ, ◌≡◌, ◌∙◌, length, sym, ap, subst, arith}
+use Rattle.std.proofs.Common.{ℕ, ◌≡◌, ◌+◌, ◌-◌, ◌∙◌, length, sym, ap, subst, arith}
 use Rattle.std.specs.Result.{OnOk}
 use Rattle.sdls_outside.specs.Disk.{IsSynced}
 use Rattle.disk_journal.specs.Banks.{bank_at, slot_at}
 use Rattle.disk_journal.specs.Image.{held}
 use Rattle.disk_journal.specs.Journal.{JournalView, IsClosed, IsOpen}
-use Rattle.disk_journal.specs.Changes.{KeepsBeside}
+use Rattle.disk_journal.specs.Changes.{IsErased, KeepsBeside}
+use Rattle.disk_journal.specs.Moments.{AllBut, EachImage}
 use Rattle.disk_journal.proofs.Stands.{IsStill}
-use Rattle.disk_journal.proofs.Settles.{Sites, spare_within, slot_within, first_part, second_part, third_part, Closing, settled_end, settle_beside, slot_long, gate_long, blocks_moments, blocks_cleared}
+use Rattle.disk_journal.proofs.Settles.{Sites, spare_within, slot_within, first_part, second_part, third_part, Closing, settled_end, settle_beside, slot_long, gate_long}
 use Rattle.disk_journal.proofs.journal.Journal.close_banks.Goals as goal
 
 pub close_slot-requires-clause-within : goal.close_slot-requires-clause-within
@@ -71,8 +72,8 @@ returns-in_err-close_gate-clause-any_moment g c = λ told.
     second_part old mid closed journal slot spare sites
     (c.in_ok-close_slot.ensures.any_moment told) (c.in_ok-close_slot.ensures.ends told) (c.close_gate.ensures.any_moment told)
 
-pub clear_spare-requires-clause-within : goal.clear_spare-requires-clause-within
-clear_spare-requires-clause-within g c = λ told.
+pub clear_others-requires-clause-within : goal.clear_others-requires-clause-within
+clear_others-requires-clause-within g c = λ told.
     let old = g.O.Site.trace c.args.site.now in
     let journal : JournalView = record { plan_length = c.self.inside.plan_length; layout = c.self.inside.layout; bank = c.self.inside.bank; generation = c.self.inside.generation; used = c.self.inside.used } in
     let opened : IsOpen old journal = subst (λ (view : JournalView). IsOpen old view) (sym c.self.view_is) (c.requires.opened told) in
@@ -97,8 +98,8 @@ clear_spare-requires-clause-within g c = λ told.
     let same : length closed.now.image ≡ length old.now.image =
     gate_long mid.now.image closed.now.image spare closing.second
     ∙ slot_long old.now.image mid.now.image slot c.self.inside.used c.self.inside.layout.slots closing.first in
-    let blocks = c.blocks-2.ensures in
-    omega (arith, within, same, blocks)
+    let size = c.bank_length.ensures in
+    omega (arith, within, same, size)
 
 pub returns-clause-any_moment : goal.returns-clause-any_moment
 returns-clause-any_moment g c = λ told.
@@ -122,11 +123,11 @@ returns-clause-any_moment g c = λ told.
       second = c.in_ok-close_gate.ensures.ends told;
       spare_shut = (c.in_ok-close_gate.ensures.closed told).1;
     } in
-    third_part old mid closed (g.O.Site.trace c.clear_spare.new.site) journal slot spare closing
+    third_part old mid closed (g.O.Site.trace c.clear_others.new.site) journal slot spare closing
     (second_part old mid closed journal slot spare sites
     (c.in_ok-close_slot.ensures.any_moment told) (c.in_ok-close_slot.ensures.ends told) (c.in_ok-close_gate.ensures.any_moment told))
-    (blocks_moments closed (g.O.Site.trace c.clear_spare.new.site) spare c.blocks-2.result c.self.inside.layout c.blocks-2.ensures
-    (c.clear_spare.ensures.any_moment told))
+    (subst (λ (n : ℕ). EachImage closed (g.O.Site.trace c.clear_others.new.site) (AllBut (spare + 1) (n - 1) closed.now.image))
+    c.bank_length.ensures (c.clear_others.ensures.any_moment told))
 
 pub returns-clause-closed : goal.returns-clause-closed
 returns-clause-closed g c = λ told.
@@ -150,11 +151,12 @@ returns-clause-closed g c = λ told.
       second = c.in_ok-close_gate.ensures.ends told;
       spare_shut = (c.in_ok-close_gate.ensures.closed told).1;
     } in
-    subst (λ (view : JournalView). OnOk c.clear_spare.result (IsSynced (g.O.Site.trace c.clear_spare.new.site).now
-    × IsClosed (g.O.Site.trace c.clear_spare.new.site).now.image view × (held (g.O.Site.trace c.clear_spare.new.site).now.image ≡ held old.now.image))) c.self.view_is
-    (settled_end c.clear_spare.result old mid closed (g.O.Site.trace c.clear_spare.new.site) journal slot spare closing
-    (blocks_cleared c.clear_spare.result closed (g.O.Site.trace c.clear_spare.new.site) spare c.blocks-2.result c.self.inside.layout c.blocks-2.ensures
-    (c.clear_spare.ensures.cleared told)))
+    subst (λ (view : JournalView). OnOk c.clear_others.result (IsSynced (g.O.Site.trace c.clear_others.new.site).now
+    × IsClosed (g.O.Site.trace c.clear_others.new.site).now.image view × (held (g.O.Site.trace c.clear_others.new.site).now.image ≡ held old.now.image))) c.self.view_is
+    (settled_end c.clear_others.result old mid closed (g.O.Site.trace c.clear_others.new.site) journal slot spare closing
+    (subst (λ (n : ℕ). OnOk c.clear_others.result (IsSynced (g.O.Site.trace c.clear_others.new.site).now
+    × IsErased (spare + 1) (n - 1) closed.now.image (g.O.Site.trace c.clear_others.new.site).now.image))
+    c.bank_length.ensures (c.clear_others.ensures.cleared told)))
 
 pub returns-clause-beside : goal.returns-clause-beside
 returns-clause-beside g c = λ told.
@@ -178,8 +180,9 @@ returns-clause-beside g c = λ told.
       second = c.in_ok-close_gate.ensures.ends told;
       spare_shut = (c.in_ok-close_gate.ensures.closed told).1;
     } in
-    subst (λ (view : JournalView). OnOk c.clear_spare.result (KeepsBeside view.layout old.now.image (g.O.Site.trace c.clear_spare.new.site).now.image))
+    subst (λ (view : JournalView). OnOk c.clear_others.result (KeepsBeside view.layout old.now.image (g.O.Site.trace c.clear_others.new.site).now.image))
     c.self.view_is
-    (settle_beside c.clear_spare.result old mid closed (g.O.Site.trace c.clear_spare.new.site) journal slot spare (omega arith) closing
-    (blocks_cleared c.clear_spare.result closed (g.O.Site.trace c.clear_spare.new.site) spare c.blocks-2.result c.self.inside.layout c.blocks-2.ensures
-    (c.clear_spare.ensures.cleared told)))
+    (settle_beside c.clear_others.result old mid closed (g.O.Site.trace c.clear_others.new.site) journal slot spare (omega arith) closing
+    (subst (λ (n : ℕ). OnOk c.clear_others.result (IsSynced (g.O.Site.trace c.clear_others.new.site).now
+    × IsErased (spare + 1) (n - 1) closed.now.image (g.O.Site.trace c.clear_others.new.site).now.image))
+    c.bank_length.ensures (c.clear_others.ensures.cleared told)))
