@@ -32,7 +32,7 @@ pub record Writing (image : List ℕ) (journal : JournalView) (at : ℕ) (body :
 at_place : (image : List ℕ) (journal : JournalView) (at : ℕ) (body : List ℕ) → Writing image journal at body
     → at ≡ slot_at (image_layout image) (current_at image) (first_closed image)
 at_place image journal at body writing =
-    let of_image = writing.of_image.of_image in
+    let of_image = writing.of_image.closed.of_image in
     writing.at_is ∙ ap (λ (n : Layout). slot_at n (bank_at n journal.bank) journal.used) of_image.layout
     ∙ ap (λ (one : Bank). slot_at (image_layout image) (bank_at (image_layout image) one) journal.used) of_image.bank
     ∙ ap (slot_at (image_layout image) (current_at image)) of_image.used
@@ -40,8 +40,8 @@ at_place image journal at body writing =
 appends_of : (image : List ℕ) (journal : JournalView) (at : ℕ) (body : List ℕ) → Writing image journal at body
     → Appends image (image_layout image) (current image) (records image) body
 appends_of image journal at body writing =
-    let used : journal.used ≡ first_closed image = writing.of_image.of_image.used in
-    let slots : journal.layout.slots ≡ slot_count image = ap (λ (one : Layout). one.slots) writing.of_image.of_image.layout in
+    let used : journal.used ≡ first_closed image = writing.of_image.closed.of_image.used in
+    let slots : journal.layout.slots ≡ slot_count image = ap (λ (one : Layout). one.slots) writing.of_image.closed.of_image.layout in
     let room : journal.used < journal.layout.slots = writing.room in
     record { starts = starts_of image journal writing.of_image; room = omega arith; sized = writing.sized }
 
@@ -79,7 +79,7 @@ appended : (old body : List ℕ) (at : ℕ) (journal : JournalView) → Writing 
     → Grown old (overwritten (overwritten old (at + 1) body) at (OPEN ∷ [])) body journal
 appended old body at journal writing =
     let from = current_at old in
-    let before_it = writing.of_image.of_image in
+    let before_it = writing.of_image.closed.of_image in
     let layout = image_layout old in
     let appends = appends_of old journal at body writing in
     let place : at ≡ slot_at layout from (first_closed old) = at_place old journal at body writing in
@@ -111,21 +111,23 @@ appended old body at journal writing =
     ∙ appends.starts.spare i low high in
     record {
       of_image = record {
-        of_image = record {
-          opens = opened.0.opens;
-          plan = before_it.plan ∙ sym (ap (λ (what : Held). length what.plan) opened.0.is);
-          layout = before_it.layout ∙ sym count;
-          bank = before_it.bank ∙ sym one;
-          generation = before_it.generation
-              ∙ sym (ap (λ (at : ℕ). bank_generation new at) (stands_at new layout (current old) (records old ++ body ∷ []) stands) ∙ keeps.same_generation);
-          used = ap (λ (n : ℕ). n + 1) before_it.used
-              ∙ sym (ap (λ (some : List (List ℕ)). length some) bodies ∙ length-append (records old) (body ∷ []));
+        closed = record {
+          of_image = record {
+            opens = opened.0.opens;
+            plan = before_it.plan ∙ sym (ap (λ (what : Held). length what.plan) opened.0.is);
+            layout = before_it.layout ∙ sym count;
+            bank = before_it.bank ∙ sym one;
+            generation = before_it.generation
+                ∙ sym (ap (λ (at : ℕ). bank_generation new at) (stands_at new layout (current old) (records old ++ body ∷ []) stands) ∙ keeps.same_generation);
+            used = ap (λ (n : ℕ). n + 1) before_it.used
+                ∙ sym (ap (λ (some : List (List ℕ)). length some) bodies ∙ length-append (records old) (body ∷ []));
+          };
+          rests = opened.1;
+          spare = subst (λ (n : Layout). IsZero (bank_at n (other (current new))) (bank_at n (other (current new)) + bank_length n) new) (sym count)
+              (subst (λ (bank : Bank). IsZero (bank_at layout (other bank)) (bank_at layout (other bank) + bank_length layout) new) (sym one) spare);
         };
-        rests = opened.1;
         old_banks = subst (λ (n : Layout). IsZero BANKS_AT n.banks new) (sym count)
             (λ i low high. wide.outside i (inl (omega (arith, high, low_bank layout (current old)))) ∙ appends.starts.old_banks i low high);
-        spare = subst (λ (n : Layout). IsZero (bank_at n (other (current new))) (bank_at n (other (current new)) + bank_length n) new) (sym count)
-            (subst (λ (bank : Bank). IsZero (bank_at layout (other bank)) (bank_at layout (other bank) + bank_length layout) new) (sym one) spare);
       };
       same = opened.0.is;
       beside = subst (λ (one : Layout). KeepsBeside one old new) (sym before_it.layout)

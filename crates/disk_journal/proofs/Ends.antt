@@ -23,18 +23,18 @@ use Rattle.std.proofs.lemmas.Bool.{cases_eq}
 pub settled_still : (image : List ℕ) (journal : JournalView) → IsSettledImage image journal → IsStill (image_layout image) image
 settled_still image journal settled old_is = elim (cases_eq (get_or image MIGRATED_AT 0) CLOSED) [
   | inl shut ↦ shut
-  | inr torn ↦ absurd (settled.rests MIGRATED_AT (torn, inr (inr (old_is, refl))))
+  | inr torn ↦ absurd (settled.closed.rests MIGRATED_AT (torn, inr (inr (old_is, refl))))
 ]
 
 -- a journal at rest can turn
 pub starts_of : (image : List ℕ) (journal : JournalView) → IsSettledImage image journal → Starts image (image_layout image) (current image) (records image)
 starts_of image journal settled = record {
-  stands = opens_stands image settled.of_image.opens;
+  stands = opens_stands image settled.closed.of_image.opens;
   free = λ room. elim (cases_eq (slot_gate (image_layout image) image (current_at image) (first_closed image)) CLOSED) [
     | inl shut ↦ shut
-    | inr torn ↦ absurd (settled.rests (slot_at (image_layout image) (current_at image) (first_closed image)) (torn, inl (room, refl)))
+    | inr torn ↦ absurd (settled.closed.rests (slot_at (image_layout image) (current_at image) (first_closed image)) (torn, inl (room, refl)))
   ];
-  spare = settled.spare;
+  spare = settled.closed.spare;
   still = settled_still image journal settled;
   old_banks = settled.old_banks;
 }
@@ -44,7 +44,7 @@ pub turns_of : (image text : List ℕ) (journal : JournalView) (generation : ℕ
 turns_of image text journal generation settled sized later = record {
   starts = starts_of image journal settled;
   sized = sized;
-  later = later ∙ ap next settled.of_image.generation;
+  later = later ∙ ap next settled.closed.of_image.generation;
 }
 
 -- the images between the steps
@@ -167,18 +167,20 @@ ended old layout generation bank bodies text image turns cleared =
     (subst (λ (one : Bank). IsZero (bank_at layout (other one)) (bank_at layout (other one) + bank_length layout) image) (sym is_current) spare) in
     record {
       of_image = λ plan_length planned. record {
-        of_image = record {
-          opens = stands_opens image layout (other bank) [] stands;
-          plan = planned ∙ ap (λ (text : List ℕ). length text) (sym image_new.plan);
-          layout = sym count;
-          bank = sym is_current;
-          generation = sym (ap (λ (at : ℕ). bank_generation image at) (stands_at image layout (other bank) [] stands)
-              ∙ fresh_generation (bank_at layout (other bank)) layout generation text image image_new.fresh (later_fits old layout generation bank bodies text turns));
-          used = ap (λ (some : List (List ℕ)). length some) (sym none);
+        closed = record {
+          of_image = record {
+            opens = stands_opens image layout (other bank) [] stands;
+            plan = planned ∙ ap (λ (text : List ℕ). length text) (sym image_new.plan);
+            layout = sym count;
+            bank = sym is_current;
+            generation = sym (ap (λ (at : ℕ). bank_generation image at) (stands_at image layout (other bank) [] stands)
+                ∙ fresh_generation (bank_at layout (other bank)) layout generation text image image_new.fresh (later_fits old layout generation bank bodies text turns));
+            used = ap (λ (some : List (List ℕ)). length some) (sym none);
+          };
+          rests = new_rests old image layout generation bank text image_new shut;
+          spare = spare_there;
         };
-        rests = new_rests old image layout generation bank text image_new shut;
         old_banks = subst (λ (n : Layout). IsZero BANKS_AT n.banks image) (sym count) old_banks;
-        spare = spare_there;
       };
       holds = new_holds old layout generation (other bank) text image image_new;
       beside = beside;
@@ -210,8 +212,8 @@ pub record Placed (image : List ℕ) (journal : JournalView) (from to : ℕ) (ba
 pub placed : (image : List ℕ) (journal : JournalView) (from to generation : ℕ) (bank : Bank) → Written image journal from to generation bank
     → Placed image journal from to bank
 placed image journal from to generation bank written =
-    let layout : journal.layout ≡ image_layout image = written.of_image.of_image.layout in
-    let here : journal.bank ≡ current image = written.of_image.of_image.bank in
+    let layout : journal.layout ≡ image_layout image = written.of_image.closed.of_image.layout in
+    let here : journal.bank ≡ current image = written.of_image.closed.of_image.bank in
     let bank_same : bank ≡ other (current image) = written.bank_is ∙ ap other here in
     record {
       same_layout = layout;
@@ -236,7 +238,7 @@ turn_within old journal from to generation bank written =
 
 sized_there : (image : List ℕ) (journal : JournalView) (text : List ℕ) → IsSettledImage image journal
     → length text ≡ journal.layout.content_length → length text ≡ (image_layout image).content_length
-sized_there image journal text settled sized = sized ∙ ap (λ (one : Layout). one.content_length) settled.of_image.layout
+sized_there image journal text settled sized = sized ∙ ap (λ (one : Layout). one.content_length) settled.closed.of_image.layout
 
 pub turn_moments : (old new : Trace) (journal : JournalView) (text : List ℕ) (from to generation : ℕ) (bank : Bank)
     → Written old.now.image journal from to generation bank → length text ≡ journal.layout.content_length
@@ -281,7 +283,7 @@ turn_stored old new journal text from to generation bank written sized stored =
         synced = stored.0;
         of_image = subst (λ (n : Layout). IsSettledImage new.now.image (fresh_view journal.plan_length n bank generation)) (sym at.same_layout)
             (subst (λ (one : Bank). IsSettledImage new.now.image (fresh_view journal.plan_length (image_layout old.now.image) one generation)) (sym at.bank_same)
-            (end.of_image journal.plan_length written.of_image.of_image.plan));
+            (end.of_image journal.plan_length written.of_image.closed.of_image.plan));
       },
       end.holds.is,
     )

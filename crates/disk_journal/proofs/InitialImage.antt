@@ -335,22 +335,24 @@ begins_settled form plan slots text made =
     record {
       holds = subst (λ (some : List ℕ). Holds image (held_by some layout text [])) planned held_is;
       settled = record {
-        of_image = record {
-          opens = held_is.opens;
-          plan = ap (λ (some : List ℕ). length some) (sym planned);
-          layout = sym is_layout;
-          bank = sym is_current;
-          generation = sym (ap (λ (at : ℕ). bank_generation image at) (stands_at image layout First [] stands)
-              ∙ fresh_generation (bank_at layout First) layout FIRST_GENERATION text image is_new.fresh (omega arith));
-          used = ap (λ (bodies : List (List ℕ)). length bodies) (sym (stands_records image layout First [] stands));
+        closed = record {
+          of_image = record {
+            opens = held_is.opens;
+            plan = ap (λ (some : List ℕ). length some) (sym planned);
+            layout = sym is_layout;
+            bank = sym is_current;
+            generation = sym (ap (λ (at : ℕ). bank_generation image at) (stands_at image layout First [] stands)
+                ∙ fresh_generation (bank_at layout First) layout FIRST_GENERATION text image is_new.fresh (omega arith));
+            used = ap (λ (bodies : List (List ℕ)). length bodies) (sym (stands_records image layout First [] stands));
+          };
+          rests = new_rests image image layout FIRST_GENERATION Second text is_new other_shut;
+          spare = subst (λ (one : Layout). IsZero (bank_at one (other (current image))) (bank_at one (other (current image)) + bank_length one) image)
+              (sym is_layout)
+              (subst (λ (one : Bank). IsZero (bank_at layout (other one)) (bank_at layout (other one) + bank_length layout) image) (sym is_current)
+              (λ i low high. spare_zero form plan slots text i made low));
         };
-        rests = new_rests image image layout FIRST_GENERATION Second text is_new other_shut;
         old_banks = subst (λ (one : Layout). IsZero BANKS_AT one.banks image) (sym is_layout)
             (λ i low high. absurd (omega (arith, at, low, high)));
-        spare = subst (λ (one : Layout). IsZero (bank_at one (other (current image))) (bank_at one (other (current image)) + bank_length one) image)
-            (sym is_layout)
-            (subst (λ (one : Bank). IsZero (bank_at layout (other one)) (bank_at layout (other one) + bank_length layout) image) (sym is_current)
-            (λ i low high. spare_zero form plan slots text i made low));
       };
     }
 

@@ -34,15 +34,15 @@ pub is_moving : (image : List ℕ) (journal inside : JournalView) (layout : Layo
 is_moving image journal inside layout same settled old_is layout_is = record {
   of_image = settled;
   old_form = old_is;
-  plan = ap (λ (view : JournalView). view.plan_length) same ∙ settled.of_image.plan;
-  layout_is = layout_is ∙ ap (λ (view : JournalView). migrated_layout view.layout) same ∙ ap migrated_layout settled.of_image.layout;
+  plan = ap (λ (view : JournalView). view.plan_length) same ∙ settled.closed.of_image.plan;
+  layout_is = layout_is ∙ ap (λ (view : JournalView). migrated_layout view.layout) same ∙ ap migrated_layout settled.closed.of_image.layout;
 }
 
 moves_of : (image : List ℕ) (journal : JournalView) (plan_length : ℕ) (layout : Layout) → IsMoving image journal plan_length layout
     → Moves image (image_layout image) (current image) (records image)
 moves_of image journal plan_length layout moving = record {
   starts = starts_of image journal moving.of_image;
-  old_form = ap (λ (one : Layout). one.form) (sym moving.of_image.of_image.layout) ∙ moving.old_form;
+  old_form = ap (λ (one : Layout). one.form) (sym moving.of_image.closed.of_image.layout) ∙ moving.old_form;
 }
 
 pub move_within : (image : List ℕ) (journal : JournalView) (plan_length : ℕ) (layout : Layout) → IsMoving image journal plan_length layout
@@ -82,19 +82,21 @@ migrated_end old layout generation text image moved fits old_banks =
     λ i low high. moved.banks.zero i (omega arith) (omega arith) in
     record {
       of_image = λ plan_length planned. record {
-        of_image = record {
-          opens = stands_opens image layout First [] stands;
-          plan = planned ∙ ap (λ (octets : List ℕ). length octets) (sym moved.plan);
-          layout = sym count;
-          bank = sym is_current;
-          generation = sym (ap (λ (at : ℕ). bank_generation image at) (stands_at image layout First [] stands)
-              ∙ fresh_generation (bank_at layout First) layout generation text image (migrated_fresh old layout generation text image moved) fits);
-          used = ap (λ (some : List (List ℕ)). length some) (sym (stands_records image layout First [] stands));
+        closed = record {
+          of_image = record {
+            opens = stands_opens image layout First [] stands;
+            plan = planned ∙ ap (λ (octets : List ℕ). length octets) (sym moved.plan);
+            layout = sym count;
+            bank = sym is_current;
+            generation = sym (ap (λ (at : ℕ). bank_generation image at) (stands_at image layout First [] stands)
+                ∙ fresh_generation (bank_at layout First) layout generation text image (migrated_fresh old layout generation text image moved) fits);
+            used = ap (λ (some : List (List ℕ)). length some) (sym (stands_records image layout First [] stands));
+          };
+          rests = migrated_rests old layout generation text image moved;
+          spare = subst (λ (one : Layout). IsZero (bank_at one (other (current image))) (bank_at one (other (current image)) + bank_length one) image) (sym count)
+              (subst (λ (one : Bank). IsZero (bank_at layout (other one)) (bank_at layout (other one) + bank_length layout) image) (sym is_current) spare);
         };
-        rests = migrated_rests old layout generation text image moved;
         old_banks = subst (λ (one : Layout). IsZero BANKS_AT one.banks image) (sym count) old_banks;
-        spare = subst (λ (one : Layout). IsZero (bank_at one (other (current image))) (bank_at one (other (current image)) + bank_length one) image) (sym count)
-            (subst (λ (one : Bank). IsZero (bank_at layout (other one)) (bank_at layout (other one) + bank_length layout) image) (sym is_current) spare);
       };
       holds = migrated_holds old layout generation text image moved;
       rest = subst (λ (one : Layout). IsRestIn one image First generation text) (sym count) (record {

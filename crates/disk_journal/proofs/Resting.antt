@@ -197,22 +197,22 @@ second_moments old mid new journal opened first shut each next =
     still.same still.gates settles) next)
 
 erased_of : (old mid closed : Trace) (image : List ℕ) (journal : JournalView) (size : ℕ) → Stages old mid closed journal
-    → BANKS_AT + size ≡ journal.layout.banks → AllBut BANKS_AT (size) closed.now.image image
+    → BANKS_AT + size ≡ journal.layout.banks → AllBut BANKS_AT size closed.now.image image
     → Erased closed.now.image image
 erased_of old mid closed image journal size stages sized change =
     let of_image = stages.is_closed.of_image in
     let banks : journal.layout.banks ≡ (image_layout closed.now.image).banks = ap (λ (one : Layout). one.banks) of_image.layout in
-    erased closed.now.image image BANKS_AT (size) of_image.opens stages.is_closed.rests change (omega arith) (omega (arith, sized, banks))
+    erased closed.now.image image BANKS_AT size of_image.opens stages.is_closed.rests change (omega arith) (omega (arith, sized, banks))
 
 pub third_moments : (old mid closed new : Trace) (journal : JournalView) (size : ℕ) → Stages old mid closed journal
     → BANKS_AT + size ≡ journal.layout.banks
-    → EachImage old closed (Settles old.now.image) → EachImage closed new (AllBut BANKS_AT (size) closed.now.image)
+    → EachImage old closed (Settles old.now.image) → EachImage closed new (AllBut BANKS_AT size closed.now.image)
     → EachImage old new (Settles old.now.image)
 third_moments old mid closed new journal size stages sized each next =
     let still = stilled old.now.image mid.now.image journal stages.opened.of_image stages.first stages.shut in
     let same : held closed.now.image ≡ held old.now.image = stages.same ∙ still.same in
     image_then old closed new (Settles old.now.image) each
-    (image_weaker closed new (AllBut BANKS_AT (size) closed.now.image) (Settles old.now.image)
+    (image_weaker closed new (AllBut BANKS_AT size closed.now.image) (Settles old.now.image)
     (λ image change.
     let done = erased_of old mid closed image journal size stages sized change in
     inr (rest_becomes (held old.now.image) (held old.now.image) image
@@ -221,7 +221,7 @@ third_moments old mid closed new journal size stages sized each next =
 -- the end
 pub rested_end : {E : Type 0} → (result : Result (Unit {0}) E) (old mid closed new : Trace) (journal : JournalView) (size : ℕ)
     → Stages old mid closed journal → BANKS_AT + size ≡ journal.layout.banks
-    → OnOk result (IsSynced new.now × IsErased BANKS_AT (size) closed.now.image new.now.image)
+    → OnOk result (IsSynced new.now × IsErased BANKS_AT size closed.now.image new.now.image)
     → OnOk result (IsSettled new journal × (held new.now.image ≡ held old.now.image))
 rested_end (Err error) old mid closed new journal size stages sized made = tt
 rested_end (Ok value) old mid closed new journal size stages sized made =
@@ -241,21 +241,23 @@ rested_end (Ok value) old mid closed new journal size stages sized made =
       record {
         synced = made.0;
         of_image = record {
-          of_image = record {
-            opens = done.holds.opens;
-            plan = of_image.plan ∙ sym (ap (λ (what : Held). length what.plan) done.holds.is);
-            layout = of_image.layout ∙ sym count;
-            bank = of_image.bank ∙ sym one;
-            generation = of_image.generation
-                ∙ sym (ap (λ (at : ℕ). bank_generation after at) (stands_at after (image_layout image) (current image) (records image) done.stands)
-                ∙ done.banks.generation);
-            used = of_image.used ∙ ap (λ (bodies : List (List ℕ)). length bodies) (sym same);
+          closed = record {
+            of_image = record {
+              opens = done.holds.opens;
+              plan = of_image.plan ∙ sym (ap (λ (what : Held). length what.plan) done.holds.is);
+              layout = of_image.layout ∙ sym count;
+              bank = of_image.bank ∙ sym one;
+              generation = of_image.generation
+                  ∙ sym (ap (λ (at : ℕ). bank_generation after at) (stands_at after (image_layout image) (current image) (records image) done.stands)
+                  ∙ done.banks.generation);
+              used = of_image.used ∙ ap (λ (bodies : List (List ℕ)). length bodies) (sym same);
+            };
+            rests = done.rests;
+            spare = subst (λ (n : Layout). IsZero (bank_at n (other (current after))) (bank_at n (other (current after)) + bank_length n) after) (sym count)
+                (subst (λ (bank : Bank). IsZero (bank_at (image_layout image) (other bank)) (bank_at (image_layout image) (other bank) + bank_length (image_layout image)) after) (sym one)
+                spare);
           };
-          rests = done.rests;
           old_banks = subst (λ (n : ℕ). IsZero BANKS_AT n after) (sized ∙ banks ∙ sym (ap (λ (one : Layout). one.banks) count)) made.1.zero;
-          spare = subst (λ (n : Layout). IsZero (bank_at n (other (current after))) (bank_at n (other (current after)) + bank_length n) after) (sym count)
-              (subst (λ (bank : Bank). IsZero (bank_at (image_layout image) (other bank)) (bank_at (image_layout image) (other bank) + bank_length (image_layout image)) after) (sym one)
-              spare);
         };
       },
       done.holds.is ∙ stages.same ∙ still.same,
@@ -264,7 +266,7 @@ rested_end (Ok value) old mid closed new journal size stages sized made =
 -- what stands beside all banks
 pub rested_beside : {E : Type 0} → (result : Result (Unit {0}) E) (old mid closed new : Trace) (journal : JournalView) (size : ℕ)
     → Stages old mid closed journal → BANKS_AT + size ≡ journal.layout.banks
-    → OnOk result (IsSynced new.now × IsErased BANKS_AT (size) closed.now.image new.now.image)
+    → OnOk result (IsSynced new.now × IsErased BANKS_AT size closed.now.image new.now.image)
     → OnOk result (KeepsPlan journal.layout old.now.image new.now.image)
 rested_beside (Err error) old mid closed new journal size stages sized made = tt
 rested_beside (Ok value) old mid closed new journal size stages sized made =

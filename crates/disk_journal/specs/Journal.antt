@@ -38,19 +38,16 @@ pub record IsOpen (trace : Trace) (journal : JournalView) : Type 0 where
   pub synced : IsSynced trace.now
   pub of_image : IsJournalOf trace.now.image journal
 
--- Its closed gates are 0 too, and the other bank is zero.
+-- The journal is the one of the image, whose closed gates are 0 and whose other bank is zero.
 pub record IsClosed (image : List ℕ) (journal : JournalView) : Type 0 where
   pub of_image : IsJournalOf image journal
   pub rests : IsAtRest image
   pub spare : IsZero (other_at image) (other_at image + bank_length (image_layout image)) image
 
--- Its closed gates are 0 too, and the other bank is zero, so that it can take a record or turn. If it was migrated, its
--- old banks are zero.
+-- If it was migrated, its old banks are zero too. It can take a record or turn.
 pub record IsSettledImage (image : List ℕ) (journal : JournalView) : Type 0 where
-  pub of_image : IsJournalOf image journal
-  pub rests : IsAtRest image
+  pub closed : IsClosed image journal
   pub old_banks : IsZero BANKS_AT (image_layout image).banks image
-  pub spare : IsZero (other_at image) (other_at image + bank_length (image_layout image)) image
 
 pub record IsSettled (trace : Trace) (journal : JournalView) : Type 0 where
   pub synced : IsSynced trace.now

@@ -64,7 +64,7 @@ module _ (text : List ℕ) (plan : PlanLines) (first : State) (said : SaysPlan t
   }
 
   pub beginning_rests : IsAtRest (image_of_plan text plan first)
-  beginning_rests = begins_at_rest.settled.rests
+  beginning_rests = begins_at_rest.settled.closed.rests
 
   pub beginning_holds : Holds (image_of_plan text plan first) (held_of_plan text plan first)
   beginning_holds = begins_at_rest.holds

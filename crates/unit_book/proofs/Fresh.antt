@@ -27,9 +27,9 @@ fresh_history now start journal settled shows =
     let shows_now : (image : List ℕ) → Leaves now.now image → ShowsFrom start [] 0 image = λ image leaves.
     let same : image ≡ now.now.image = synced_leaves now.now image settled.synced leaves in
     subst (λ (octets : List ℕ). ShowsFrom start [] 0 octets) (sym same)
-    (shows_from_all start [] now.now.image shows settled.of_image.rests) in
+    (shows_from_all start [] now.now.image shows settled.of_image.closed.rests) in
     let rests : (image : List ℕ) → Leaves now.now image → IsAtRest image = λ image leaves.
-    subst IsAtRest (sym (synced_leaves now.now image settled.synced leaves)) settled.of_image.rests in
+    subst IsAtRest (sym (synced_leaves now.now image settled.synced leaves)) settled.of_image.closed.rests in
     let here : Between (before ++ []) (before ++ []) before =
     subst (λ (octets : List ℕ). Between octets octets before) (sym (append_nil before))
     (record { least = omega arith; prefix = sym (take_all (length before) before (omega arith)) }) in

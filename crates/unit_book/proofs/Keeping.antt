@@ -177,7 +177,7 @@ module _ (told : Bool) (old : BookView) (entry : Entry)
               settled = s.done.0;
               shows = record {
                 what = s.next;
-                holds = record { opens = s.done.0.of_image.of_image.opens; is = s.done.1 };
+                holds = record { opens = s.done.0.of_image.closed.of_image.opens; is = s.done.1 };
                 says = subst (λ (entries : List Entry). Says s.next (restarted (after old.start entries))) (sym more)
                     (next_entry s.next s.says is_told).then;
               };

@@ -33,8 +33,8 @@ pub used_held : (now : Trace) (journal : JournalView) (image : List ℕ) → IsS
 used_held now journal image settled two (inl same) =
     let version : version_in image ≡ Two = ap (λ (what : Held). what.version) (sym same)
     ∙ of_two now journal settled two in
-    settled.of_image.of_image.used ∙ ap (λ (what : Held). length what.records) same
+    settled.of_image.closed.of_image.used ∙ ap (λ (what : Held). length what.records) same
     ∙ used_same image (version_in image) refl version
 used_held now journal image settled two (inr migration) =
-    settled.of_image.of_image.used ∙ ap (λ (what : Held). length what.records) migration.is
+    settled.of_image.closed.of_image.used ∙ ap (λ (what : Held). length what.records) migration.is
     ∙ sym (used_none image (version_in image) migration.of_one)

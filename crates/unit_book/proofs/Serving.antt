@@ -325,7 +325,7 @@ stored_history opened old new start journal log entry standing next says history
       (subst (λ (octets : List ℕ). ShowsFrom start (entries_of log ++ entry ∷ []) (length (entries_of log) + 1) octets)
       (sym (left_settled new journal settled image leaves))
       (shows_next start (entries_of log) entry next new.now.image
-      (record { opens = settled.of_image.of_image.opens; is = holds }) settled.of_image.rests says.then)));
+      (record { opens = settled.of_image.closed.of_image.opens; is = holds }) settled.of_image.closed.rests says.then)));
   idle = λ none. absurd (some_entry log entry none);
 }
 

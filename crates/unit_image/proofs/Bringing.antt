@@ -34,7 +34,7 @@ is_content image state shows rules rows =
 pub version_is : (now : Trace) (journal : JournalView) (version : Version) → IsSettled now journal → version ≡ version_of journal.layout.form
     → version_in now.now.image ≡ version
 version_is now journal version settled is =
-    ap (λ (layout : Layout). version_of layout.form) (sym settled.of_image.of_image.layout) ∙ sym is
+    ap (λ (layout : Layout). version_of layout.form) (sym settled.of_image.closed.of_image.layout) ∙ sym is
 
 -- an image of version 2 stays as it is
 pub brings_none : {Value Error : Type 0} (state : State) (result : Result Value Error) (journal : JournalView) (now : Trace) → IsSettled now journal

@@ -43,7 +43,7 @@ resting now journal settled = record {
   where
     here : Becomes (held now.now.image) (held now.now.image) now.now.image
     here = rest_becomes (held now.now.image) (held now.now.image) now.now.image
-        (inl (record { opens = settled.of_image.of_image.opens; is = refl })) settled.of_image.rests
+        (inl (record { opens = settled.of_image.closed.of_image.opens; is = refl })) settled.of_image.closed.rests
 
 pub on_ok : {T E P : Type 0} (result : Result T E) → P → OnOk result P
 on_ok (Ok value) p = p
@@ -113,7 +113,7 @@ stores_turn state change content result journal old new is of_two becomes done =
 
 -- the journal of an image of version 2
 pub of_two : (now : Trace) (journal : JournalView) → IsSettled now journal → IsOfTwo journal → version_in now.now.image ≡ Two
-of_two now journal settled two = ap (λ (layout : Layout). version_of layout.form) (sym settled.of_image.of_image.layout) ∙ two.version
+of_two now journal settled two = ap (λ (layout : Layout). version_of layout.form) (sym settled.of_image.closed.of_image.layout) ∙ two.version
 
 pub both : {T E : Type 0} (P Q : Type 0) (result : Result T E) → OnOk result P → OnOk result Q → OnOk result (P × Q)
 both P Q (Ok value) p q = (p, q)

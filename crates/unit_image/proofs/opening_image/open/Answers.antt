@@ -12,7 +12,7 @@ returns-in-Ok-bring_up-clause-shows g c = λ told.
     let brings = c.in-Ok-bring_up.ensures.brings told in (
       (c.in-Ok-show.ensures.shows told).0,
       next_shows mid.now.image new.now.image c.in-Ok-show.opened.state (c.in-Ok-show.ensures.shows told).1
-          (record { opens = brings.done.0.of_image.of_image.opens; is = refl })
+          (record { opens = brings.done.0.of_image.closed.of_image.opens; is = refl })
           (subst (IsBroughtUp c.in-Ok-show.opened.state (held mid.now.image)) (sym brings.done.1) brings.is),
     )
 
