@@ -30,7 +30,8 @@ choice first second a b = chosen (first == OPEN) (second == OPEN) (b == next a)
 pub first_chosen : (first second a b : ℕ) → IsNewest first second a b → choice first second a b ≡ First
 first_chosen first second a b (here, inl closed) = rw (is_false second OPEN closed) refl
 first_chosen first second a b (here, inr later) =
-    rw (is_true first OPEN here) (rw (is_false b (next a) (λ earlier. not_both a b later earlier)) (elim (cases_eq second OPEN) [
+    rw (is_true first OPEN here) (rw (is_false b (next a) (λ earlier. not_both a b later earlier))
+    (elim (cases_eq second OPEN) [
       | inl is_open ↦ rw (is_true second OPEN is_open) refl
       | inr closed ↦ rw (is_false second OPEN closed) refl
     ]))
@@ -46,7 +47,8 @@ second_chosen first second a b (here, inr later) =
 -- the checks of the banks pass
 pub first_passes : (first second a b low at : ℕ) → IsNewest first second a b
     → first_failing (bank_checks (first == OPEN) (second == OPEN) a b low at) ≡ None
-first_passes first second a b low at (here, inl closed) = rw (is_true first OPEN here) (rw (is_false second OPEN closed) refl)
+first_passes first second a b low at (here, inl closed) = rw (is_true first OPEN here)
+    (rw (is_false second OPEN closed) refl)
 first_passes first second a b low at (here, inr later) =
     rw (is_true first OPEN here) (rw (is_true a (next b) later) (elim (cases_eq second OPEN) [
       | inl is_open ↦ rw (is_true second OPEN is_open) (elim (cases_eq b (next a)) [
@@ -58,7 +60,8 @@ first_passes first second a b low at (here, inr later) =
 
 pub second_passes : (first second a b low at : ℕ) → IsNewest second first b a
     → first_failing (bank_checks (first == OPEN) (second == OPEN) a b low at) ≡ None
-second_passes first second a b low at (here, inl closed) = rw (is_true second OPEN here) (rw (is_false first OPEN closed) refl)
+second_passes first second a b low at (here, inl closed) = rw (is_true second OPEN here)
+    (rw (is_false first OPEN closed) refl)
 second_passes first second a b low at (here, inr later) =
     rw (is_true second OPEN here) (rw (is_true b (next a) later) (elim (cases_eq first OPEN) [
       | inl is_open ↦ rw (is_true first OPEN is_open) refl
@@ -70,8 +73,10 @@ abbrev pub Decided : Bank → ℕ → ℕ → ℕ → ℕ → Type 0
 Decided First first second a b = IsNewest first second a b
 Decided Second first second a b = IsNewest second first b a
 
-both_open : (first second a b low at : ℕ) (t u : Bool) → (b == next a) ≡ t → (a == next b) ≡ u → first ≡ OPEN → second ≡ OPEN
-    → first_failing (bank_checks (first == OPEN) (second == OPEN) a b low at) ≡ None → Decided (choice first second a b) first second a b
+both_open : (first second a b low at : ℕ) (t u : Bool) → (b == next a) ≡ t → (a == next b) ≡ u → first ≡ OPEN
+    → second ≡ OPEN
+    → first_failing (bank_checks (first == OPEN) (second == OPEN) a b low at) ≡ None → Decided
+    (choice first second a b) first second a b
 both_open first second a b low at true u e f one two none =
     rw (is_true first OPEN one) (rw (is_true second OPEN two) (rw e (two, inr (grind (arith, nat_tests)))))
 both_open first second a b low at false true e f one two none =
@@ -79,7 +84,8 @@ both_open first second a b low at false true e f one two none =
 both_open first second a b low at false false e f one two none =
     absurd (let gone = is_true first OPEN one in let too = is_true second OPEN two in cc)
 
-pub decided : (first second a b low at : ℕ) → first_failing (bank_checks (first == OPEN) (second == OPEN) a b low at) ≡ None
+pub decided : (first second a b low at : ℕ) → first_failing
+    (bank_checks (first == OPEN) (second == OPEN) a b low at) ≡ None
     → Decided (choice first second a b) first second a b
 decided first second a b low at none = elim (cases_eq first OPEN) [
   | inl one ↦ elim (cases_eq second OPEN) [

@@ -1,12 +1,18 @@
 -- A whole turn.
-use Rattle.std.proofs.Common.{◌≡◌, ℕ, ◌+◌, ◌-◌, ◌<◌, ◌≤◌, ◌∷◌, ◌∙◌, List, [], length, get_or, refl, sym, ap, subst, inl, inr, arith}
+use Rattle.std.proofs.Common.{◌≡◌, ℕ, ◌+◌, ◌-◌, ◌<◌, ◌≤◌, ◌∷◌, ◌∙◌, List, [], length, get_or, refl, sym, ap, subst, inl}
+use Rattle.std.proofs.Common.{inr, arith}
 use Rattle.disk_journal.proofs.Keeping.{beside_of, beside_then, fresh_generation}
-use Rattle.disk_journal.proofs.Stands.{IsStill, Stands, opens_stands, stands_at, stands_current, stands_opens, stands_records, twice_other}
-use Rattle.disk_journal.proofs.Turns.{IsNew, Opened, Starts, Turns, after, bank_within, before, first_step, fourth_step, gate_inside, gate_torn, is_filled, later_fits, new_holds, new_rests, new_stands, rest_new, second_step, third_step, with_other_gate}
-use Rattle.disk_journal.specs.Banks.{bank_at, bank_length, slot_gate, bank_generation, head_length, next, other, slot_at}
+use Rattle.disk_journal.proofs.Stands.{IsStill, Stands, opens_stands, stands_at, stands_current, stands_opens}
+use Rattle.disk_journal.proofs.Stands.{stands_records, twice_other}
+use Rattle.disk_journal.proofs.Turns.{IsNew, Opened, Starts, Turns, after, bank_within, before, first_step, fourth_step}
+use Rattle.disk_journal.proofs.Turns.{gate_inside, gate_torn, is_filled, later_fits, new_holds, new_rests, new_stands}
+use Rattle.disk_journal.proofs.Turns.{rest_new, second_step, third_step, with_other_gate}
+use Rattle.disk_journal.specs.Banks.{bank_at, bank_length, slot_gate, bank_generation, head_length, next, other}
+use Rattle.disk_journal.specs.Banks.{slot_at}
 use Rattle.disk_journal.specs.Changes.{IsErased, IsZero, KeepsBeside, Steps, filled, with_gate}
 use Rattle.disk_journal.specs.Forms.{Becomes, Holds}
-use Rattle.disk_journal.specs.Image.{current, current_at, first_closed, held, image_layout, other_at, plan_of, records, turned}
+use Rattle.disk_journal.specs.Image.{current, current_at, first_closed, held, image_layout, other_at, plan_of, records}
+use Rattle.disk_journal.specs.Image.{turned}
 use Rattle.disk_journal.specs.Journal.{IsSettled, IsSettledImage, JournalView}
 use Rattle.disk_journal.specs.Rest.{IsRest, IsRestIn}
 use Rattle.disk_journal.specs.declared.layout.Bank.{Bank}
@@ -20,27 +26,32 @@ use Rattle.sdls_outside.specs.Moments.{Trace}
 use Rattle.std.proofs.lemmas.Bool.{cases_eq}
 
 -- an image at rest is not on its way to be migrated
-pub settled_still : (image : List ℕ) (journal : JournalView) → IsSettledImage image journal → IsStill (image_layout image) image
+pub settled_still : (image : List ℕ) (journal : JournalView) → IsSettledImage image journal → IsStill
+    (image_layout image) image
 settled_still image journal settled old_is = elim (cases_eq (get_or image MIGRATED_AT 0) CLOSED) [
   | inl shut ↦ shut
   | inr torn ↦ absurd (settled.closed.rests MIGRATED_AT (torn, inr (inr (old_is, refl))))
 ]
 
 -- a journal at rest can turn
-pub starts_of : (image : List ℕ) (journal : JournalView) → IsSettledImage image journal → Starts image (image_layout image) (current image) (records image)
+pub starts_of : (image : List ℕ) (journal : JournalView) → IsSettledImage image journal → Starts image
+    (image_layout image) (current image) (records image)
 starts_of image journal settled = record {
   stands = opens_stands image settled.closed.of_image.opens;
   free = λ room. elim (cases_eq (slot_gate (image_layout image) image (current_at image) (first_closed image)) CLOSED) [
     | inl shut ↦ shut
-    | inr torn ↦ absurd (settled.closed.rests (slot_at (image_layout image) (current_at image) (first_closed image)) (torn, inl (room, refl)))
+    | inr torn ↦ absurd (settled.closed.rests (slot_at (image_layout image) (current_at image) (first_closed image))
+        (torn, inl (room, refl)))
   ];
   spare = settled.closed.spare;
   still = settled_still image journal settled;
   old_banks = settled.old_banks;
 }
 
-pub turns_of : (image text : List ℕ) (journal : JournalView) (generation : ℕ) → IsSettledImage image journal → length text ≡ (image_layout image).content_length
-    → generation ≡ next journal.generation → Turns image (image_layout image) generation (current image) (records image) text
+pub turns_of : (image text : List ℕ) (journal : JournalView) (generation : ℕ) → IsSettledImage image journal
+    → length text ≡ (image_layout image).content_length
+    → generation ≡ next journal.generation → Turns image (image_layout image) generation (current image)
+    (records image) text
 turns_of image text journal generation settled sized later = record {
   starts = starts_of image journal settled;
   sized = sized;
@@ -50,7 +61,8 @@ turns_of image text journal generation settled sized later = record {
 -- the images between the steps
 opened_image : (old : List ℕ) (layout : Layout) (generation : ℕ) (bank : Bank) (bodies : List (List ℕ)) (text : List ℕ)
     → Turns old layout generation bank bodies text
-    → Opened old layout generation bank text (with_gate OPEN (bank_at layout (other bank)) (filled (bank_at layout (other bank)) generation text old))
+    → Opened old layout generation bank text
+    (with_gate OPEN (bank_at layout (other bank)) (filled (bank_at layout (other bank)) generation text old))
 opened_image old layout generation bank bodies text turns =
     let to = bank_at layout (other bank) in
     let mid = filled to generation text old in
@@ -67,7 +79,8 @@ pub record Closed (old : List ℕ) (layout : Layout) (generation : ℕ) (bank : 
 closed_image : (old : List ℕ) (layout : Layout) (generation : ℕ) (bank : Bank) (bodies : List (List ℕ)) (text : List ℕ)
     → Turns old layout generation bank bodies text
     → Closed old layout generation bank text
-    (with_gate CLOSED (bank_at layout bank) (with_gate OPEN (bank_at layout (other bank)) (filled (bank_at layout (other bank)) generation text old)))
+    (with_gate CLOSED (bank_at layout bank)
+    (with_gate OPEN (bank_at layout (other bank)) (filled (bank_at layout (other bank)) generation text old)))
 closed_image old layout generation bank bodies text turns =
     let from = bank_at layout bank in
     let to = bank_at layout (other bank) in
@@ -82,21 +95,26 @@ closed_image old layout generation bank bodies text turns =
     }
 
 -- each moment
-pub steps_become : (old : List ℕ) (layout : Layout) (generation : ℕ) (bank : Bank) (bodies : List (List ℕ)) (text image : List ℕ)
+pub steps_become : (old : List ℕ) (layout : Layout) (generation : ℕ) (bank : Bank) (bodies : List (List ℕ))
+    (text image : List ℕ)
     → Turns old layout generation bank bodies text
-    → Steps (bank_at layout bank) (bank_at layout (other bank)) (head_length layout) (bank_length layout) generation text old image
+    → Steps (bank_at layout bank) (bank_at layout (other bank)) (head_length layout)
+    (bank_length layout) generation text old image
     → Becomes (before old layout bank bodies) (after old layout text) image
 steps_become old layout generation bank bodies text image turns (inl change) =
     first_step old layout generation bank bodies text image turns change
 steps_become old layout generation bank bodies text image turns (inr (inl change)) =
-    second_step old (filled (bank_at layout (other bank)) generation text old) image layout generation bank bodies text turns
+    second_step old (filled (bank_at layout (other bank)) generation text old) image layout generation bank bodies text
+    turns
     (is_filled old layout generation bank bodies text turns) change
 steps_become old layout generation bank bodies text image turns (inr (inr (inl change))) =
-    third_step old (with_gate OPEN (bank_at layout (other bank)) (filled (bank_at layout (other bank)) generation text old)) image
+    third_step old (with_gate OPEN (bank_at layout (other bank))
+    (filled (bank_at layout (other bank)) generation text old)) image
     layout generation bank bodies text turns (opened_image old layout generation bank bodies text turns) change
 steps_become old layout generation bank bodies text image turns (inr (inr (inr change))) =
     let closed = closed_image old layout generation bank bodies text turns in
-    fourth_step old (with_gate CLOSED (bank_at layout bank) (with_gate OPEN (bank_at layout (other bank)) (filled (bank_at layout (other bank)) generation text old)))
+    fourth_step old (with_gate CLOSED (bank_at layout bank)
+    (with_gate OPEN (bank_at layout (other bank)) (filled (bank_at layout (other bank)) generation text old)))
     image layout generation bank bodies text closed.is_new closed.shut change
 
 -- the end
@@ -123,10 +141,12 @@ zero_all from size image some first rest i low high = elim (cases_eq i from) [
   | inr other ↦ rest i (omega arith) (omega arith)
 ]
 
-ended_beside : (old : List ℕ) (layout : Layout) (generation : ℕ) (bank : Bank) (bodies : List (List ℕ)) (text image : List ℕ)
+ended_beside : (old : List ℕ) (layout : Layout) (generation : ℕ) (bank : Bank) (bodies : List (List ℕ))
+    (text image : List ℕ)
     → Turns old layout generation bank bodies text
     → AllBut (bank_at layout bank + 1) (bank_length layout - 1)
-    (with_gate CLOSED (bank_at layout bank) (with_gate OPEN (bank_at layout (other bank)) (filled (bank_at layout (other bank)) generation text old))) image
+    (with_gate CLOSED (bank_at layout bank)
+    (with_gate OPEN (bank_at layout (other bank)) (filled (bank_at layout (other bank)) generation text old))) image
     → KeepsBeside layout old image
 ended_beside old layout generation bank bodies text image turns change =
     let from = bank_at layout bank in
@@ -135,36 +155,49 @@ ended_beside old layout generation bank bodies text image turns change =
     let opened = opened_image old layout generation bank bodies text turns in
     let long : length mid ≡ length old = opened.change.same_length in
     let inside : from < length old = gate_inside old layout bank turns.starts.stands.front in
-    beside_then layout old mid image (beside_of to (head_length layout) layout (other bank) old mid opened.change (omega arith) (omega arith))
+    beside_then layout old mid image
+    (beside_of to (head_length layout) layout (other bank) old mid opened.change (omega arith) (omega arith))
     (beside_then layout mid (with_gate CLOSED from mid) image
-    (beside_of from 1 layout bank mid (with_gate CLOSED from mid) (overwritten_but mid from (CLOSED ∷ []) (omega arith)) (omega arith) (omega arith))
-    (beside_of (from + 1) (bank_length layout - 1) layout bank (with_gate CLOSED from mid) image change (omega arith) (omega arith)))
+    (beside_of from 1 layout bank mid (with_gate CLOSED from mid) (overwritten_but mid from (CLOSED ∷ []) (omega arith))
+    (omega arith) (omega arith))
+    (beside_of (from + 1) (bank_length layout - 1) layout bank (with_gate CLOSED from mid) image change (omega arith)
+    (omega arith)))
 
-pub ended : (old : List ℕ) (layout : Layout) (generation : ℕ) (bank : Bank) (bodies : List (List ℕ)) (text image : List ℕ)
+pub ended : (old : List ℕ) (layout : Layout) (generation : ℕ) (bank : Bank) (bodies : List (List ℕ))
+    (text image : List ℕ)
     → Turns old layout generation bank bodies text
     → IsErased (bank_at layout bank + 1) (bank_length layout - 1)
-    (with_gate CLOSED (bank_at layout bank) (with_gate OPEN (bank_at layout (other bank)) (filled (bank_at layout (other bank)) generation text old))) image
+    (with_gate CLOSED (bank_at layout bank)
+    (with_gate OPEN (bank_at layout (other bank)) (filled (bank_at layout (other bank)) generation text old))) image
     → Ended old layout generation bank text image
 ended old layout generation bank bodies text image turns cleared =
     let from = bank_at layout bank in
     let closed = closed_image old layout generation bank bodies text turns in
-    let mid = with_gate CLOSED from (with_gate OPEN (bank_at layout (other bank)) (filled (bank_at layout (other bank)) generation text old)) in
+    let mid = with_gate CLOSED from
+    (with_gate OPEN (bank_at layout (other bank)) (filled (bank_at layout (other bank)) generation text old)) in
     let image_new : IsNew old layout generation (other bank) text image =
     rest_new old mid image layout generation bank text closed.is_new closed.shut cleared.change in
     let shut : get_or image from 0 ≡ CLOSED = cleared.change.outside from (inl (omega arith)) ∙ closed.shut in
-    let stands : Stands image layout (other bank) [] = new_stands old layout generation (other bank) text image image_new in
+    let stands : Stands image layout (other bank) [] = new_stands old layout generation
+    (other bank) text image image_new in
     let count : image_layout image ≡ layout = image_new.front.same_layout in
     let is_current : current image ≡ other bank = stands_current image layout (other bank) [] stands in
     let none : records image ≡ [] = stands_records image layout (other bank) [] stands in
-    let empty : IsZero from (from + bank_length layout) image = zero_all from (bank_length layout) image (omega arith) shut cleared.zero in
-    let spare : IsZero (bank_at layout (other (other bank))) (bank_at layout (other (other bank)) + bank_length layout) image =
-    subst (λ (back : Bank). IsZero (bank_at layout back) (bank_at layout back + bank_length layout) image) (sym (twice_other bank)) empty in
-    let beside : KeepsBeside layout old image = ended_beside old layout generation bank bodies text image turns cleared.change in
+    let empty : IsZero from (from + bank_length layout) image = zero_all from (bank_length layout) image
+    (omega arith) shut cleared.zero in
+    let spare : IsZero (bank_at layout (other (other bank)))
+    (bank_at layout (other (other bank)) + bank_length layout) image =
+    subst (λ (back : Bank). IsZero (bank_at layout back) (bank_at layout back + bank_length layout) image)
+    (sym (twice_other bank)) empty in
+    let beside : KeepsBeside layout old image =
+    ended_beside old layout generation bank bodies text image turns cleared.change in
     let old_banks : IsZero BANKS_AT layout.banks image =
     λ i low high. beside.outside i (inl high) ∙ turns.starts.old_banks i low high in
     let spare_there : IsZero (other_at image) (other_at image + bank_length (image_layout image)) image =
-    subst (λ (n : Layout). IsZero (bank_at n (other (current image))) (bank_at n (other (current image)) + bank_length n) image) (sym count)
-    (subst (λ (one : Bank). IsZero (bank_at layout (other one)) (bank_at layout (other one) + bank_length layout) image) (sym is_current) spare) in
+    subst (λ (n : Layout). IsZero (bank_at n (other (current image)))
+    (bank_at n (other (current image)) + bank_length n) image) (sym count)
+    (subst (λ (one : Bank). IsZero (bank_at layout (other one)) (bank_at layout (other one) + bank_length layout) image)
+    (sym is_current) spare) in
     record {
       of_image = λ plan_length planned. record {
         closed = record {
@@ -174,7 +207,8 @@ ended old layout generation bank bodies text image turns cleared =
             layout = sym count;
             bank = sym is_current;
             generation = sym (ap (λ (at : ℕ). bank_generation image at) (stands_at image layout (other bank) [] stands)
-                ∙ fresh_generation (bank_at layout (other bank)) layout generation text image image_new.fresh (later_fits old layout generation bank bodies text turns));
+                ∙ fresh_generation (bank_at layout (other bank)) layout generation text image image_new.fresh
+                (later_fits old layout generation bank bodies text turns));
             used = ap (λ (some : List (List ℕ)). length some) (sym none);
           };
           rests = new_rests old image layout generation bank text image_new shut;
@@ -209,7 +243,8 @@ pub record Placed (image : List ℕ) (journal : JournalView) (from to : ℕ) (ba
   pub to_same : to ≡ other_at image
   pub bank_same : bank ≡ other (current image)
 
-pub placed : (image : List ℕ) (journal : JournalView) (from to generation : ℕ) (bank : Bank) → Written image journal from to generation bank
+pub placed : (image : List ℕ) (journal : JournalView) (from to generation : ℕ) (bank : Bank)
+    → Written image journal from to generation bank
     → Placed image journal from to bank
 placed image journal from to generation bank written =
     let layout : journal.layout ≡ image_layout image = written.of_image.closed.of_image.layout in
@@ -217,13 +252,17 @@ placed image journal from to generation bank written =
     let bank_same : bank ≡ other (current image) = written.bank_is ∙ ap other here in
     record {
       same_layout = layout;
-      from_same = written.from_is ∙ ap (λ (n : Layout). bank_at n journal.bank) layout ∙ ap (bank_at (image_layout image)) here;
-      to_same = written.to_is ∙ ap (λ (n : Layout). bank_at n bank) layout ∙ ap (bank_at (image_layout image)) bank_same;
+      from_same = written.from_is ∙ ap (λ (n : Layout). bank_at n journal.bank) layout
+          ∙ ap (bank_at (image_layout image)) here;
+      to_same = written.to_is ∙ ap (λ (n : Layout). bank_at n bank) layout
+          ∙ ap (bank_at (image_layout image)) bank_same;
       bank_same = bank_same;
     }
 
-pub turn_within : (old : Trace) (journal : JournalView) (from to generation : ℕ) (bank : Bank) → Written old.now.image journal from to generation bank
-    → (from + bank_length journal.layout ≤ length old.now.image) × (to + bank_length journal.layout ≤ length old.now.image)
+pub turn_within : (old : Trace) (journal : JournalView) (from to generation : ℕ) (bank : Bank)
+    → Written old.now.image journal from to generation bank
+    → (from + bank_length journal.layout ≤ length old.now.image) ×
+    (to + bank_length journal.layout ≤ length old.now.image)
 turn_within old journal from to generation bank written =
     let image = old.now.image in
     let at = placed image journal from to generation bank written in
@@ -238,35 +277,45 @@ turn_within old journal from to generation bank written =
 
 sized_there : (image : List ℕ) (journal : JournalView) (text : List ℕ) → IsSettledImage image journal
     → length text ≡ journal.layout.content_length → length text ≡ (image_layout image).content_length
-sized_there image journal text settled sized = sized ∙ ap (λ (one : Layout). one.content_length) settled.closed.of_image.layout
+sized_there image journal text settled sized = sized
+    ∙ ap (λ (one : Layout). one.content_length) settled.closed.of_image.layout
 
 pub turn_moments : (old new : Trace) (journal : JournalView) (text : List ℕ) (from to generation : ℕ) (bank : Bank)
     → Written old.now.image journal from to generation bank → length text ≡ journal.layout.content_length
-    → EachImage old new (Steps from to (head_length journal.layout) (bank_length journal.layout) generation text old.now.image)
+    → EachImage old new (Steps from to (head_length journal.layout)
+    (bank_length journal.layout) generation text old.now.image)
     → EachImage old new (Becomes (held old.now.image) (turned text (held old.now.image)))
 turn_moments old new journal text from to generation bank written sized each =
     let image = old.now.image in
     let at = placed image journal from to generation bank written in
-    image_weaker old new (Steps from to (head_length journal.layout) (bank_length journal.layout) generation text image) (Becomes (held image) (turned text (held image)))
+    image_weaker old new (Steps from to (head_length journal.layout) (bank_length journal.layout) generation text image)
+    (Becomes (held image) (turned text (held image)))
     (λ left steps.
     steps_become image (image_layout image) generation (current image) (records image) text left
-    (turns_of image text journal generation written.of_image (sized_there image journal text written.of_image sized) written.later)
-    (subst (λ (n : Layout). Steps (current_at image) (other_at image) (head_length n) (bank_length n) generation text image left) at.same_layout
-    (subst (λ (n : ℕ). Steps (current_at image) n (head_length journal.layout) (bank_length journal.layout) generation text image left) at.to_same
-    (subst (λ (n : ℕ). Steps n to (head_length journal.layout) (bank_length journal.layout) generation text image left) at.from_same steps))))
+    (turns_of image text journal generation written.of_image
+    (sized_there image journal text written.of_image sized) written.later)
+    (subst (λ (n : Layout). Steps (current_at image) (other_at image) (head_length n)
+    (bank_length n) generation text image left) at.same_layout
+    (subst (λ (n : ℕ). Steps (current_at image) n (head_length journal.layout)
+    (bank_length journal.layout) generation text image left) at.to_same
+    (subst (λ (n : ℕ). Steps n to (head_length journal.layout) (bank_length journal.layout) generation text image left)
+    at.from_same steps))))
     each
 
 pub turn_ended : (old new : Trace) (journal : JournalView) (text : List ℕ) (from to generation : ℕ) (bank : Bank)
     → Written old.now.image journal from to generation bank → length text ≡ journal.layout.content_length
-    → IsErased (from + 1) (bank_length journal.layout - 1) (with_gate CLOSED from (with_gate OPEN to (filled to generation text old.now.image))) new.now.image
+    → IsErased (from + 1) (bank_length journal.layout - 1)
+    (with_gate CLOSED from (with_gate OPEN to (filled to generation text old.now.image))) new.now.image
     → Ended old.now.image (image_layout old.now.image) generation (current old.now.image) text new.now.image
 turn_ended old new journal text from to generation bank written sized cleared =
     let image = old.now.image in
     let at = placed image journal from to generation bank written in
     ended image (image_layout image) generation (current image) (records image) text new.now.image
-    (turns_of image text journal generation written.of_image (sized_there image journal text written.of_image sized) written.later)
+    (turns_of image text journal generation written.of_image
+    (sized_there image journal text written.of_image sized) written.later)
     (subst (λ (n : Layout). IsErased (current_at image + 1) (bank_length n - 1)
-    (with_gate CLOSED (current_at image) (with_gate OPEN (other_at image) (filled (other_at image) generation text image))) new.now.image) at.same_layout
+    (with_gate CLOSED (current_at image)
+    (with_gate OPEN (other_at image) (filled (other_at image) generation text image))) new.now.image) at.same_layout
     (subst (λ (n : ℕ). IsErased (current_at image + 1) (bank_length journal.layout - 1)
     (with_gate CLOSED (current_at image) (with_gate OPEN n (filled n generation text image))) new.now.image) at.to_same
     (subst (λ (n : ℕ). IsErased (n + 1) (bank_length journal.layout - 1)
@@ -274,15 +323,19 @@ turn_ended old new journal text from to generation bank written sized cleared =
 
 pub turn_stored : (old new : Trace) (journal : JournalView) (text : List ℕ) (from to generation : ℕ) (bank : Bank)
     → Written old.now.image journal from to generation bank → length text ≡ journal.layout.content_length
-    → IsSynced new.now × IsErased (from + 1) (bank_length journal.layout - 1) (with_gate CLOSED from (with_gate OPEN to (filled to generation text old.now.image))) new.now.image
-    → IsSettled new (fresh_view journal.plan_length journal.layout bank generation) × (held new.now.image ≡ turned text (held old.now.image))
+    → IsSynced new.now × IsErased (from + 1) (bank_length journal.layout - 1)
+    (with_gate CLOSED from (with_gate OPEN to (filled to generation text old.now.image))) new.now.image
+    → IsSettled new (fresh_view journal.plan_length journal.layout bank generation) ×
+    (held new.now.image ≡ turned text (held old.now.image))
 turn_stored old new journal text from to generation bank written sized stored =
     let at = placed old.now.image journal from to generation bank written in
     let end = turn_ended old new journal text from to generation bank written sized stored.1 in (
       record {
         synced = stored.0;
-        of_image = subst (λ (n : Layout). IsSettledImage new.now.image (fresh_view journal.plan_length n bank generation)) (sym at.same_layout)
-            (subst (λ (one : Bank). IsSettledImage new.now.image (fresh_view journal.plan_length (image_layout old.now.image) one generation)) (sym at.bank_same)
+        of_image = subst (λ (n : Layout). IsSettledImage new.now.image
+            (fresh_view journal.plan_length n bank generation)) (sym at.same_layout)
+            (subst (λ (one : Bank). IsSettledImage new.now.image
+            (fresh_view journal.plan_length (image_layout old.now.image) one generation)) (sym at.bank_same)
             (end.of_image journal.plan_length written.of_image.closed.of_image.plan));
       },
       end.holds.is,
@@ -290,7 +343,8 @@ turn_stored old new journal text from to generation bank written sized stored =
 
 pub turn_rest : (old new : Trace) (journal : JournalView) (text : List ℕ) (from to generation : ℕ) (bank : Bank)
     → Written old.now.image journal from to generation bank → length text ≡ journal.layout.content_length
-    → IsSynced new.now × IsErased (from + 1) (bank_length journal.layout - 1) (with_gate CLOSED from (with_gate OPEN to (filled to generation text old.now.image))) new.now.image
+    → IsSynced new.now × IsErased (from + 1) (bank_length journal.layout - 1)
+    (with_gate CLOSED from (with_gate OPEN to (filled to generation text old.now.image))) new.now.image
     → (image : List ℕ) → Leaves new.now image → IsRest image bank generation text
 turn_rest old new journal text from to generation bank written sized stored image leaves =
     let at = placed old.now.image journal from to generation bank written in
@@ -300,7 +354,8 @@ turn_rest old new journal text from to generation bank written sized stored imag
 
 pub turn_beside : (old new : Trace) (journal : JournalView) (text : List ℕ) (from to generation : ℕ) (bank : Bank)
     → Written old.now.image journal from to generation bank → length text ≡ journal.layout.content_length
-    → IsSynced new.now × IsErased (from + 1) (bank_length journal.layout - 1) (with_gate CLOSED from (with_gate OPEN to (filled to generation text old.now.image))) new.now.image
+    → IsSynced new.now × IsErased (from + 1) (bank_length journal.layout - 1)
+    (with_gate CLOSED from (with_gate OPEN to (filled to generation text old.now.image))) new.now.image
     → KeepsBeside journal.layout old.now.image new.now.image
 turn_beside old new journal text from to generation bank written sized stored =
     let at = placed old.now.image journal from to generation bank written in

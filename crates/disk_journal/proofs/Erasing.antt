@@ -20,7 +20,8 @@ zeros_but image new at count within written =
     (overwritten_but image at (zeros count) (omega arith)))
 
 pub erased : {E : Type 0} → (result : Result (Unit {0}) E) (at count : ℕ) (old mid new : Trace)
-    → at + count ≤ length old.now.image → mid.now.image ≡ overwritten old.now.image at (zeros count) → Syncs result mid new
+    → at + count ≤ length old.now.image → mid.now.image ≡ overwritten old.now.image at (zeros count)
+    → Syncs result mid new
     → OnOk result (IsSynced new.now × IsErased at count old.now.image new.now.image)
 erased (Ok value) at count old mid new within written synced =
     let filled : new.now.image ≡ overwritten old.now.image at (zeros count) = synced.image ∙ written in (

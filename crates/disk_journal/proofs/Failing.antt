@@ -22,12 +22,14 @@ pub all_passed : (test : Bool) (offset : ℕ) (checks : List (Check ℕ)) → fi
 all_passed false offset checks none = record { first = refl; others = none }
 all_passed true offset checks none = absurd (cc)
 
-pub passed_append : (front back : List (Check ℕ)) → first_failing front ≡ None → first_failing (front ++ back) ≡ first_failing back
+pub passed_append : (front back : List (Check ℕ)) → first_failing front ≡ None → first_failing
+    (front ++ back) ≡ first_failing back
 passed_append [] back none = refl
 passed_append ((false, offset) ∷ front) back none = passed_append front back none
 passed_append ((true, offset) ∷ front) back none = absurd (cc)
 
-pub failed_append : (front back : List (Check ℕ)) (at : ℕ) → first_failing front ≡ Some at → first_failing (front ++ back) ≡ Some at
+pub failed_append : (front back : List (Check ℕ)) (at : ℕ) → first_failing front ≡ Some at → first_failing
+    (front ++ back) ≡ Some at
 failed_append [] back at failed = absurd (cc)
 failed_append ((false, offset) ∷ front) back at failed = failed_append front back at failed
 failed_append ((true, offset) ∷ front) back at failed = failed

@@ -1,5 +1,6 @@
 -- The gates of a run of slots that is read, for `first_other_in_run` and `first_other`.
-use Rattle.std.proofs.Common.{◌≡◌, ℕ, ◌+◌, ◌-◌, ◌*◌, ◌<◌, ◌≤◌, ◌∙◌, List, length, get_or, take, drop, sym, ap, inl, inr, arith}
+use Rattle.std.proofs.Common.{◌≡◌, ℕ, ◌+◌, ◌-◌, ◌*◌, ◌<◌, ◌≤◌, ◌∙◌, List, length, get_or, take, drop, sym, ap, inl, inr}
+use Rattle.std.proofs.Common.{arith}
 use Rattle.std.proofs.lemmas.List.{get_or-drop, get_or-take, length-take}
 use Rattle.std.proofs.lemmas.Bool.{cases_lt}
 use Rattle.disk_journal.specs.declared.layout.TheConstants.{SLOT_LENGTH}
@@ -32,7 +33,8 @@ other_read layout bank image slots gate first end n index ordered read long foun
       before = λ i low high.
           let here : SLOT_LENGTH * (i - first) < length slots = omega arith in
           let same : first + (i - first) ≡ i = omega arith in
-          ap (slot_gate layout image bank) (sym same) ∙ sym (gate_read layout bank image slots first n (i - first) read here)
+          ap (slot_gate layout image bank) (sym same)
+          ∙ sym (gate_read layout bank image slots first n (i - first) read here)
           ∙ found.before (i - first) (omega arith) (omega arith);
       other = λ below same.
           let here : SLOT_LENGTH * index < length slots = omega arith in

@@ -1,5 +1,6 @@
 -- A row of slots, told by place.
-use Rattle.std.proofs.Common.{◌≡◌, ◌≢◌, ℕ, zero, suc, ◌+◌, ◌<◌, ◌≤◌, ◌==◌, false, List, [], ◌∷◌, ◌++◌, length, get_or, refl, sym, ◌∙◌, ap, subst, inl, inr, arith, length-append}
+use Rattle.std.proofs.Common.{◌≡◌, ◌≢◌, ℕ, zero, suc, ◌+◌, ◌<◌, ◌≤◌, ◌==◌, false, List, [], ◌∷◌, ◌++◌, length, get_or}
+use Rattle.std.proofs.Common.{refl, sym, ◌∙◌, ap, subst, inl, inr, arith, length-append}
 use Rattle.std.proofs.lemmas.Bool.{cases_lt, cases_eq}
 use Rattle.std.proofs.lemmas.Bool.Decides.{nat_tests}
 use Rattle.std.proofs.lemmas.List.{get_or_append_left}
@@ -47,7 +48,8 @@ opened_next gate body n i bodies here rest (suc k) below =
     subst (λ (j : ℕ). gate j ≡ OPEN) (sym same) (rest.opened k low)
 
 are_next : (gate : ℕ → ℕ) (body : ℕ → List ℕ) (n i : ℕ) (bodies : List (List ℕ))
-    → AreGated gate body n (i + 1) bodies → (k : ℕ) → k < suc (length bodies) → get_or (body i ∷ bodies) k [] ≡ body (i + k)
+    → AreGated gate body n (i + 1) bodies → (k : ℕ) → k < suc (length bodies) → get_or (body i ∷ bodies) k [] ≡ body
+    (i + k)
 are_next gate body n i bodies rest zero below =
     let same : i + 0 ≡ i = omega arith in ap body (sym same)
 are_next gate body n i bodies rest (suc k) below =
@@ -108,7 +110,8 @@ gated_is gate body (suc n) i (first ∷ bodies) are =
     let here : gate i ≡ OPEN = subst (λ (j : ℕ). gate j ≡ OPEN) same (are.opened 0 low) in
     let body_here : first ≡ body i = are.are 0 low ∙ ap body same in
     open_first gate body n i here
-    ∙ ap (λ (bodies : List (List ℕ)). body i ∷ bodies) (gated_is gate body n (i + 1) bodies (rest_of gate body n i first bodies are))
+    ∙ ap (λ (bodies : List (List ℕ)). body i ∷ bodies)
+    (gated_is gate body n (i + 1) bodies (rest_of gate body n i first bodies are))
     ∙ ap (λ (head : List ℕ). head ∷ bodies) (sym body_here)
 
 -- what stands before the first closed slot
@@ -152,10 +155,12 @@ records_stay gate new_gate body new_body n bodies are same closed = record {
 }
 
 -- the first closed slot is opened
-pub records_grow : (gate new_gate : ℕ → ℕ) (body new_body : ℕ → List ℕ) (n : ℕ) (bodies : List (List ℕ)) (added : List ℕ)
+pub records_grow : (gate new_gate : ℕ → ℕ) (body new_body : ℕ → List ℕ) (n : ℕ) (bodies : List (List ℕ))
+    (added : List ℕ)
     → AreRecords gate body n bodies → SameBefore gate new_gate body new_body (length bodies) → length bodies < n
     → new_gate (length bodies) ≡ OPEN → new_body (length bodies) ≡ added
-    → (length bodies + 1 < n → new_gate (length bodies + 1) ≢ OPEN) → AreRecords new_gate new_body n (bodies ++ added ∷ [])
+    → (length bodies + 1 < n → new_gate (length bodies + 1) ≢ OPEN) → AreRecords new_gate new_body n
+    (bodies ++ added ∷ [])
 records_grow gate new_gate body new_body n bodies added are same room here body_here closed =
     let longer : length (bodies ++ added ∷ []) ≡ length bodies + 1 = length-append bodies (added ∷ []) in
     record {

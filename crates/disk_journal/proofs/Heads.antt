@@ -8,7 +8,8 @@ use Rattle.disk_journal.specs.Changes.{filled, with_gate}
 use Rattle.disk_journal.specs.declared.layout.TheConstants.{CONTENT_AT, GENERATION_AT, GENERATION_LENGTH, OPEN}
 
 -- the generation, then the content
-pub head_written : {T E : Type 0} → (result : Result T E) (old : List ℕ) (mid new : Trace) (bank generation : ℕ) (number text : List ℕ)
+pub head_written : {T E : Type 0} → (result : Result T E) (old : List ℕ) (mid new : Trace) (bank generation : ℕ)
+    (number text : List ℕ)
     → mid.now.image ≡ overwritten old (bank + GENERATION_AT) number → number ≡ big_bytes GENERATION_LENGTH generation
     → Writes (bank + CONTENT_AT) text result mid new → OnOk result (new.now.image ≡ filled bank generation text old)
 head_written (Ok value) old mid new bank generation number text one is two =

@@ -1,10 +1,13 @@
 -- The image that a journal begins with opens, and is at rest.
-use Rattle.std.proofs.Common.{◌≡◌, ℕ, zero, suc, ◌+◌, ◌-◌, ◌*◌, ◌^◌, ◌<◌, ◌≤◌, ◌==◌, ◌||◌, ◌&&◌, ◌++◌, ◌∷◌, ◌∙◌, not, nat_lt, false, List, [], length, get_or, take, drop, replicate, None, refl, sym, ap, subst, inl, inr, arith, append_assoc, length-append}
+use Rattle.std.proofs.Common.{◌≡◌, ℕ, zero, suc, ◌+◌, ◌-◌, ◌*◌, ◌^◌, ◌<◌, ◌≤◌, ◌==◌, ◌||◌, ◌&&◌, ◌++◌, ◌∷◌, ◌∙◌, not}
+use Rattle.std.proofs.Common.{nat_lt, false, List, [], length, get_or, take, drop, replicate, None, refl, sym, ap}
+use Rattle.std.proofs.Common.{subst, inl, inr, arith, append_assoc, length-append}
 use Rattle.disk_journal.proofs.Beginning.{IsBegun, fields_size, first_banks, without_gap, zeros_joined}
 use Rattle.disk_journal.proofs.Keeping.{fresh_generation, header_passes}
 use Rattle.disk_journal.proofs.Stands.{Stands, banks_behind, held_by, stands_at, stands_current, stands_records}
 use Rattle.disk_journal.proofs.Turns.{IsNew, new_holds, new_rests, new_stands}
-use Rattle.disk_journal.specs.Banks.{bank_at, bank_length, banks_of, bank_generation, image_end, layout_of, other, version_of, zeros_at_of}
+use Rattle.disk_journal.specs.Banks.{bank_at, bank_length, banks_of, bank_generation, image_end, layout_of, other}
+use Rattle.disk_journal.specs.Banks.{version_of, zeros_at_of}
 use Rattle.disk_journal.specs.Changes.{IsZero}
 use Rattle.disk_journal.specs.Fault.{header_checks}
 use Rattle.disk_journal.specs.Forms.{Holds}
@@ -16,7 +19,11 @@ use Rattle.disk_journal.specs.declared.layout.Bank.TheVariants.{First, Second}
 use Rattle.disk_journal.specs.declared.layout.HeaderForm.{HeaderForm}
 use Rattle.disk_journal.specs.declared.layout.HeaderForm.TheVariants.{Old, Migrated, New}
 use Rattle.disk_journal.specs.declared.layout.Layout.{Layout}
-use Rattle.disk_journal.specs.declared.layout.TheConstants.{BANKS_AT, CONTENT_AT, FIRST_GENERATION, GENERATION_AT, GENERATION_LENGTH, MAGIC_ONE, MAGIC_TWO, MIGRATED_AT, CLOSED, FIELD_LENGTH, HEADER_LENGTH, LEAST_SLOTS, MOST_SLOTS, OPEN, PLAN_LENGTH_AT, PLAN_ROOM, SLOT_COUNT_AT, SLOT_LENGTH}
+use Rattle.disk_journal.specs.declared.layout.TheConstants.{BANKS_AT, CONTENT_AT, FIRST_GENERATION, GENERATION_AT}
+use Rattle.disk_journal.specs.declared.layout.TheConstants.{GENERATION_LENGTH, MAGIC_ONE, MAGIC_TWO, MIGRATED_AT}
+use Rattle.disk_journal.specs.declared.layout.TheConstants.{CLOSED, FIELD_LENGTH, HEADER_LENGTH, LEAST_SLOTS}
+use Rattle.disk_journal.specs.declared.layout.TheConstants.{MOST_SLOTS, OPEN, PLAN_LENGTH_AT, PLAN_ROOM, SLOT_COUNT_AT}
+use Rattle.disk_journal.specs.declared.layout.TheConstants.{SLOT_LENGTH}
 use Rattle.byteorder.specs.Endian.{big_bytes, big_number}
 use Rattle.byteorder.specs.Numbers.{big_number-reads_back}
 use Rattle.disk_journal.proofs.ZeroLists.{length_zeros}
@@ -38,7 +45,8 @@ head_size : (form : HeaderForm) (plan_length slots : ℕ) → length (head form 
 head_size form plan_length slots =
     let fields : length (fields_of form plan_length slots) ≡ 16 = fields_size form plan_length slots in
     let rest : length (zeros 494) ≡ 494 = length_zeros 494 in
-    length-append (OPEN ∷ fields_of form plan_length slots) (migration_of form ∷ zeros 494) ∙ omega (arith, fields, rest)
+    length-append (OPEN ∷ fields_of form plan_length slots) (migration_of form ∷ zeros 494) ∙ omega
+    (arith, fields, rest)
 
 abbrev behind_fields : HeaderForm → List ℕ
 behind_fields form = migration_of form ∷ zeros 494
@@ -55,13 +63,15 @@ behind_plan_length Old plan_length slots = refl
 behind_plan_length Migrated plan_length slots = refl
 behind_plan_length New plan_length slots = refl
 
-plan_length_read : (form : HeaderForm) (plan_length slots : ℕ) → plan_length ≤ PLAN_ROOM → plan_length_in (head form plan_length slots) ≡ plan_length
+plan_length_read : (form : HeaderForm) (plan_length slots : ℕ) → plan_length ≤ PLAN_ROOM → plan_length_in
+    (head form plan_length slots) ≡ plan_length
 plan_length_read form plan_length slots room =
     ap (big_number FIELD_LENGTH) (behind_magic form plan_length slots)
     ∙ big_number-reads_back 4 plan_length (big_bytes FIELD_LENGTH slots ++ behind_fields form)
     (let fits : plan_length < 256 ^ 4 = omega arith in fits)
 
-slots_read : (form : HeaderForm) (plan_length slots : ℕ) → slots ≤ MOST_SLOTS → slot_count_in (head form plan_length slots) ≡ slots
+slots_read : (form : HeaderForm) (plan_length slots : ℕ) → slots ≤ MOST_SLOTS → slot_count_in
+    (head form plan_length slots) ≡ slots
 slots_read form plan_length slots most =
     ap (big_number FIELD_LENGTH) (behind_plan_length form plan_length slots)
     ∙ big_number-reads_back 4 slots (behind_fields form) (let fits : slots < 256 ^ 4 = omega arith in fits)
@@ -72,13 +82,15 @@ form_read Old plan_length slots = refl
 form_read Migrated plan_length slots = refl
 form_read New plan_length slots = refl
 
-migration_read : (form : HeaderForm) (plan_length slots : ℕ) → get_or (head form plan_length slots) MIGRATED_AT 0 ≡ migration_of form
+migration_read : (form : HeaderForm) (plan_length slots : ℕ) → get_or
+    (head form plan_length slots) MIGRATED_AT 0 ≡ migration_of form
 migration_read Old plan_length slots = refl
 migration_read Migrated plan_length slots = refl
 migration_read New plan_length slots = refl
 
 magic_test : (form : HeaderForm) (plan_length slots : ℕ)
-    → (not (has_magic MAGIC_ONE (head form plan_length slots)) && not (has_magic MAGIC_TWO (head form plan_length slots))) ≡ false
+    → (not (has_magic MAGIC_ONE (head form plan_length slots)) && not
+    (has_magic MAGIC_TWO (head form plan_length slots))) ≡ false
 magic_test Old plan_length slots = refl
 magic_test Migrated plan_length slots = refl
 magic_test New plan_length slots = refl
@@ -100,7 +112,8 @@ rest_test New plan_length slots = zeros_pass 494
 plan_test : (n plan_length : ℕ) → n ≡ plan_length → plan_length ≤ PLAN_ROOM → nat_lt PLAN_ROOM n ≡ false
 plan_test n plan_length is room = let low : n ≤ PLAN_ROOM = omega arith in grind (arith, nat_tests)
 
-slots_test : (n slots : ℕ) → n ≡ slots → LEAST_SLOTS ≤ slots → slots ≤ MOST_SLOTS → (nat_lt n LEAST_SLOTS || nat_lt MOST_SLOTS n) ≡ false
+slots_test : (n slots : ℕ) → n ≡ slots → LEAST_SLOTS ≤ slots → slots ≤ MOST_SLOTS →
+    (nat_lt n LEAST_SLOTS || nat_lt MOST_SLOTS n) ≡ false
 slots_test n slots is least most =
     let low : nat_lt n LEAST_SLOTS ≡ false = let above : LEAST_SLOTS ≤ n = omega arith in grind (arith, nat_tests) in
     let high : nat_lt MOST_SLOTS n ≡ false = let below : n ≤ MOST_SLOTS = omega arith in grind (arith, nat_tests) in
@@ -110,12 +123,15 @@ length_test : (size end : ℕ) → size ≡ end → nat_lt size end ≡ false
 length_test size end sized = let enough : end ≤ size = omega arith in grind (arith, nat_tests)
 
 layout_read : (form : HeaderForm) (plan_length slots : ℕ) → slots ≤ MOST_SLOTS
-    → layout_of (form_in (head form plan_length slots)) (slot_count_in (head form plan_length slots)) ≡ layout_of form slots
+    → layout_of (form_in (head form plan_length slots))
+    (slot_count_in (head form plan_length slots)) ≡ layout_of form slots
 layout_read form plan_length slots most =
-    ap (λ (one : HeaderForm). layout_of one (slot_count_in (head form plan_length slots))) (form_read form plan_length slots)
+    ap (λ (one : HeaderForm). layout_of one (slot_count_in (head form plan_length slots)))
+    (form_read form plan_length slots)
     ∙ ap (layout_of form) (slots_read form plan_length slots most)
 
-head_passes : (form : HeaderForm) (plan_length slots size : ℕ) → plan_length ≤ PLAN_ROOM → LEAST_SLOTS ≤ slots → slots ≤ MOST_SLOTS
+head_passes : (form : HeaderForm) (plan_length slots size : ℕ) → plan_length ≤ PLAN_ROOM → LEAST_SLOTS ≤ slots
+    → slots ≤ MOST_SLOTS
     → size ≡ image_end (layout_of form slots) → first_failing (header_checks (head form plan_length slots) size) ≡ None
 head_passes form plan_length slots size room least most sized =
     let header = head form plan_length slots in
@@ -126,7 +142,8 @@ head_passes form plan_length slots size room least most sized =
       slots = slots_test (slot_count_in header) slots (slots_read form plan_length slots most) least most;
       long = length_test size (image_end (layout_of (form_in header) (slot_count_in header)))
           (sized ∙ sym (ap (λ (one : Layout). image_end one) (layout_read form plan_length slots most)));
-      rest = ap (λ (one : HeaderForm). list_any (λ octet. not (octet == 0)) (drop (zeros_at_of one) header)) (form_read form plan_length slots)
+      rest = ap (λ (one : HeaderForm). list_any (λ octet. not (octet == 0)) (drop (zeros_at_of one) header))
+          (form_read form plan_length slots)
           ∙ rest_test form plan_length slots;
     })
 
@@ -149,7 +166,8 @@ in_two : (form : HeaderForm) (plan : List ℕ) (slots : ℕ) (text : List ℕ) �
     → created_image form plan slots text ≡ front form plan slots ++ banks form slots text
 in_two form plan slots text begun = without_gap form OPEN plan slots text FIRST_GENERATION First begun
 
-in_parts : (form : HeaderForm) (plan : List ℕ) (slots : ℕ) (text : List ℕ) → IsBegun form → created_image form plan slots text
+in_parts : (form : HeaderForm) (plan : List ℕ) (slots : ℕ) (text : List ℕ) → IsBegun form
+    → created_image form plan slots text
     ≡ head form (length plan) slots ++ (plan ++ (zeros (PLAN_ROOM - length plan) ++ banks form slots text))
 in_parts form plan slots text begun =
     in_two form plan slots text begun
@@ -162,23 +180,28 @@ header_is form plan slots text begun =
     let header = head form (length plan) slots in
     let rest = plan ++ (zeros (PLAN_ROOM - length plan) ++ banks form slots text) in
     ap (take HEADER_LENGTH) (in_parts form plan slots text begun)
-    ∙ subst (λ (n : ℕ). take n (header ++ rest) ≡ header) (head_size form (length plan) slots) (take-append_seam header rest)
+    ∙ subst (λ (n : ℕ). take n (header ++ rest) ≡ header) (head_size form (length plan) slots)
+    (take-append_seam header rest)
 
 behind_header : (form : HeaderForm) (plan : List ℕ) (slots : ℕ) (text : List ℕ) → IsBegun form
-    → drop HEADER_LENGTH (created_image form plan slots text) ≡ plan ++ (zeros (PLAN_ROOM - length plan) ++ banks form slots text)
+    → drop HEADER_LENGTH (created_image form plan slots text) ≡ plan ++
+    (zeros (PLAN_ROOM - length plan) ++ banks form slots text)
 behind_header form plan slots text begun =
     let header = head form (length plan) slots in
     let rest = plan ++ (zeros (PLAN_ROOM - length plan) ++ banks form slots text) in
     ap (drop HEADER_LENGTH) (in_parts form plan slots text begun)
-    ∙ subst (λ (n : ℕ). drop n (header ++ rest) ≡ rest) (head_size form (length plan) slots) (drop-append_seam header rest)
+    ∙ subst (λ (n : ℕ). drop n (header ++ rest) ≡ rest) (head_size form (length plan) slots)
+    (drop-append_seam header rest)
 
-front_length : (form : HeaderForm) (plan : List ℕ) (slots : ℕ) → length plan ≤ PLAN_ROOM → length (front form plan slots) ≡ BANKS_AT
+front_length : (form : HeaderForm) (plan : List ℕ) (slots : ℕ) → length plan ≤ PLAN_ROOM → length
+    (front form plan slots) ≡ BANKS_AT
 front_length form plan slots room =
     let header = head form (length plan) slots in
     let k = PLAN_ROOM - length plan in
     let one : length header ≡ HEADER_LENGTH = head_size form (length plan) slots in
     let two : length (header ++ plan) ≡ length header + length plan = length-append header plan in
-    let three : length (front form plan slots) ≡ length (header ++ plan) + length (zeros k) = length-append (header ++ plan) (zeros k) in
+    let three : length (front form plan slots) ≡ length (header ++ plan) + length (zeros k) = length-append
+    (header ++ plan) (zeros k) in
     let four : length (zeros k) ≡ k = length_zeros k in
     omega arith
 
@@ -186,7 +209,8 @@ behind_front : (form : HeaderForm) (plan : List ℕ) (slots : ℕ) (text : List 
     → drop BANKS_AT (created_image form plan slots text) ≡ banks form slots text
 behind_front form plan slots text begun room =
     ap (drop BANKS_AT) (in_two form plan slots text begun)
-    ∙ subst (λ (n : ℕ). drop n (front form plan slots ++ banks form slots text) ≡ banks form slots text) (front_length form plan slots room)
+    ∙ subst (λ (n : ℕ). drop n (front form plan slots ++ banks form slots text) ≡ banks form slots text)
+    (front_length form plan slots room)
     (drop-append_seam (front form plan slots) (banks form slots text))
 
 -- the banks: what is written, and zeros behind it
@@ -196,10 +220,12 @@ written text = (OPEN ∷ big_bytes GENERATION_LENGTH FIRST_GENERATION) ++ text
 abbrev left : HeaderForm → ℕ → ℕ
 left form slots = SLOT_LENGTH * slots + bank_length (layout_of form slots)
 
-banks_are : (form : HeaderForm) (slots : ℕ) (text : List ℕ) → banks form slots text ≡ written text ++ zeros (left form slots)
+banks_are : (form : HeaderForm) (slots : ℕ) (text : List ℕ) → banks form slots text ≡ written text ++ zeros
+    (left form slots)
 banks_are form slots text =
     append_assoc (written text) (zeros (SLOT_LENGTH * slots)) (zeros (bank_length (layout_of form slots)))
-    ∙ ap (λ (some : List ℕ). written text ++ some) (zeros_joined (SLOT_LENGTH * slots) (bank_length (layout_of form slots)))
+    ∙ ap (λ (some : List ℕ). written text ++ some)
+    (zeros_joined (SLOT_LENGTH * slots) (bank_length (layout_of form slots)))
 
 written_length : (text : List ℕ) → length (written text) ≡ CONTENT_AT + length text
 written_length text = length-append (OPEN ∷ big_bytes GENERATION_LENGTH FIRST_GENERATION) text
@@ -215,8 +241,10 @@ image_length form plan slots text made =
     ap (λ (some : List ℕ). length some) (banks_are form slots text) ∙ length-append (written text) zero in
     let three : length (written text) ≡ CONTENT_AT + length text = written_length text in
     let four : length zero ≡ left form slots = length_zeros (left form slots) in
-    let whole : length (created_image form plan slots text) ≡ length (front form plan slots) + length (banks form slots text) =
-    ap (λ (some : List ℕ). length some) (in_two form plan slots text made.begun) ∙ length-append (front form plan slots) (banks form slots text) in
+    let whole : length (created_image form plan slots text) ≡ length (front form plan slots) + length
+    (banks form slots text) =
+    ap (λ (some : List ℕ). length some) (in_two form plan slots text made.begun) ∙ length-append (front form plan slots)
+    (banks form slots text) in
     omega (arith, at, sized, one, two, three, four, whole)
 
 zero_at : (n i : ℕ) → get_or (zeros n) i 0 ≡ 0
@@ -231,9 +259,11 @@ far_zero : (form : HeaderForm) (plan : List ℕ) (slots : ℕ) (text : List ℕ)
     → BANKS_AT + CONTENT_AT + length text ≤ at → get_or (created_image form plan slots text) at 0 ≡ 0
 far_zero form plan slots text at made far =
     ap (λ (image : List ℕ). get_or image at 0) (in_two form plan slots text made.begun)
-    ∙ get_or-append_right (front form plan slots) (banks form slots text) BANKS_AT at 0 (front_length form plan slots made.room) (omega arith)
+    ∙ get_or-append_right (front form plan slots) (banks form slots text) BANKS_AT at 0
+    (front_length form plan slots made.room) (omega arith)
     ∙ ap (λ (some : List ℕ). get_or some (at - BANKS_AT) 0) (banks_are form slots text)
-    ∙ get_or-append_right (written text) (zeros (left form slots)) (CONTENT_AT + length text) (at - BANKS_AT) 0 (written_length text) (omega arith)
+    ∙ get_or-append_right (written text) (zeros (left form slots)) (CONTENT_AT + length text) (at - BANKS_AT) 0
+    (written_length text) (omega arith)
     ∙ zero_at (left form slots) (at - BANKS_AT - (CONTENT_AT + length text))
 
 behind_bank : (form : HeaderForm) (plan : List ℕ) (slots : ℕ) (text : List ℕ) (at : ℕ) → Made form plan slots text
@@ -246,8 +276,10 @@ behind_bank form plan slots text at made =
 content_there : (form : HeaderForm) (slots : ℕ) (text : List ℕ) → length text ≡ content_length_of (version_of form)
     → take (content_length_of (version_of form)) (drop CONTENT_AT (banks form slots text)) ≡ text
 content_there form slots text sized =
-    ap (λ (some : List ℕ). take (content_length_of (version_of form)) (drop CONTENT_AT some)) (banks_are form slots text)
-    ∙ subst (λ (n : ℕ). take n (text ++ zeros (left form slots)) ≡ text) sized (take-append_seam text (zeros (left form slots)))
+    ap (λ (some : List ℕ). take (content_length_of (version_of form)) (drop CONTENT_AT some))
+    (banks_are form slots text)
+    ∙ subst (λ (n : ℕ). take n (text ++ zeros (left form slots)) ≡ text) sized
+    (take-append_seam text (zeros (left form slots)))
 
 gate_there : (form : HeaderForm) (plan : List ℕ) (slots : ℕ) (text : List ℕ) → Made form plan slots text
     → get_or (created_image form plan slots text) (banks_of form slots) 0 ≡ OPEN
@@ -293,7 +325,8 @@ spare_zero form plan slots text i made far =
 
 -- the first bank is the current one
 begins_new : (form : HeaderForm) (plan : List ℕ) (slots : ℕ) (text : List ℕ) → Made form plan slots text
-    → IsNew (created_image form plan slots text) (layout_of form slots) FIRST_GENERATION First text (created_image form plan slots text)
+    → IsNew (created_image form plan slots text) (layout_of form slots) FIRST_GENERATION First text
+    (created_image form plan slots text)
 begins_new form plan slots text made =
     let image = created_image form plan slots text in
     let layout = layout_of form slots in
@@ -313,22 +346,27 @@ begins_new form plan slots text made =
       still = still_there form plan slots text made.begun;
       fresh = record {
         has_generation = ap (take GENERATION_LENGTH) (behind_bank form plan slots text GENERATION_AT made);
-        has_content = ap (take layout.content_length) (behind_bank form plan slots text CONTENT_AT made) ∙ content_there form slots text made.sized;
+        has_content = ap (take layout.content_length) (behind_bank form plan slots text CONTENT_AT made)
+            ∙ content_there form slots text made.sized;
         zero = λ i low high. far_zero form plan slots text i made (omega (arith, at, sized, low));
       };
       gate = gate_there form plan slots text made;
-      newest = inl (λ is_open. let shut = spare_zero form plan slots text (bank_at layout Second) made (omega arith) in omega (arith, shut, is_open));
+      newest = inl (λ is_open. let shut = spare_zero form plan slots text (bank_at layout Second) made
+          (omega arith) in omega (arith, shut, is_open));
     }
 
-begins_settled : (form : HeaderForm) (plan : List ℕ) (slots : ℕ) (text : List ℕ) → Made form plan slots text → BeginsAtRest form plan slots text
+begins_settled : (form : HeaderForm) (plan : List ℕ) (slots : ℕ) (text : List ℕ) → Made form plan slots text
+    → BeginsAtRest form plan slots text
 begins_settled form plan slots text made =
     let image = created_image form plan slots text in
     let layout = layout_of form slots in
     let is_new = begins_new form plan slots text made in
     let stands : Stands image layout First [] = new_stands image layout FIRST_GENERATION First text image is_new in
-    let held_is : Holds image (held_by (plan_of image) layout text []) = new_holds image layout FIRST_GENERATION First text image is_new in
+    let held_is : Holds image (held_by (plan_of image) layout text []) =
+    new_holds image layout FIRST_GENERATION First text image is_new in
     let planned : plan_of image ≡ plan = plan_is form plan slots text made.begun made.room in
-    let other_shut : get_or image (bank_at layout Second) 0 ≡ CLOSED = spare_zero form plan slots text (bank_at layout Second) made (omega arith) in
+    let other_shut : get_or image (bank_at layout Second) 0 ≡ CLOSED = spare_zero form plan slots text
+    (bank_at layout Second) made (omega arith) in
     let is_current : current image ≡ First = stands_current image layout First [] stands in
     let is_layout : image_layout image ≡ layout = is_new.front.same_layout in
     let at : banks_of form slots ≡ BANKS_AT = first_banks form slots made.begun in
@@ -342,13 +380,16 @@ begins_settled form plan slots text made =
             layout = sym is_layout;
             bank = sym is_current;
             generation = sym (ap (λ (at : ℕ). bank_generation image at) (stands_at image layout First [] stands)
-                ∙ fresh_generation (bank_at layout First) layout FIRST_GENERATION text image is_new.fresh (omega arith));
+                ∙ fresh_generation (bank_at layout First) layout FIRST_GENERATION text image is_new.fresh
+                (omega arith));
             used = ap (λ (bodies : List (List ℕ)). length bodies) (sym (stands_records image layout First [] stands));
           };
           rests = new_rests image image layout FIRST_GENERATION Second text is_new other_shut;
-          spare = subst (λ (one : Layout). IsZero (bank_at one (other (current image))) (bank_at one (other (current image)) + bank_length one) image)
+          spare = subst (λ (one : Layout). IsZero (bank_at one (other (current image)))
+              (bank_at one (other (current image)) + bank_length one) image)
               (sym is_layout)
-              (subst (λ (one : Bank). IsZero (bank_at layout (other one)) (bank_at layout (other one) + bank_length layout) image) (sym is_current)
+              (subst (λ (one : Bank). IsZero (bank_at layout (other one))
+              (bank_at layout (other one) + bank_length layout) image) (sym is_current)
               (λ i low high. spare_zero form plan slots text i made low));
         };
         old_banks = subst (λ (one : Layout). IsZero BANKS_AT one.banks image) (sym is_layout)
@@ -356,7 +397,9 @@ begins_settled form plan slots text made =
       };
     }
 
-pub begins : (form : HeaderForm) (plan text : List ℕ) (slots : ℕ) → IsBegun form → length plan ≤ PLAN_ROOM → LEAST_SLOTS ≤ slots
+pub begins : (form : HeaderForm) (plan text : List ℕ) (slots : ℕ) → IsBegun form → length plan ≤ PLAN_ROOM
+    → LEAST_SLOTS ≤ slots
     → slots ≤ MOST_SLOTS → length text ≡ content_length_of (version_of form) → BeginsAtRest form plan slots text
 begins form plan text slots begun room least most sized =
-    begins_settled form plan slots text (record { begun = begun; room = room; least = least; most = most; sized = sized })
+    begins_settled form plan slots text
+    (record { begun = begun; room = room; least = least; most = most; sized = sized })

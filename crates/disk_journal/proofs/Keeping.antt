@@ -1,7 +1,10 @@
 -- What a change in one bank, or in a part of it, keeps.
-use Rattle.std.proofs.Common.{◌≡◌, ◌≢◌, ℕ, ◌+◌, ◌-◌, ◌*◌, ◌^◌, ◌<◌, ◌≤◌, ◌⊎◌, ◌==◌, ◌||◌, ◌&&◌, ◌∷◌, ◌∙◌, not, nat_lt, Bool, false, List, [], length, get_or, take, drop, None, refl, sym, ap, subst, inl, inr, arith, append-nil}
+use Rattle.std.proofs.Common.{◌≡◌, ◌≢◌, ℕ, ◌+◌, ◌-◌, ◌*◌, ◌^◌, ◌<◌, ◌≤◌, ◌⊎◌, ◌==◌, ◌||◌, ◌&&◌, ◌∷◌, ◌∙◌, not, nat_lt}
+use Rattle.std.proofs.Common.{Bool, false, List, [], length, get_or, take, drop, None, refl, sym, ap, subst, inl, inr}
+use Rattle.std.proofs.Common.{arith, append-nil}
 use Rattle.disk_journal.proofs.Stands.{HasFront, Stands, apart, behind}
-use Rattle.disk_journal.specs.Banks.{bank_at, bank_length, slot_body, bank_content, slot_gate, bank_generation, head_length, image_end, layout_of, next, other, slot_at, zeros_at_of}
+use Rattle.disk_journal.specs.Banks.{bank_at, bank_length, slot_body, bank_content, slot_gate, bank_generation}
+use Rattle.disk_journal.specs.Banks.{head_length, image_end, layout_of, next, other, slot_at, zeros_at_of}
 use Rattle.disk_journal.specs.Header.{form_in, has_magic, header_of, plan_length_in, slot_count_in}
 use Rattle.disk_journal.specs.Changes.{IsZero, KeepsBeside, filled}
 use Rattle.disk_journal.specs.Fault.{header_checks}
@@ -9,12 +12,15 @@ use Rattle.disk_journal.specs.Image.{image_layout, plan_of}
 use Rattle.disk_journal.specs.declared.layout.Bank.{Bank}
 use Rattle.disk_journal.specs.declared.layout.Bank.TheVariants.{First, Second}
 use Rattle.disk_journal.specs.declared.layout.Layout.{Layout}
-use Rattle.disk_journal.specs.declared.layout.TheConstants.{CONTENT_AT, GENERATION_AT, GENERATION_LENGTH, MAGIC_ONE, MAGIC_TWO, CLOSED, HEADER_LENGTH, LEAST_SLOTS, MAGIC_AT, MOST_SLOTS, OPEN, PLAN_LENGTH_AT, PLAN_ROOM, SLOT_COUNT_AT}
+use Rattle.disk_journal.specs.declared.layout.TheConstants.{CONTENT_AT, GENERATION_AT, GENERATION_LENGTH, MAGIC_ONE}
+use Rattle.disk_journal.specs.declared.layout.TheConstants.{MAGIC_TWO, CLOSED, HEADER_LENGTH, LEAST_SLOTS, MAGIC_AT}
+use Rattle.disk_journal.specs.declared.layout.TheConstants.{MOST_SLOTS, OPEN, PLAN_LENGTH_AT, PLAN_ROOM, SLOT_COUNT_AT}
 use Rattle.byteorder.specs.Endian.{big_bytes, big_number}
 use Rattle.byteorder.specs.Numbers.{big_number-reads_back}
 use Rattle.disk_journal.proofs.Failing.{all_passed}
 use Rattle.disk_journal.proofs.Gating.{records_stay}
-use Rattle.disk_journal.proofs.Ranges.{all_but_same, all_but_then, all_but_wider, overwritten_but, overwritten_length, overwritten_stretch, same_front, same_stretch}
+use Rattle.disk_journal.proofs.Ranges.{all_but_same, all_but_then, all_but_wider, overwritten_but, overwritten_length}
+use Rattle.disk_journal.proofs.Ranges.{overwritten_stretch, same_front, same_stretch}
 use Rattle.disk_journal.specs.Moments.{AllBut}
 use Rattle.sdls_base.specs.FirstFailing.{first_failing}
 use Rattle.sdls_base.specs.declared.TheConstants.{BODY_LENGTH}
@@ -28,7 +34,8 @@ pub record Bounds (header : List ℕ) (image_length : ℕ) : Type 0 where
   pub most : slot_count_in header ≤ MOST_SLOTS
   pub long : image_end (layout_of (form_in header) (slot_count_in header)) ≤ image_length
 
-bounds_of : (header : List ℕ) (image_length plan slots end : ℕ) → plan ≡ plan_length_in header → slots ≡ slot_count_in header
+bounds_of : (header : List ℕ) (image_length plan slots end : ℕ) → plan ≡ plan_length_in header
+    → slots ≡ slot_count_in header
     → end ≡ image_end (layout_of (form_in header) (slot_count_in header))
     → nat_lt PLAN_ROOM plan ≡ false → (nat_lt slots LEAST_SLOTS || nat_lt MOST_SLOTS slots) ≡ false
     → nat_lt image_length end ≡ false → Bounds header image_length
@@ -71,7 +78,8 @@ pub header_passes : (header : List ℕ) (image_length : ℕ) → AllPass header 
     → first_failing (header_checks header image_length) ≡ None
 header_passes header image_length pass =
     all_six (not (get_or header 0 0 == OPEN)) (not (has_magic MAGIC_ONE header) && not (has_magic MAGIC_TWO header))
-    (nat_lt PLAN_ROOM (plan_length_in header)) (nat_lt (slot_count_in header) LEAST_SLOTS || nat_lt MOST_SLOTS (slot_count_in header))
+    (nat_lt PLAN_ROOM (plan_length_in header))
+    (nat_lt (slot_count_in header) LEAST_SLOTS || nat_lt MOST_SLOTS (slot_count_in header))
     (nat_lt image_length (image_end (layout_of (form_in header) (slot_count_in header))))
     (list_any (λ octet. not (octet == 0)) (drop (zeros_at_of (form_in header)) header))
     0 MAGIC_AT PLAN_LENGTH_AT SLOT_COUNT_AT image_length (zeros_at_of (form_in header))
@@ -80,8 +88,10 @@ header_passes header image_length pass =
 pub header_passed : (header : List ℕ) (image_length : ℕ) → first_failing (header_checks header image_length) ≡ None
     → AllPass header image_length
 header_passed header image_length none =
-    let passed = six_passed (not (get_or header 0 0 == OPEN)) (not (has_magic MAGIC_ONE header) && not (has_magic MAGIC_TWO header))
-    (nat_lt PLAN_ROOM (plan_length_in header)) (nat_lt (slot_count_in header) LEAST_SLOTS || nat_lt MOST_SLOTS (slot_count_in header))
+    let passed = six_passed (not (get_or header 0 0 == OPEN))
+    (not (has_magic MAGIC_ONE header) && not (has_magic MAGIC_TWO header))
+    (nat_lt PLAN_ROOM (plan_length_in header))
+    (nat_lt (slot_count_in header) LEAST_SLOTS || nat_lt MOST_SLOTS (slot_count_in header))
     (nat_lt image_length (image_end (layout_of (form_in header) (slot_count_in header))))
     (list_any (λ octet. not (octet == 0)) (drop (zeros_at_of (form_in header)) header))
     0 MAGIC_AT PLAN_LENGTH_AT SLOT_COUNT_AT image_length (zeros_at_of (form_in header)) none in
@@ -97,10 +107,12 @@ header_bounds header image_length none =
 pub front_bounds : (image : List ℕ) (layout : Layout) → HasFront image layout → image_end layout ≤ length image
 unfolding image_layout
 front_bounds image layout front =
-    subst (λ (one : Layout). image_end one ≤ length image) front.same_layout (header_bounds (header_of image) (length image) front.header).long
+    subst (λ (one : Layout). image_end one ≤ length image) front.same_layout
+    (header_bounds (header_of image) (length image) front.header).long
 
 -- the front stays
-pub front_kept : (at count : ℕ) (layout : Layout) (old new : List ℕ) → AllBut at count old new → HEADER_LENGTH + PLAN_ROOM ≤ at → HasFront old layout → HasFront new layout
+pub front_kept : (at count : ℕ) (layout : Layout) (old new : List ℕ) → AllBut at count old new
+    → HEADER_LENGTH + PLAN_ROOM ≤ at → HasFront old layout → HasFront new layout
 unfolding image_layout
 front_kept at count layout old new change behind front =
     let same : header_of new ≡ header_of old = same_front at count HEADER_LENGTH old new change (omega arith) in
@@ -108,15 +120,19 @@ front_kept at count layout old new change behind front =
       whole = subst (λ (n : ℕ). HEADER_LENGTH ≤ n) (sym change.same_length) front.whole;
       header = ap (λ (header : List ℕ). first_failing (header_checks header (length new))) same
           ∙ ap (λ (size : ℕ). first_failing (header_checks (header_of old) size)) change.same_length ∙ front.header;
-      same_layout = ap (λ (header : List ℕ). layout_of (form_in header) (slot_count_in header)) same ∙ front.same_layout;
+      same_layout = ap (λ (header : List ℕ). layout_of (form_in header) (slot_count_in header)) same
+          ∙ front.same_layout;
       behind_plan = front.behind_plan;
     }
 
-pub plan_kept : (at count : ℕ) (layout : Layout) (old new : List ℕ) → AllBut at count old new → HEADER_LENGTH + PLAN_ROOM ≤ at → HasFront old layout → plan_of new ≡ plan_of old
+pub plan_kept : (at count : ℕ) (layout : Layout) (old new : List ℕ) → AllBut at count old new
+    → HEADER_LENGTH + PLAN_ROOM ≤ at → HasFront old layout → plan_of new ≡ plan_of old
 unfolding plan_of
 plan_kept at count layout old new change behind front =
-    let room : plan_length_in (header_of old) ≤ PLAN_ROOM = (header_bounds (header_of old) (length old) front.header).plan in
-    ap (λ (header : List ℕ). take (plan_length_in header) (drop HEADER_LENGTH new)) (same_front at count HEADER_LENGTH old new change (omega arith))
+    let room : plan_length_in (header_of old) ≤ PLAN_ROOM =
+    (header_bounds (header_of old) (length old) front.header).plan in
+    ap (λ (header : List ℕ). take (plan_length_in header) (drop HEADER_LENGTH new))
+    (same_front at count HEADER_LENGTH old new change (omega arith))
     ∙ same_stretch at count HEADER_LENGTH (plan_length_in (header_of old)) old new change (inl (omega arith))
 
 -- a bank stays, past its gate
@@ -129,7 +145,8 @@ pub record SameBank (bank : ℕ) (layout : Layout) (old new : List ℕ) : Type 0
 pub bank_kept : (at count bank : ℕ) (layout : Layout) (old new : List ℕ) → AllBut at count old new
     → (bank + bank_length layout ≤ at) ⊎ (at + count ≤ bank + 1) → SameBank bank layout old new
 bank_kept at count bank layout old new change apart = record {
-  generation = ap (big_number GENERATION_LENGTH) (same_stretch at count (bank + GENERATION_AT) GENERATION_LENGTH old new change
+  generation = ap (big_number GENERATION_LENGTH)
+      (same_stretch at count (bank + GENERATION_AT) GENERATION_LENGTH old new change
       (elim apart [ inl before ↦ inl (omega arith) | inr after ↦ inr (omega arith) ]));
   content = same_stretch at count (bank + CONTENT_AT) layout.content_length old new change
       (elim apart [ inl before ↦ inl (omega arith) | inr after ↦ inr (omega arith) ]);
@@ -140,7 +157,8 @@ bank_kept at count bank layout old new change apart = record {
 }
 
 -- a bank that stays current
-pub stands_same : (old new : List ℕ) (layout : Layout) (bank : Bank) (bodies : List (List ℕ)) → Stands old layout bank bodies → HasFront new layout
+pub stands_same : (old new : List ℕ) (layout : Layout) (bank : Bank) (bodies : List (List ℕ))
+    → Stands old layout bank bodies → HasFront new layout
     → SameBank (bank_at layout bank) layout old new → get_or new (bank_at layout bank) 0 ≡ OPEN
     → get_or new (bank_at layout (other bank)) 0 ≢ OPEN → Stands new layout bank bodies
 stands_same old new layout bank bodies stands front same here closed =
@@ -148,7 +166,8 @@ stands_same old new layout bank bodies stands front same here closed =
     record {
       front = front;
       newest = (here, inl closed);
-      are = records_stay (slot_gate layout old (bank_at layout bank)) (slot_gate layout new (bank_at layout bank)) (slot_body layout old (bank_at layout bank))
+      are = records_stay (slot_gate layout old (bank_at layout bank)) (slot_gate layout new (bank_at layout bank))
+          (slot_body layout old (bank_at layout bank))
           (slot_body layout new (bank_at layout bank)) layout.slots bodies stands.are
           (record { gates = λ k below. same.gates k (omega arith); bodies = λ k below. same.bodies k (omega arith) })
           (λ room. subst (λ (gate : ℕ). gate ≢ OPEN) (sym (same.gates (length bodies) room)) (stands.are.closed room));
@@ -157,28 +176,34 @@ stands_same old new layout bank bodies stands front same here closed =
 
 -- what was written into a bank, and zero slots behind it
 pub record Fresh (bank : ℕ) (layout : Layout) (generation : ℕ) (text image : List ℕ) : Type 0 where
-  pub has_generation : take GENERATION_LENGTH (drop (bank + GENERATION_AT) image) ≡ big_bytes GENERATION_LENGTH generation
+  pub has_generation : take GENERATION_LENGTH
+      (drop (bank + GENERATION_AT) image) ≡ big_bytes GENERATION_LENGTH generation
   pub has_content : bank_content layout image bank ≡ text
   pub zero : IsZero (bank + head_length layout) (bank + bank_length layout) image
 
-pub fresh_kept : (at count bank : ℕ) (layout : Layout) (generation : ℕ) (text old new : List ℕ) → AllBut at count old new
-    → (bank + bank_length layout ≤ at) ⊎ (at + count ≤ bank + 1) → Fresh bank layout generation text old → Fresh bank layout generation text new
+pub fresh_kept : (at count bank : ℕ) (layout : Layout) (generation : ℕ) (text old new : List ℕ)
+    → AllBut at count old new
+    → (bank + bank_length layout ≤ at) ⊎ (at + count ≤ bank + 1) → Fresh bank layout generation text old
+    → Fresh bank layout generation text new
 fresh_kept at count bank layout generation text old new change apart fresh = record {
   has_generation = same_stretch at count (bank + GENERATION_AT) GENERATION_LENGTH old new change
       (elim apart [ inl before ↦ inl (omega arith) | inr after ↦ inr (omega arith) ]) ∙ fresh.has_generation;
   has_content = same_stretch at count (bank + CONTENT_AT) layout.content_length old new change
       (elim apart [ inl before ↦ inl (omega arith) | inr after ↦ inr (omega arith) ]) ∙ fresh.has_content;
-  zero = λ i low high. change.outside i (elim apart [ inl before ↦ inl (omega arith) | inr after ↦ inr (omega arith) ]) ∙ fresh.zero i low high;
+  zero = λ i low high. change.outside i (elim apart [ inl before ↦ inl (omega arith) | inr after ↦ inr (omega arith) ])
+      ∙ fresh.zero i low high;
 }
 
-pub fresh_generation : (bank : ℕ) (layout : Layout) (generation : ℕ) (text image : List ℕ) → Fresh bank layout generation text image → generation < 2 ^ 64
+pub fresh_generation : (bank : ℕ) (layout : Layout) (generation : ℕ) (text image : List ℕ)
+    → Fresh bank layout generation text image → generation < 2 ^ 64
     → bank_generation image bank ≡ generation
 fresh_generation bank layout generation text image fresh fits =
     ap (big_number GENERATION_LENGTH) (fresh.has_generation ∙ sym (append-nil (big_bytes GENERATION_LENGTH generation)))
     ∙ big_number-reads_back 8 generation [] (let low : generation < 256 ^ 8 = omega arith in low)
 
 -- a fresh bank that is the current one has no records
-pub stands_fresh : (image : List ℕ) (layout : Layout) (generation : ℕ) (bank : Bank) (text : List ℕ) → HasFront image layout
+pub stands_fresh : (image : List ℕ) (layout : Layout) (generation : ℕ) (bank : Bank) (text : List ℕ)
+    → HasFront image layout
     → Fresh (bank_at layout bank) layout generation text image → get_or image (bank_at layout bank) 0 ≡ OPEN
     → (get_or image (bank_at layout (other bank)) 0 ≢ OPEN)
     ⊎ (bank_generation image (bank_at layout bank) ≡ next (bank_generation image (bank_at layout (other bank))))
@@ -206,8 +231,10 @@ pub record Filling (bank : ℕ) (layout : Layout) (generation : ℕ) (text old n
 generation_size : (generation : ℕ) → length (big_bytes GENERATION_LENGTH generation) ≡ GENERATION_LENGTH
 generation_size generation = refl
 
-pub filling : (bank : ℕ) (layout : Layout) (generation : ℕ) (text old : List ℕ) → length text ≡ layout.content_length → bank + bank_length layout ≤ length old
-    → IsZero (bank + head_length layout) (bank + bank_length layout) old → Filling bank layout generation text old (filled bank generation text old)
+pub filling : (bank : ℕ) (layout : Layout) (generation : ℕ) (text old : List ℕ) → length text ≡ layout.content_length
+    → bank + bank_length layout ≤ length old
+    → IsZero (bank + head_length layout) (bank + bank_length layout) old → Filling bank layout generation text old
+    (filled bank generation text old)
 filling bank layout generation text old sized within empty =
     let octets = big_bytes GENERATION_LENGTH generation in
     let size : length octets ≡ GENERATION_LENGTH = generation_size generation in
@@ -216,18 +243,25 @@ filling bank layout generation text old sized within empty =
     let first_fits : bank + GENERATION_AT + length octets ≤ length old = omega arith in
     let same : length mid ≡ length old = overwritten_length old (bank + GENERATION_AT) octets first_fits in
     let then_fits : bank + CONTENT_AT + length text ≤ length mid = omega arith in
-    let first : AllBut (bank + GENERATION_AT) (length octets) old mid = overwritten_but old (bank + GENERATION_AT) octets first_fits in
-    let second : AllBut (bank + CONTENT_AT) (length text) mid new = overwritten_but mid (bank + CONTENT_AT) text then_fits in
+    let first : AllBut (bank + GENERATION_AT) (length octets) old mid = overwritten_but old
+    (bank + GENERATION_AT) octets first_fits in
+    let second : AllBut (bank + CONTENT_AT) (length text) mid new = overwritten_but mid
+    (bank + CONTENT_AT) text then_fits in
     let change : AllBut (bank + 1) (head_length layout - 1) old new =
     all_but_then (bank + 1) (head_length layout - 1) old mid new
-    (all_but_wider (bank + GENERATION_AT) (length octets) (bank + 1) (head_length layout - 1) old mid (omega arith) (omega arith) first)
-    (all_but_wider (bank + CONTENT_AT) (length text) (bank + 1) (head_length layout - 1) mid new (omega arith) (omega arith) second) in
+    (all_but_wider (bank + GENERATION_AT) (length octets) (bank + 1) (head_length layout - 1) old mid (omega arith)
+    (omega arith) first)
+    (all_but_wider (bank + CONTENT_AT) (length text) (bank + 1) (head_length layout - 1) mid new (omega arith)
+    (omega arith) second) in
     record {
       change = change;
       fresh = record {
-        has_generation = same_stretch (bank + CONTENT_AT) (length text) (bank + GENERATION_AT) GENERATION_LENGTH mid new second (inl (omega arith))
-            ∙ subst (λ (n : ℕ). take n (drop (bank + GENERATION_AT) mid) ≡ octets) size (overwritten_stretch old (bank + GENERATION_AT) octets first_fits);
-        has_content = subst (λ (n : ℕ). take n (drop (bank + CONTENT_AT) new) ≡ text) sized (overwritten_stretch mid (bank + CONTENT_AT) text then_fits);
+        has_generation = same_stretch (bank + CONTENT_AT) (length text)
+            (bank + GENERATION_AT) GENERATION_LENGTH mid new second (inl (omega arith))
+            ∙ subst (λ (n : ℕ). take n (drop (bank + GENERATION_AT) mid) ≡ octets) size
+            (overwritten_stretch old (bank + GENERATION_AT) octets first_fits);
+        has_content = subst (λ (n : ℕ). take n (drop (bank + CONTENT_AT) new) ≡ text) sized
+            (overwritten_stretch mid (bank + CONTENT_AT) text then_fits);
         zero = λ i low high. change.outside i (inr (omega arith)) ∙ empty i low high;
       };
     }
@@ -237,19 +271,24 @@ pub low_bank : (layout : Layout) (bank : Bank) → layout.banks ≤ bank_at layo
 low_bank layout First = omega arith
 low_bank layout Second = omega arith
 
-high_bank : (layout : Layout) (bank : Bank) → bank_at layout bank + bank_length layout ≤ layout.banks + 2 * bank_length layout
+high_bank : (layout : Layout) (bank : Bank)
+    → bank_at layout bank + bank_length layout ≤ layout.banks + 2 * bank_length layout
 high_bank layout First = omega arith
 high_bank layout Second = omega arith
 
-pub beside_of : (at count : ℕ) (layout : Layout) (bank : Bank) (old new : List ℕ) → AllBut at count old new → bank_at layout bank ≤ at
+pub beside_of : (at count : ℕ) (layout : Layout) (bank : Bank) (old new : List ℕ) → AllBut at count old new
+    → bank_at layout bank ≤ at
     → at + count ≤ bank_at layout bank + bank_length layout → KeepsBeside layout old new
 beside_of at count layout bank old new change low high =
     let from = low_bank layout bank in
     let to = high_bank layout bank in
-    all_but_wider at count layout.banks (2 * bank_length layout) old new (omega (arith, from, low)) (omega (arith, to, high)) change
+    all_but_wider at count layout.banks (2 * bank_length layout) old new (omega (arith, from, low))
+    (omega (arith, to, high)) change
 
-pub beside_then : (layout : Layout) (old mid new : List ℕ) → KeepsBeside layout old mid → KeepsBeside layout mid new → KeepsBeside layout old new
-beside_then layout old mid new first second = all_but_then layout.banks (2 * bank_length layout) old mid new first second
+pub beside_then : (layout : Layout) (old mid new : List ℕ) → KeepsBeside layout old mid → KeepsBeside layout mid new
+    → KeepsBeside layout old new
+beside_then layout old mid new first second = all_but_then layout.banks
+    (2 * bank_length layout) old mid new first second
 
 pub beside_same : (layout : Layout) (image : List ℕ) → KeepsBeside layout image image
 beside_same layout image = all_but_same layout.banks (2 * bank_length layout) image

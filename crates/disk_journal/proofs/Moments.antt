@@ -1,5 +1,6 @@
 -- What a crash may leave during writes that are brought to the disk.
-use Rattle.std.proofs.Common.{◌≡◌, ℕ, ◌+◌, ◌<◌, ◌≤◌, ◌⊎◌, List, [], ◌∷◌, length, get_or, max, refl, sym, ◌∙◌, ap, subst, inl, inr, arith, Result, Ok, Err}
+use Rattle.std.proofs.Common.{◌≡◌, ℕ, ◌+◌, ◌<◌, ◌≤◌, ◌⊎◌, List, [], ◌∷◌, length, get_or, max, refl, sym, ◌∙◌, ap, subst}
+use Rattle.std.proofs.Common.{inl, inr, arith, Result, Ok, Err}
 use Rattle.std.proofs.lemmas.Bool.{cases_lt}
 use Rattle.std.proofs.Math.ListN.{get_or-eq_default}
 use Rattle.sdls_outside.specs.Disk.{Disk, Leaves, IsSynced, Outside}
@@ -10,41 +11,50 @@ use Rattle.disk_journal.specs.Moments.{AllBut, EachImage, OnlySyncs}
 use Rattle.disk_journal.proofs.Ranges.{all_but_same, overwritten_but}
 
 -- nothing has changed
-pub image_same : (old new : Trace) (P : List ℕ → Type 0) → new ≡ old → ((image : List ℕ) → Leaves old.now image → P image)
+pub image_same : (old new : Trace) (P : List ℕ → Type 0) → new ≡ old →
+    ((image : List ℕ) → Leaves old.now image → P image)
     → EachImage old new P
 image_same old new P same holds =
     let here : EachImage old old P = record {
-      moments = each_same old (λ image sunk. P image × (sunk ≡ old.now.sunk)) (λ image leaves. (holds image leaves, refl));
+      moments = each_same old (λ image sunk. P image × (sunk ≡ old.now.sunk))
+          (λ image leaves. (holds image leaves, refl));
       sunk = refl;
     } in
     subst (λ (trace : Trace). EachImage old trace P) (sym same) here
 
 -- one part after the other
-pub image_then : (old mid new : Trace) (P : List ℕ → Type 0) → EachImage old mid P → EachImage mid new P → EachImage old new P
+pub image_then : (old mid new : Trace) (P : List ℕ → Type 0) → EachImage old mid P → EachImage mid new P
+    → EachImage old new P
 image_then old mid new P first second = record {
   moments = each_then old mid new (λ image sunk. P image × (sunk ≡ old.now.sunk)) first.moments
-      (each_weaker mid new (λ image sunk. P image × (sunk ≡ mid.now.sunk)) (λ image sunk. P image × (sunk ≡ old.now.sunk))
+      (each_weaker mid new (λ image sunk. P image × (sunk ≡ mid.now.sunk))
+      (λ image sunk. P image × (sunk ≡ old.now.sunk))
       (λ image sunk holds. (holds.0, holds.1 ∙ first.sunk)) second.moments);
   sunk = second.sunk ∙ first.sunk;
 }
 
-pub image_weaker : (old new : Trace) (P Q : List ℕ → Type 0) → ((image : List ℕ) → P image → Q image) → EachImage old new P → EachImage old new Q
+pub image_weaker : (old new : Trace) (P Q : List ℕ → Type 0) → ((image : List ℕ) → P image → Q image)
+    → EachImage old new P → EachImage old new Q
 image_weaker old new P Q weaker each = record {
-  moments = each_weaker old new (λ image sunk. P image × (sunk ≡ old.now.sunk)) (λ image sunk. Q image × (sunk ≡ old.now.sunk))
+  moments = each_weaker old new (λ image sunk. P image × (sunk ≡ old.now.sunk))
+      (λ image sunk. Q image × (sunk ≡ old.now.sunk))
       (λ image sunk holds. (weaker image holds.0, holds.1)) each.moments;
   sunk = each.sunk;
 }
 
 -- what a crash leaves of a synced image
-pub synced_holds : (disk : Disk) (P : List ℕ → Type 0) → IsSynced disk → P disk.image → (image : List ℕ) → Leaves disk image → P image
+pub synced_holds : (disk : Disk) (P : List ℕ → Type 0) → IsSynced disk → P disk.image → (image : List ℕ)
+    → Leaves disk image → P image
 synced_holds disk P synced here image leaves = subst P (sym (synced_leaves disk image synced leaves)) here
 
 -- some of a write over a synced image, within it
-pub torn_leaves : (at count : ℕ) (old new : Trace) → IsSynced old.now → at + count ≤ length old.now.image → Wrote at count old new
+pub torn_leaves : (at count : ℕ) (old new : Trace) → IsSynced old.now → at + count ≤ length old.now.image
+    → Wrote at count old new
     → (image : List ℕ) → Leaves new.now image → AllBut at count old.now.image image
 torn_leaves at count old new synced within wrote image leaves =
     let was : new.now.synced ≡ old.now.image = wrote.synced ∙ synced.1 in
-    let ranges : new.now.ranges ≡ (at, count) ∷ [] = wrote.ranges ∙ ap (λ (rest : List (ℕ × ℕ)). (at, count) ∷ rest) synced.0 in
+    let ranges : new.now.ranges ≡ (at, count) ∷ [] = wrote.ranges
+    ∙ ap (λ (rest : List (ℕ × ℕ)). (at, count) ∷ rest) synced.0 in
     let size : length new.now.synced ≡ length old.now.image = ap (λ (octets : List ℕ). length octets) was in
     let shorter : length new.now.synced ≤ length image = leaves.no_shorter in
     let longer : length image ≤ length new.now.image = leaves.no_longer in
@@ -64,29 +74,43 @@ torn_leaves at count old new synced within wrote image leaves =
     }
 
 -- a write over a synced image, within it
-pub write_moments : {T E : Type 0} → (at : ℕ) (octets : List ℕ) (result : Result T E) (old new : Trace) → IsSynced old.now
+pub write_moments : {T E : Type 0} → (at : ℕ) (octets : List ℕ) (result : Result T E) (old new : Trace)
+    → IsSynced old.now
     → at + length octets ≤ length old.now.image → Writes at octets result old new
     → EachImage old new (AllBut at (length octets) old.now.image)
 write_moments {E = E} at octets (Ok value) old new synced within writes = record {
-  moments = each_writes {E = E} at octets (Ok value) old new (λ image sunk. AllBut at (length octets) old.now.image image × (sunk ≡ old.now.sunk)) writes
-      (λ image leaves. (synced_holds old.now (AllBut at (length octets) old.now.image) synced (all_but_same at (length octets) old.now.image) image leaves, refl))
+  moments = each_writes {E = E} at octets (Ok value) old new
+      (λ image sunk. AllBut at (length octets) old.now.image image × (sunk ≡ old.now.sunk)) writes
+      (λ image leaves. (
+        synced_holds old.now (AllBut at (length octets) old.now.image) synced
+            (all_but_same at (length octets) old.now.image) image leaves,
+        refl,
+      ))
       (λ wrote image leaves. (torn_leaves at (length octets) old new synced within wrote image leaves, refl));
   sunk = writes.0.sunk;
 }
 write_moments at octets (Err error) old new synced within (inl same) =
     image_same old new (AllBut at (length octets) old.now.image) same
-    (synced_holds old.now (AllBut at (length octets) old.now.image) synced (all_but_same at (length octets) old.now.image))
+    (synced_holds old.now (AllBut at (length octets) old.now.image) synced
+    (all_but_same at (length octets) old.now.image))
 write_moments {T = T} at octets (Err error) old new synced within (inr wrote) = record {
-  moments = each_writes {T = T} at octets (Err error) old new (λ image sunk. AllBut at (length octets) old.now.image image × (sunk ≡ old.now.sunk)) (inr wrote)
-      (λ image leaves. (synced_holds old.now (AllBut at (length octets) old.now.image) synced (all_but_same at (length octets) old.now.image) image leaves, refl))
+  moments = each_writes {T = T} at octets (Err error) old new
+      (λ image sunk. AllBut at (length octets) old.now.image image × (sunk ≡ old.now.sunk)) (inr wrote)
+      (λ image leaves. (
+        synced_holds old.now (AllBut at (length octets) old.now.image) synced
+            (all_but_same at (length octets) old.now.image) image leaves,
+        refl,
+      ))
       (λ wrote image leaves. (torn_leaves at (length octets) old new synced within wrote image leaves, refl));
   sunk = wrote.sunk;
 }
 
 -- one that failed
-pub failed_moments : (at : ℕ) (octets : List ℕ) (old new : Trace) → IsSynced old.now → at + length octets ≤ length old.now.image
+pub failed_moments : (at : ℕ) (octets : List ℕ) (old new : Trace) → IsSynced old.now
+    → at + length octets ≤ length old.now.image
     → (new ≡ old) ⊎ Wrote at (length octets) old new → EachImage old new (AllBut at (length octets) old.now.image)
-failed_moments at octets old new synced within writes = write_moments {T = ℕ} {E = ℕ} at octets (Err 0) old new synced within writes
+failed_moments at octets old new synced within writes = write_moments {T = ℕ} {E = ℕ} at octets
+    (Err 0) old new synced within writes
 
 -- a sync
 pub sync_moments : {T E : Type 0} → (result : Result T E) (old new : Trace) (P : List ℕ → Type 0) → Syncs result old new
@@ -99,7 +123,8 @@ sync_moments {E = E} (Ok value) old new P syncs before after = record {
 sync_moments (Err error) old new P same before after = image_same old new P same before
 
 -- a write that is Ok, and the sync behind it
-pub stored_moments : {T E : Type 0} → (at : ℕ) (octets : List ℕ) (result : Result T E) (old mid new : Trace) → IsSynced old.now
+pub stored_moments : {T E : Type 0} → (at : ℕ) (octets : List ℕ) (result : Result T E) (old mid new : Trace)
+    → IsSynced old.now
     → at + length octets ≤ length old.now.image
     → Wrote at (length octets) old mid × (mid.now.image ≡ overwritten old.now.image at octets) → Syncs result mid new
     → EachImage old new (AllBut at (length octets) old.now.image)
@@ -110,6 +135,8 @@ stored_moments at octets result old mid new synced within writes syncs =
     (subst P (sym writes.1) (overwritten_but old.now.image at octets within)))
 
 -- a sync, or nothing
-pub only_syncs_moments : (old new : Trace) → OnlySyncs old new → Leaves old.now old.now.image → EachImage old new (Leaves old.now)
+pub only_syncs_moments : (old new : Trace) → OnlySyncs old new → Leaves old.now old.now.image → EachImage old new
+    (Leaves old.now)
 only_syncs_moments old new (inl same) stays = image_same old new (Leaves old.now) same (λ image leaves. leaves)
-only_syncs_moments old new (inr synced) stays = sync_moments {T = ℕ} {E = ℕ} (Ok 0) old new (Leaves old.now) synced (λ image leaves. leaves) stays
+only_syncs_moments old new (inr synced) stays = sync_moments {T = ℕ} {E = ℕ} (Ok 0) old new (Leaves old.now) synced
+    (λ image leaves. leaves) stays

@@ -1,8 +1,10 @@
 -- A whole migration.
-use Rattle.std.proofs.Common.{◌≡◌, ℕ, ◌+◌, ◌-◌, ◌^◌, ◌<◌, ◌≤◌, ◌⊎◌, ◌∷◌, ◌∙◌, List, [], length, get_or, sym, ap, subst, inl, inr, arith}
+use Rattle.std.proofs.Common.{◌≡◌, ℕ, ◌+◌, ◌-◌, ◌^◌, ◌<◌, ◌≤◌, ◌⊎◌, ◌∷◌, ◌∙◌, List, [], length, get_or, sym, ap, subst}
+use Rattle.std.proofs.Common.{inl, inr, arith}
 use Rattle.disk_journal.proofs.Ends.{fresh_view, starts_of}
 use Rattle.disk_journal.proofs.Keeping.{front_bounds, fresh_generation}
-use Rattle.disk_journal.proofs.Moves.{IsMigrated, Moves, erasing_migrated, migrated_at, migrated_fresh, migrated_holds, migrated_layout, migrated_rests, migrated_stands, moves_become}
+use Rattle.disk_journal.proofs.Moves.{IsMigrated, Moves, erasing_migrated, migrated_at, migrated_fresh, migrated_holds}
+use Rattle.disk_journal.proofs.Moves.{migrated_layout, migrated_rests, migrated_stands, moves_become}
 use Rattle.disk_journal.proofs.Stands.{Stands, stands_at, stands_current, stands_opens, stands_records}
 use Rattle.disk_journal.proofs.Turns.{after}
 use Rattle.disk_journal.specs.Banks.{bank_at, bank_length, bank_generation, image_end, other}
@@ -29,32 +31,41 @@ pub record IsMoving (image : List ℕ) (journal : JournalView) (plan_length : �
   pub plan : plan_length ≡ length (plan_of image)
   pub layout_is : layout ≡ migrated_layout (image_layout image)
 
-pub is_moving : (image : List ℕ) (journal inside : JournalView) (layout : Layout) → inside ≡ journal → IsSettledImage image journal
-    → journal.layout.form ≡ Old → layout ≡ migrated_layout inside.layout → IsMoving image journal inside.plan_length layout
+pub is_moving : (image : List ℕ) (journal inside : JournalView) (layout : Layout) → inside ≡ journal
+    → IsSettledImage image journal
+    → journal.layout.form ≡ Old → layout ≡ migrated_layout inside.layout
+    → IsMoving image journal inside.plan_length layout
 is_moving image journal inside layout same settled old_is layout_is = record {
   of_image = settled;
   old_form = old_is;
   plan = ap (λ (view : JournalView). view.plan_length) same ∙ settled.closed.of_image.plan;
-  layout_is = layout_is ∙ ap (λ (view : JournalView). migrated_layout view.layout) same ∙ ap migrated_layout settled.closed.of_image.layout;
+  layout_is = layout_is ∙ ap (λ (view : JournalView). migrated_layout view.layout) same
+      ∙ ap migrated_layout settled.closed.of_image.layout;
 }
 
-moves_of : (image : List ℕ) (journal : JournalView) (plan_length : ℕ) (layout : Layout) → IsMoving image journal plan_length layout
+moves_of : (image : List ℕ) (journal : JournalView) (plan_length : ℕ) (layout : Layout)
+    → IsMoving image journal plan_length layout
     → Moves image (image_layout image) (current image) (records image)
 moves_of image journal plan_length layout moving = record {
   starts = starts_of image journal moving.of_image;
   old_form = ap (λ (one : Layout). one.form) (sym moving.of_image.closed.of_image.layout) ∙ moving.old_form;
 }
 
-pub move_within : (image : List ℕ) (journal : JournalView) (plan_length : ℕ) (layout : Layout) → IsMoving image journal plan_length layout
+pub move_within : (image : List ℕ) (journal : JournalView) (plan_length : ℕ) (layout : Layout)
+    → IsMoving image journal plan_length layout
     → layout.banks ≤ length image
 move_within image journal plan_length layout moving =
     let moves = moves_of image journal plan_length layout moving in
-    let long : image_end (image_layout image) ≤ length image = front_bounds image (image_layout image) moves.starts.stands.front in
+    let long : image_end (image_layout image) ≤ length image = front_bounds image
+    (image_layout image) moves.starts.stands.front in
     subst (λ (one : Layout). one.banks ≤ length image) (sym moving.layout_is)
-    (subst (λ (n : ℕ). n ≤ length image) (migrated_at image (image_layout image) (current image) (records image) moves) long)
+    (subst (λ (n : ℕ). n ≤ length image)
+    (migrated_at image (image_layout image) (current image) (records image) moves) long)
 
-pub move_moments : (journal : JournalView) (plan_length generation : ℕ) (layout : Layout) (text : List ℕ) (old new : Trace)
-    → IsMoving old.now.image journal plan_length layout → EachImage old new (Migrates layout generation text old.now.image)
+pub move_moments : (journal : JournalView) (plan_length generation : ℕ) (layout : Layout) (text : List ℕ)
+    (old new : Trace)
+    → IsMoving old.now.image journal plan_length layout → EachImage old new
+    (Migrates layout generation text old.now.image)
     → EachImage old new (Becomes (held old.now.image) (migrated text (held old.now.image)))
 move_moments journal plan_length generation layout text old new moving each =
     let image = old.now.image in
@@ -72,7 +83,8 @@ pub record HasMoved (old : List ℕ) (layout : Layout) (generation : ℕ) (text 
   pub holds : Holds image (after old layout text)
   pub rest : IsRest image First generation text
 
-migrated_end : (old : List ℕ) (layout : Layout) (generation : ℕ) (text image : List ℕ) → IsMigrated old layout generation text image
+migrated_end : (old : List ℕ) (layout : Layout) (generation : ℕ) (text image : List ℕ)
+    → IsMigrated old layout generation text image
     → generation < 2 ^ 64 → IsZero BANKS_AT layout.banks image → HasMoved old layout generation text image
 migrated_end old layout generation text image moved fits old_banks =
     let stands : Stands image layout First [] = migrated_stands old layout generation text image moved in
@@ -89,12 +101,15 @@ migrated_end old layout generation text image moved fits old_banks =
             layout = sym count;
             bank = sym is_current;
             generation = sym (ap (λ (at : ℕ). bank_generation image at) (stands_at image layout First [] stands)
-                ∙ fresh_generation (bank_at layout First) layout generation text image (migrated_fresh old layout generation text image moved) fits);
+                ∙ fresh_generation (bank_at layout First) layout generation text image
+                (migrated_fresh old layout generation text image moved) fits);
             used = ap (λ (some : List (List ℕ)). length some) (sym (stands_records image layout First [] stands));
           };
           rests = migrated_rests old layout generation text image moved;
-          spare = subst (λ (one : Layout). IsZero (bank_at one (other (current image))) (bank_at one (other (current image)) + bank_length one) image) (sym count)
-              (subst (λ (one : Bank). IsZero (bank_at layout (other one)) (bank_at layout (other one) + bank_length layout) image) (sym is_current) spare);
+          spare = subst (λ (one : Layout). IsZero (bank_at one (other (current image)))
+              (bank_at one (other (current image)) + bank_length one) image) (sym count)
+              (subst (λ (one : Bank). IsZero (bank_at layout (other one))
+              (bank_at layout (other one) + bank_length layout) image) (sym is_current) spare);
         };
         old_banks = subst (λ (one : Layout). IsZero BANKS_AT one.banks image) (sym count) old_banks;
       };
@@ -128,16 +143,19 @@ has_moved journal plan_length generation layout text old new moving fits done =
     (moves_of old journal plan_length layout moving) here.1 here.2.change)
     fits (λ i low high. here.2.zero i low (omega arith)))
 
-pub move_settled : (journal : JournalView) (plan_length generation : ℕ) (layout : Layout) (text : List ℕ) (old new : Trace)
+pub move_settled : (journal : JournalView) (plan_length generation : ℕ) (layout : Layout) (text : List ℕ)
+    (old new : Trace)
     → IsMoving old.now.image journal plan_length layout → generation < 2 ^ 64
     → IsSynced new.now × IsMigration layout generation text old.now.image new.now.image
     → IsSettled new (fresh_view plan_length layout First generation)
 move_settled journal plan_length generation layout text old new moving fits done = record {
   synced = done.0;
-  of_image = (has_moved journal plan_length generation layout text old.now.image new.now.image moving fits done.1).of_image plan_length moving.plan;
+  of_image = (has_moved journal plan_length generation layout text old.now.image new.now.image moving fits
+      done.1).of_image plan_length moving.plan;
 }
 
-pub move_holds : (journal : JournalView) (plan_length generation : ℕ) (layout : Layout) (text : List ℕ) (old new : Trace)
+pub move_holds : (journal : JournalView) (plan_length generation : ℕ) (layout : Layout) (text : List ℕ)
+    (old new : Trace)
     → IsMoving old.now.image journal plan_length layout → generation < 2 ^ 64
     → IsSynced new.now × IsMigration layout generation text old.now.image new.now.image
     → held new.now.image ≡ migrated text (held old.now.image)
@@ -151,11 +169,14 @@ pub move_rest : (journal : JournalView) (plan_length generation : ℕ) (layout :
     → (image : List ℕ) → Leaves new.now image → IsRest image First generation text
 move_rest journal plan_length generation layout text old new moving fits done image leaves =
     synced_holds new.now (λ left. IsRest left First generation text) done.0
-    (has_moved journal plan_length generation layout text old.now.image new.now.image moving fits done.1).rest image leaves
+    (has_moved journal plan_length generation layout text old.now.image new.now.image moving fits done.1).rest image
+    leaves
 
 -- what stands before all banks
-pub move_before : (generation : ℕ) (layout : Layout) (text old new : List ℕ) → IsMigration layout generation text old new
-    → BANKS_AT ≤ layout.banks → (i : ℕ) → (i < MIGRATED_AT) ⊎ ((MIGRATED_AT < i) × (i < BANKS_AT)) → get_or new i 0 ≡ get_or old i 0
+pub move_before : (generation : ℕ) (layout : Layout) (text old new : List ℕ)
+    → IsMigration layout generation text old new
+    → BANKS_AT ≤ layout.banks → (i : ℕ) → (i < MIGRATED_AT) ⊎ ((MIGRATED_AT < i) × (i < BANKS_AT))
+    → get_or new i 0 ≡ get_or old i 0
 move_before generation layout text old new done behind i away =
     let low : i < BANKS_AT = elim away [ inl before ↦ omega arith | inr after ↦ after.1 ] in
     let beside : (i < MIGRATED_AT) ⊎ (MIGRATED_AT + 1 ≤ i) =
@@ -171,8 +192,10 @@ pub move_past : (generation : ℕ) (layout : Layout) (text old new : List ℕ) �
 move_past generation layout text old new done behind =
     let laid = done.0 in
     let long : image_end layout ≤ length laid = done.1.banks.long in
-    let octet : AllBut MIGRATED_AT 1 laid (with_migration laid) = overwritten_but laid MIGRATED_AT (OPEN ∷ []) (omega arith) in
+    let octet : AllBut MIGRATED_AT 1 laid (with_migration laid) = overwritten_but laid MIGRATED_AT (OPEN ∷ [])
+    (omega arith) in
     record {
       length_is = done.2.change.same_length ∙ octet.same_length ∙ done.1.past.length_is;
-      past = λ i high. done.2.change.outside i (inr (omega arith)) ∙ octet.outside i (inr (omega arith)) ∙ done.1.past.past i high;
+      past = λ i high. done.2.change.outside i (inr (omega arith)) ∙ octet.outside i (inr (omega arith))
+          ∙ done.1.past.past i high;
     }

@@ -1,7 +1,9 @@
 -- Octets that are written over an image, or past its end.
-use Rattle.std.proofs.Common.{◌≡◌, ℕ, ◌+◌, ◌-◌, ◌<◌, ◌≤◌, ◌++◌, ◌∙◌, List, [], length, get_or, take, drop, sym, ap, subst, arith, append-nil, append_assoc, length-append, length-drop}
+use Rattle.std.proofs.Common.{◌≡◌, ℕ, ◌+◌, ◌-◌, ◌<◌, ◌≤◌, ◌++◌, ◌∙◌, List, [], length, get_or, take, drop, sym, ap}
+use Rattle.std.proofs.Common.{subst, arith, append-nil, append_assoc, length-append, length-drop}
 use Rattle.std.proofs.Math.Seq.{drop-append-add, take-append_seam}
-use Rattle.std.proofs.lemmas.List.{drop-drop, get_or-append_right, get_or-drop, get_or-replicate, get_or-take, get_or_append_left, length-take-le, take-append-drop}
+use Rattle.std.proofs.lemmas.List.{drop-drop, get_or-append_right, get_or-drop, get_or-replicate, get_or-take}
+use Rattle.std.proofs.lemmas.List.{get_or_append_left, length-take-le, take-append-drop}
 use Rattle.sdls_outside.specs.Site.{overwritten}
 use Rattle.disk_journal.specs.Changes.{IsZero, KeepsPast}
 use Rattle.disk_journal.specs.Zeros.{zeros}
@@ -14,7 +16,8 @@ pub record Grown (image : List ℕ) (at : ℕ) (octets new : List ℕ) : Type 0 
   pub here : (i : ℕ) → at ≤ i → i < at + length octets → get_or new i 0 ≡ get_or octets (i - at) 0
   pub past : KeepsPast (at + length octets) image new
 
-pub grown : (image : List ℕ) (at : ℕ) (octets : List ℕ) → at ≤ length image → Grown image at octets (overwritten image at octets)
+pub grown : (image : List ℕ) (at : ℕ) (octets : List ℕ) → at ≤ length image → Grown image at octets
+    (overwritten image at octets)
 grown image at octets within =
     let front : length (take at image) ≡ at = length-take-le at image within in
     let back = drop (at + length octets) image in
@@ -30,7 +33,8 @@ grown image at octets within =
         past = λ i high.
             let same : at + length octets + (i - (at + length octets)) ≡ i = omega arith in
             get_or-append_right (take at image ++ octets) back (at + length octets) i 0 first high
-            ∙ get_or-drop (at + length octets) image (i - (at + length octets)) 0 ∙ ap (λ (k : ℕ). get_or image k 0) same;
+            ∙ get_or-drop (at + length octets) image (i - (at + length octets)) 0
+            ∙ ap (λ (k : ℕ). get_or image k 0) same;
       };
       before = λ i low.
           let near : i < length (take at image) = omega arith in
@@ -68,8 +72,10 @@ overwritten_more image at first second within =
     let end : n + length second ≡ at + length (first ++ second) =
     (let sum = length-append first second in omega (arith, sum)) in
     ap (λ (some : List ℕ). some ++ second ++ drop (n + length second) (front ++ back)) one
-    ∙ ap (λ (some : List ℕ). front ++ second ++ some) (two ∙ drop-drop (length second) n image ∙ ap (λ (k : ℕ). drop k image) end)
-    ∙ ap (λ (some : List ℕ). some ++ drop (at + length (first ++ second)) image) (append_assoc (take at image) first second)
+    ∙ ap (λ (some : List ℕ). front ++ second ++ some)
+    (two ∙ drop-drop (length second) n image ∙ ap (λ (k : ℕ). drop k image) end)
+    ∙ ap (λ (some : List ℕ). some ++ drop (at + length (first ++ second)) image)
+    (append_assoc (take at image) first second)
 
 -- zeros behind zeros
 pub zeros_more : (image mid new : List ℕ) (at n more : ℕ) → at ≤ length image → mid ≡ overwritten image at (zeros n)
@@ -91,10 +97,12 @@ pub record Zeroed (at n : ℕ) (image new : List ℕ) : Type 0 where
   pub zero : IsZero at (at + n) new
   pub past : KeepsPast (at + n) image new
 
-pub zeroed : (image new : List ℕ) (at n : ℕ) → at ≤ length image → new ≡ overwritten image at (zeros n) → Zeroed at n image new
+pub zeroed : (image new : List ℕ) (at n : ℕ) → at ≤ length image → new ≡ overwritten image at (zeros n)
+    → Zeroed at n image new
 zeroed image new at n within written =
     let size : length (zeros n) ≡ n = length_zeros n in
-    let more : Grown image at (zeros n) new = subst (Grown image at (zeros n)) (sym written) (grown image at (zeros n) within) in
+    let more : Grown image at (zeros n) new = subst (Grown image at (zeros n)) (sym written)
+    (grown image at (zeros n) within) in
     let long : at + length (zeros n) ≤ length new = more.long in
     record {
       long = omega arith;

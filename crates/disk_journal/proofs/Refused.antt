@@ -17,11 +17,13 @@ short_image size short = grind (arith, nat_tests)
 -- an image without a whole header
 pub short_verdict : (image : List ℕ) → length image < HEADER_LENGTH → image_fault image ≡ Some 0
 unfolding image_fault
-short_verdict image short = failed_first (nat_lt (length image) HEADER_LENGTH) 0 (of_header image ++ (banks_part image ++ gates_part image))
+short_verdict image short = failed_first (nat_lt (length image) HEADER_LENGTH) 0
+    (of_header image ++ (banks_part image ++ gates_part image))
     (short_image (length image) short)
 
 -- a header that fails a check
-pub header_verdict : (image octets : List ℕ) (size offset : ℕ) → size ≡ length image → HEADER_LENGTH ≤ size → octets ≡ header_of image
+pub header_verdict : (image octets : List ℕ) (size offset : ℕ) → size ≡ length image → HEADER_LENGTH ≤ size
+    → octets ≡ header_of image
     → first_failing (header_checks octets size) ≡ Some offset → image_fault image ≡ Some offset
 unfolding image_fault
 header_verdict image octets size offset sized whole same failed =
@@ -29,5 +31,6 @@ header_verdict image octets size offset sized whole same failed =
     subst (λ (n : ℕ). first_failing (header_checks (header_of image) n) ≡ Some offset) sized
     (subst (λ (header : List ℕ). first_failing (header_checks header size) ≡ Some offset) same failed) in
     let long : HEADER_LENGTH ≤ length image = omega arith in
-    passed_first (nat_lt (length image) HEADER_LENGTH) 0 (of_header image ++ (banks_part image ++ gates_part image)) (short_test (length image) long)
+    passed_first (nat_lt (length image) HEADER_LENGTH) 0 (of_header image ++ (banks_part image ++ gates_part image))
+    (short_test (length image) long)
     ∙ failed_append (of_header image) (banks_part image ++ gates_part image) offset here

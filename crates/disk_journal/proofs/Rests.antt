@@ -1,9 +1,11 @@
 -- An image that is brought to rest.
-use Rattle.std.proofs.Common.{◌≡◌, ◌≢◌, ℕ, ◌+◌, ◌<◌, ◌≤◌, ◌⊎◌, ◌∙◌, List, length, get_or, refl, sym, ap, subst, inl, inr, arith}
+use Rattle.std.proofs.Common.{◌≡◌, ◌≢◌, ℕ, ◌+◌, ◌<◌, ◌≤◌, ◌⊎◌, ◌∙◌, List, length, get_or, refl, sym, ap, subst, inl}
+use Rattle.std.proofs.Common.{inr, arith}
 use Rattle.disk_journal.proofs.Keeping.{SameBank, bank_kept, front_kept, plan_kept}
 use Rattle.disk_journal.proofs.Stands.{HasFront, IsStill, Stands, apart, behind, gate_in, held_by, holds_of}
 use Rattle.disk_journal.proofs.Turns.{after, before, rest_becomes}
-use Rattle.disk_journal.specs.Banks.{bank_at, bank_length, slot_body, bank_content, slot_gate, bank_generation, head_length, other, slot_at}
+use Rattle.disk_journal.specs.Banks.{bank_at, bank_length, slot_body, bank_content, slot_gate, bank_generation}
+use Rattle.disk_journal.specs.Banks.{head_length, other, slot_at}
 use Rattle.disk_journal.specs.declared.layout.HeaderForm.{HeaderForm}
 use Rattle.disk_journal.specs.Changes.{Gated, GatedForm, GatedSlot}
 use Rattle.disk_journal.specs.Forms.{Holds, Regates, Settles}
@@ -29,10 +31,13 @@ pub record Keeps (old new : List ℕ) (layout : Layout) (bank : Bank) (used : �
   pub gate : get_or new (bank_at layout bank) 0 ≡ OPEN
   pub same_content : bank_content layout new (bank_at layout bank) ≡ bank_content layout old (bank_at layout bank)
   pub same_generation : bank_generation new (bank_at layout bank) ≡ bank_generation old (bank_at layout bank)
-  pub gates : (k : ℕ) → k < layout.slots → k ≢ used → slot_gate layout new (bank_at layout bank) k ≡ slot_gate layout old (bank_at layout bank) k
-  pub bodies : (k : ℕ) → k < layout.slots → k ≢ used → slot_body layout new (bank_at layout bank) k ≡ slot_body layout old (bank_at layout bank) k
+  pub gates : (k : ℕ) → k < layout.slots → k ≢ used → slot_gate layout new
+      (bank_at layout bank) k ≡ slot_gate layout old (bank_at layout bank) k
+  pub bodies : (k : ℕ) → k < layout.slots → k ≢ used → slot_body layout new
+      (bank_at layout bank) k ≡ slot_body layout old (bank_at layout bank) k
 
-pub keeps_same : (old : List ℕ) (layout : Layout) (bank : Bank) (bodies : List (List ℕ)) → Stands old layout bank bodies → Keeps old old layout bank (length bodies)
+pub keeps_same : (old : List ℕ) (layout : Layout) (bank : Bank) (bodies : List (List ℕ)) → Stands old layout bank bodies
+    → Keeps old old layout bank (length bodies)
 keeps_same old layout bank bodies stands = record {
   front = stands.front;
   plan = refl;
@@ -43,13 +48,15 @@ keeps_same old layout bank bodies stands = record {
   bodies = λ k below other. refl;
 }
 
-bank_kept_front : (at : ℕ) (layout : Layout) (old new : List ℕ) (bank : Bank) → AllBut at 1 old new → bank_at layout bank + head_length layout ≤ at
+bank_kept_front : (at : ℕ) (layout : Layout) (old new : List ℕ) (bank : Bank) → AllBut at 1 old new
+    → bank_at layout bank + head_length layout ≤ at
     → bank_generation new (bank_at layout bank) ≡ bank_generation old (bank_at layout bank)
 bank_kept_front at layout old new bank change far =
     ap (big_number 8) (same_stretch at 1 (bank_at layout bank + 1) 8 old new change (inl (omega arith)))
 
 -- a change of the gate of the first closed slot
-pub keeps_slot : (old new : List ℕ) (layout : Layout) (used : ℕ) (bank : Bank) (bodies : List (List ℕ)) → Stands old layout bank bodies → used ≡ length bodies
+pub keeps_slot : (old new : List ℕ) (layout : Layout) (used : ℕ) (bank : Bank) (bodies : List (List ℕ))
+    → Stands old layout bank bodies → used ≡ length bodies
     → AllBut (slot_at layout (bank_at layout bank) used) 1 old new → Keeps old new layout bank (length bodies)
 keeps_slot old new layout used bank bodies stands count change =
     let from = bank_at layout bank in
@@ -62,17 +69,24 @@ keeps_slot old new layout used bank bodies stands count change =
       same_content = same_stretch at 1 (from + CONTENT_AT) layout.content_length old new change (inl (omega arith));
       same_generation = (bank_kept_front at layout old new bank change (omega arith));
       gates = λ k below other. change.outside (slot_at layout from k)
-          (elim (cases_lt k used) [ inl low ↦ inl (omega arith) | inr high ↦ inr (let after : used < k = omega arith in omega arith) ]);
+          (elim (cases_lt k used) [
+            | inl low ↦ inl (omega arith)
+            | inr high ↦ inr
+                (let after : used < k = omega arith in omega arith)
+          ]);
       bodies = λ k below other. same_stretch at 1 (slot_at layout from k + 1) BODY_LENGTH old new change
           (elim (cases_lt k used) [ inl low ↦ inl (omega arith) | inr high ↦ inr (omega arith) ]);
     }
 
 -- a change in the other bank
-pub keeps_other : (old mid new : List ℕ) (layout : Layout) (used at count : ℕ) (bank : Bank) → Keeps old mid layout bank used → AllBut at count mid new
-    → bank_at layout (other bank) ≤ at → at + count ≤ bank_at layout (other bank) + bank_length layout → Keeps old new layout bank used
+pub keeps_other : (old mid new : List ℕ) (layout : Layout) (used at count : ℕ) (bank : Bank)
+    → Keeps old mid layout bank used → AllBut at count mid new
+    → bank_at layout (other bank) ≤ at → at + count ≤ bank_at layout (other bank) + bank_length layout
+    → Keeps old new layout bank used
 keeps_other old mid new layout used at count bank keeps change low high =
     let from = bank_at layout bank in
-    let far : HEADER_LENGTH + PLAN_ROOM ≤ bank_at layout (other bank) = behind layout (other bank) keeps.front.behind_plan in
+    let far : HEADER_LENGTH + PLAN_ROOM ≤ bank_at layout (other bank) = behind layout
+    (other bank) keeps.front.behind_plan in
     let aside : (from + bank_length layout ≤ at) ⊎ (at + count ≤ from) =
     elim (apart layout bank) [ inl before ↦ inl (omega arith) | inr after ↦ inr (omega arith) ] in
     let same : SameBank from layout mid new = bank_kept at count from layout mid new change
@@ -96,7 +110,8 @@ pub record Shut (new : List ℕ) (layout : Layout) (bank : Bank) (used : ℕ) : 
   pub beside : get_or new (bank_at layout (other bank)) 0 ≡ CLOSED
   pub still : IsStill layout new
 
-keeps_stands : (old new : List ℕ) (layout : Layout) (bank : Bank) (bodies : List (List ℕ)) → Stands old layout bank bodies
+keeps_stands : (old new : List ℕ) (layout : Layout) (bank : Bank) (bodies : List (List ℕ))
+    → Stands old layout bank bodies
     → Keeps old new layout bank (length bodies) → Shut new layout bank (length bodies) → Stands new layout bank bodies
 keeps_stands old new layout bank bodies stands keeps shut =
     let from = bank_at layout bank in
@@ -104,8 +119,13 @@ keeps_stands old new layout bank bodies stands keeps shut =
     record {
       front = keeps.front;
       newest = (keeps.gate, inl (not_open (get_or new (bank_at layout (other bank)) 0) shut.beside));
-      are = records_stay (slot_gate layout old from) (slot_gate layout new from) (slot_body layout old from) (slot_body layout new from) layout.slots bodies stands.are
-          (record { gates = λ k below. keeps.gates k (omega arith) (omega arith); bodies = λ k below. keeps.bodies k (omega arith) (omega arith) })
+      are = records_stay (slot_gate layout old from) (slot_gate layout new from) (slot_body layout old from)
+          (slot_body layout new from) layout.slots bodies stands.are
+          (record {
+            gates = λ k below. keeps.gates k (omega arith) (omega arith);
+            bodies = λ k below. keeps.bodies k
+                (omega arith) (omega arith);
+          })
           (λ room. not_open (slot_gate layout new from (length bodies)) (shut.slot room));
       quiet = λ k above below. keeps.gates k below (omega arith) ∙ stands.quiet k above below;
     }
@@ -127,21 +147,25 @@ pub record Rested (old new : List ℕ) (layout : Layout) (bank : Bank) (bodies :
   pub generation : bank_generation new (bank_at layout bank) ≡ bank_generation old (bank_at layout bank)
 
 pub rested : (old new : List ℕ) (layout : Layout) (bank : Bank) (bodies : List (List ℕ)) → Stands old layout bank bodies
-    → Keeps old new layout bank (length bodies) → Shut new layout bank (length bodies) → Rested old new layout bank bodies
+    → Keeps old new layout bank (length bodies) → Shut new layout bank (length bodies)
+    → Rested old new layout bank bodies
 rested old new layout bank bodies stands keeps shut =
     let new_stands = keeps_stands old new layout bank bodies stands keeps shut in
     record {
       stands = new_stands;
-      holds = holds_of new layout bank bodies (plan_of old) (bank_content layout old (bank_at layout bank)) new_stands keeps.plan keeps.same_content;
+      holds = holds_of new layout bank bodies (plan_of old)
+          (bank_content layout old (bank_at layout bank)) new_stands keeps.plan keeps.same_content;
       rests = shut_rests old new layout bank bodies new_stands shut;
       generation = keeps.same_generation;
     }
 
-pub rested_settles : (old new : List ℕ) → Rested old new (image_layout old) (current old) (records old) → Settles old new
+pub rested_settles : (old new : List ℕ) → Rested old new (image_layout old) (current old) (records old)
+    → Settles old new
 rested_settles old new rested = inr (rest_becomes (held old) (held old) new (inl rested.holds) rested.rests)
 
 -- one gate of the old image
-pub regates_one : (old new : List ℕ) (at : ℕ) → (get_or old at 0 ≢ CLOSED → IsClosedGate old at) → Gated at old new → Regates old new
+pub regates_one : (old new : List ℕ) (at : ℕ) → (get_or old at 0 ≢ CLOSED → IsClosedGate old at) → Gated at old new
+    → Regates old new
 regates_one old new at closed (inl same) = record {
   same_length = ap (λ (image : List ℕ). length image) same;
   others = λ i away. ap (λ (image : List ℕ). get_or image i 0) same;
@@ -162,7 +186,8 @@ regates_two old mid new at first same closed gated =
     λ i away. elim gated [
       | inl whole ↦ ap (λ (image : List ℕ). get_or image i 0) whole
       | inr torn ↦ elim (cases_eq i at) [
-        | inl here ↦ absurd (away (subst (IsClosedGate old) (sym here) (closed (subst (λ (octet : ℕ). octet ≢ CLOSED) same torn.0))))
+        | inl here ↦ absurd (away (subst (IsClosedGate old) (sym here)
+            (closed (subst (λ (octet : ℕ). octet ≢ CLOSED) same torn.0))))
         | inr other ↦ torn.1.outside i (elim (cases_lt i at) [ inl low ↦ inl low | inr high ↦ inr (omega arith) ])
       ]
     ] in
@@ -180,8 +205,10 @@ form_here form old synced = image_same old old (GatedForm form old.now.image) re
     (synced_holds old.now (GatedForm form old.now.image) synced (inl refl))
 
 pub gated_here : (at : ℕ) (old new : Trace) → IsSynced old.now → new ≡ old → EachImage old new (Gated at old.now.image)
-gated_here at old new synced same = image_same old new (Gated at old.now.image) same (synced_holds old.now (Gated at old.now.image) synced (inl refl))
+gated_here at old new synced same = image_same old new (Gated at old.now.image) same
+    (synced_holds old.now (Gated at old.now.image) synced (inl refl))
 
-pub gated_slot_here : (at index slots : ℕ) (old new : Trace) → IsSynced old.now → new ≡ old → EachImage old new (GatedSlot at index slots old.now.image)
+pub gated_slot_here : (at index slots : ℕ) (old new : Trace) → IsSynced old.now → new ≡ old → EachImage old new
+    (GatedSlot at index slots old.now.image)
 gated_slot_here at index slots old new synced same = image_same old new (GatedSlot at index slots old.now.image) same
     (synced_holds old.now (GatedSlot at index slots old.now.image) synced (inl refl))

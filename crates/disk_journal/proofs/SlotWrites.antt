@@ -11,13 +11,15 @@ abbrev pub Storing : ℕ → List ℕ → List ℕ → List ℕ → Type 0
 Storing at body old image = AllBut (at + 1) BODY_LENGTH old image ⊎ AllBut at 1 (overwritten old (at + 1) body) image
 
 pub body_first : (at : ℕ) (body : List ℕ) (old new : Trace) → length body ≡ BODY_LENGTH
-    → EachImage old new (AllBut (at + 1) (length body) old.now.image) → EachImage old new (Storing at body old.now.image)
+    → EachImage old new (AllBut (at + 1) (length body) old.now.image) → EachImage old new
+    (Storing at body old.now.image)
 body_first at body old new sized each =
     image_weaker old new (AllBut (at + 1) (length body) old.now.image) (Storing at body old.now.image)
     (λ image change. inl (subst (λ (n : ℕ). AllBut (at + 1) n old.now.image image) sized change)) each
 
 pub gate_second : (at : ℕ) (body : List ℕ) (old mid new : Trace) → length body ≡ BODY_LENGTH
-    → EachImage old mid (AllBut (at + 1) (length body) old.now.image) → mid.now.image ≡ overwritten old.now.image (at + 1) body
+    → EachImage old mid (AllBut (at + 1) (length body) old.now.image) → mid.now.image ≡ overwritten old.now.image
+    (at + 1) body
     → EachImage mid new (AllBut at 1 mid.now.image) → EachImage old new (Storing at body old.now.image)
 gate_second at body old mid new sized first written second =
     image_then old mid new (Storing at body old.now.image) (body_first at body old mid sized first)

@@ -1,5 +1,6 @@
 -- A whole image whose octets are stated, for `rest_is_whole`.
-use Rattle.std.proofs.Common.{◌≡◌, ℕ, suc, ◌+◌, ◌-◌, ◌*◌, ◌<◌, ◌≤◌, ◌++◌, ◌∷◌, ◌∙◌, List, [], length, get_or, take, drop, replicate, sym, ap, subst, inl, inr, arith, append_assoc, length-drop}
+use Rattle.std.proofs.Common.{◌≡◌, ℕ, suc, ◌+◌, ◌-◌, ◌*◌, ◌<◌, ◌≤◌, ◌++◌, ◌∷◌, ◌∙◌, List, [], length, get_or, take}
+use Rattle.std.proofs.Common.{drop, replicate, sym, ap, subst, inl, inr, arith, append_assoc, length-drop}
 use Rattle.disk_journal.proofs.Beginning.{zeros_joined}
 use Rattle.disk_journal.proofs.Stands.{banks_behind}
 use Rattle.disk_journal.specs.Banks.{bank_at, bank_length, banks_of, head_length, image_end, layout_of}
@@ -11,13 +12,15 @@ use Rattle.disk_journal.specs.declared.layout.Bank.{Bank}
 use Rattle.disk_journal.specs.declared.layout.Bank.TheVariants.{First, Second}
 use Rattle.disk_journal.specs.declared.layout.HeaderForm.{HeaderForm}
 use Rattle.disk_journal.specs.declared.layout.Layout.{Layout}
-use Rattle.disk_journal.specs.declared.layout.TheConstants.{BANKS_AT, CONTENT_AT, GENERATION_AT, GENERATION_LENGTH, OPEN, SLOT_LENGTH}
+use Rattle.disk_journal.specs.declared.layout.TheConstants.{BANKS_AT, CONTENT_AT, GENERATION_AT, GENERATION_LENGTH}
+use Rattle.disk_journal.specs.declared.layout.TheConstants.{OPEN, SLOT_LENGTH}
 use Rattle.byteorder.specs.Endian.{big_bytes}
 use Rattle.disk_journal.proofs.ZeroLists.{length_zeros}
 use Rattle.disk_journal.specs.Zeros.{zeros}
 use Rattle.std.proofs.Math.ListN.{get_or-eq_default, get_or-replicate}
 use Rattle.std.proofs.lemmas.Bool.{cases_lt}
-use Rattle.std.proofs.lemmas.List.{drop-drop, ext_get_or, get_or-drop, get_or-take, length-replicate, length-take-le, take-append-drop}
+use Rattle.std.proofs.lemmas.List.{drop-drop, ext_get_or, get_or-drop, get_or-take, length-replicate, length-take-le}
+use Rattle.std.proofs.lemmas.List.{take-append-drop}
 
 zeros_at : (n i : ℕ) → get_or (zeros n) i 0 ≡ 0
 unfolding zeros
@@ -31,7 +34,8 @@ all_zeros octets n sized zero_there =
     ext_get_or 0 octets (zeros n) (sized ∙ sym (length_zeros n)) (λ i below.
     let low : i < n = omega arith in zero_there i low ∙ sym (zeros_at n i))
 
-zero_part : (image : List ℕ) (at n : ℕ) → at + n ≤ length image → IsZero at (at + n) image → take n (drop at image) ≡ zeros n
+zero_part : (image : List ℕ) (at n : ℕ) → at + n ≤ length image → IsZero at (at + n) image → take n
+    (drop at image) ≡ zeros n
 zero_part image at n within empty =
     let long : length (drop at image) ≡ length image - at = length-drop at image in
     all_zeros (take n (drop at image)) n (length-take-le n (drop at image) (omega arith)) (λ i below.
@@ -45,7 +49,8 @@ pub record HasParts (octets number text : List ℕ) (m n : ℕ) : Type 0 where
   pub has_text : take m (drop CONTENT_AT octets) ≡ text
   pub none : (i : ℕ) → CONTENT_AT + m ≤ i → i < CONTENT_AT + m + n → get_or octets i 0 ≡ 0
 
-parts_are : (octets number text : List ℕ) (m n : ℕ) → HasParts octets number text m n → octets ≡ (OPEN ∷ number) ++ (text ++ zeros n)
+parts_are : (octets number text : List ℕ) (m n : ℕ) → HasParts octets number text m n → octets ≡ (OPEN ∷ number) ++
+    (text ++ zeros n)
 parts_are [] number text m n parts = absurd (let sized : 0 ≡ CONTENT_AT + m + n = parts.sized in omega arith)
 parts_are (gate ∷ octets) number text m n parts =
     let sized : length (gate ∷ octets) ≡ CONTENT_AT + m + n = parts.sized in
@@ -64,9 +69,11 @@ parts_are (gate ∷ octets) number text m n parts =
     ∙ ap (λ (some : List ℕ). text ++ some) rest))
 
 -- the octets of the banks
-bank_parts : (layout : Layout) (image text : List ℕ) (generation n : ℕ) (bank : Bank) → IsRestIn layout image bank generation text
+bank_parts : (layout : Layout) (image text : List ℕ) (generation n : ℕ) (bank : Bank)
+    → IsRestIn layout image bank generation text
     → length (drop (bank_at layout bank) image) ≡ head_length layout + n
-    → ((i : ℕ) → bank_at layout bank + head_length layout ≤ i → i < bank_at layout bank + head_length layout + n → get_or image i 0 ≡ 0)
+    → ((i : ℕ) → bank_at layout bank + head_length layout ≤ i → i < bank_at layout bank + head_length layout + n
+    → get_or image i 0 ≡ 0)
     → drop (bank_at layout bank) image ≡ (OPEN ∷ big_bytes GENERATION_LENGTH generation) ++ (text ++ zeros n)
 bank_parts layout image text generation n bank rest sized empty =
     let at = bank_at layout bank in
@@ -85,8 +92,10 @@ banks_whole layout image text generation First sized rest =
     let s = SLOT_LENGTH * layout.slots in
     let b = bank_length layout in
     let written = (OPEN ∷ big_bytes GENERATION_LENGTH generation) ++ text in
-    let long : length (drop layout.banks image) ≡ head_length layout + (s + b) = length-drop layout.banks image ∙ omega arith in
-    bank_parts layout image text generation (s + b) First rest long (λ i low high. elim (cases_lt i (layout.banks + b)) [
+    let long : length (drop layout.banks image) ≡ head_length layout + (s + b) = length-drop layout.banks image
+    ∙ omega arith in
+    bank_parts layout image text generation (s + b) First rest long
+    (λ i low high. elim (cases_lt i (layout.banks + b)) [
       | inl below ↦ rest.zero_slots i low below
       | inr above ↦ rest.spare i above (omega arith)
     ])
@@ -102,22 +111,26 @@ banks_whole layout image text generation Second sized rest =
     let open_bank : drop second image ≡ written ++ zeros s =
     bank_parts layout image text generation s Second rest long (λ i low high. rest.zero_slots i low (omega arith))
     ∙ sym (append_assoc (OPEN ∷ big_bytes GENERATION_LENGTH generation) text (zeros s)) in
-    let first_bank : take b (drop layout.banks image) ≡ zeros b = zero_part image layout.banks b (omega arith) rest.spare in
+    let first_bank : take b (drop layout.banks image) ≡ zeros b = zero_part image layout.banks b
+    (omega arith) rest.spare in
     sym (take-append-drop b (drop layout.banks image))
     ∙ ap (λ (some : List ℕ). some ++ drop b (drop layout.banks image)) first_bank
     ∙ ap (λ (some : List ℕ). zeros b ++ some) (drop-drop b layout.banks image ∙ open_bank)
 
 -- what stands behind the plan: the old banks of an image that was migrated, and its banks
-behind_whole : (form : HeaderForm) (image text : List ℕ) (slots generation : ℕ) (bank : Bank) → length image ≡ image_end (layout_of form slots)
+behind_whole : (form : HeaderForm) (image text : List ℕ) (slots generation : ℕ) (bank : Bank) → length image ≡ image_end
+    (layout_of form slots)
     → IsRestIn (layout_of form slots) image bank generation text
-    → drop BANKS_AT image ≡ zeros (banks_of form slots - BANKS_AT) ++ banks_at_rest (layout_of form slots) generation text bank
+    → drop BANKS_AT image ≡ zeros (banks_of form slots - BANKS_AT) ++ banks_at_rest
+    (layout_of form slots) generation text bank
 behind_whole form image text slots generation bank sized rest =
     let banks = banks_of form slots in
     let gap = banks - BANKS_AT in
     let behind = banks_behind form slots in
     let same : BANKS_AT + gap ≡ banks = omega (arith, behind) in
     let zero : take gap (drop BANKS_AT image) ≡ zeros gap =
-    zero_part image BANKS_AT gap (omega (arith, same, sized)) (λ i low high. rest.old_banks i low (omega (arith, same, high))) in
+    zero_part image BANKS_AT gap (omega (arith, same, sized))
+    (λ i low high. rest.old_banks i low (omega (arith, same, high))) in
     sym (take-append-drop gap (drop BANKS_AT image))
     ∙ ap (λ (some : List ℕ). some ++ drop gap (drop BANKS_AT image)) zero
     ∙ ap (λ (some : List ℕ). zeros gap ++ some) (drop-drop gap BANKS_AT image ∙ ap (λ (at : ℕ). drop at image) same
@@ -133,6 +146,7 @@ rest_whole form image plan text slots generation bank layout_is sized front rest
     subst (λ (one : Layout). IsRestIn one image bank generation text) layout_is rest in
     sym (take-append-drop BANKS_AT image)
     ∙ ap (λ (some : List ℕ). some ++ drop BANKS_AT image) front
-    ∙ ap (λ (some : List ℕ). front_image form OPEN plan slots ++ some) (behind_whole form image text slots generation bank sized there)
+    ∙ ap (λ (some : List ℕ). front_image form OPEN plan slots ++ some)
+    (behind_whole form image text slots generation bank sized there)
     ∙ sym (append_assoc (front_image form OPEN plan slots) (zeros (banks_of form slots - BANKS_AT))
     (banks_at_rest (layout_of form slots) generation text bank))

@@ -1,5 +1,6 @@
 -- Rows of writes in a range, which one sync brings to the disk.
-use Rattle.std.proofs.Common.{◌≡◌, ℕ, ◌+◌, ◌-◌, ◌<◌, ◌≤◌, ◌∙◌, List, length, get_or, max, refl, sym, ap, subst, inl, inr, arith, Result, Ok, Err}
+use Rattle.std.proofs.Common.{◌≡◌, ℕ, ◌+◌, ◌-◌, ◌<◌, ◌≤◌, ◌∙◌, List, length, get_or, max, refl, sym, ap, subst, inl}
+use Rattle.std.proofs.Common.{inr, arith, Result, Ok, Err}
 use Rattle.std.proofs.Math.ListN.{get_or-eq_default}
 use Rattle.std.proofs.lemmas.Bool.{cases_lt}
 use Rattle.std.proofs.lemmas.List.{get_or-drop, get_or-take}
@@ -65,7 +66,8 @@ outside_but at count old new within keeps =
 
 -- before the range
 pub outside_below : (at count : ℕ) (old new : List ℕ) → KeepsOutside at count old new → KeepsBelow at old new
-outside_below at count old new keeps = record { no_shorter = keeps.no_shorter; below = λ i low. keeps.outside i (inl low) }
+outside_below at count old new keeps =
+    record { no_shorter = keeps.no_shorter; below = λ i low. keeps.outside i (inl low) }
 
 -- what is pending
 pub pending_synced : (at count : ℕ) (disk : Disk) → IsSynced disk → at ≤ length disk.image → IsPendingIn at count disk
@@ -141,7 +143,8 @@ wrote_in at octets result old new writes wrote from size low high pending =
 -- one write
 pub writes_in : {T E : Type 0} → (at : ℕ) (octets : List ℕ) (result : Result T E) (old new : Trace)
     → Writes at octets result old new → WritesIn at (length octets) old new
-writes_in {T = T} {E = E} at octets (Ok value) old new writes = wrote_in {T = T} {E = E} at octets (Ok value) old new writes writes.0
+writes_in {T = T} {E = E} at octets (Ok value) old new writes = wrote_in {T = T} {E = E} at octets
+    (Ok value) old new writes writes.0
 writes_in at octets (Err error) old new (inl same) = none_in at (length octets) old new same
 writes_in {T = T} {E = E} at octets (Err error) old new (inr wrote) =
     wrote_in {T = T} {E = E} at octets (Err error) old new (inr wrote) wrote

@@ -1,5 +1,6 @@
 -- Lists of zeros, and what is written over them.
-use Rattle.std.proofs.Common.{◌≡◌, ℕ, ◌+◌, ◌-◌, ◌≤◌, List, [], ◌++◌, length, take, drop, replicate, refl, ◌∙◌, ap, arith, append-nil}
+use Rattle.std.proofs.Common.{◌≡◌, ℕ, ◌+◌, ◌-◌, ◌≤◌, List, [], ◌++◌, length, take, drop, replicate, refl, ◌∙◌, ap}
+use Rattle.std.proofs.Common.{arith, append-nil}
 use Rattle.std.proofs.lemmas.List.{take-replicate, drop-replicate, length-replicate, drop_all}
 use Rattle.std.proofs.Math.ListN.{replicate-append-replicate}
 use Rattle.sdls_outside.specs.Site.{overwritten}
@@ -32,7 +33,8 @@ more_zeros n count =
     ∙ join_zeros n count
 
 -- octets written over zeros
-pub over_zeros : (n at : ℕ) (octets : List ℕ) → at ≤ n → overwritten (zeros n) at octets ≡ zeros at ++ octets ++ zeros (n - (at + length octets))
+pub over_zeros : (n at : ℕ) (octets : List ℕ) → at ≤ n → overwritten (zeros n) at octets ≡ zeros at ++ octets ++ zeros
+    (n - (at + length octets))
 over_zeros n at octets low =
     ap (λ (front : List ℕ). front ++ octets ++ drop (at + length octets) (zeros n)) (take_zeros at n low)
     ∙ ap (λ (back : List ℕ). zeros at ++ octets ++ back) (drop_zeros (at + length octets) n)

@@ -13,5 +13,6 @@ invariant-loop-first g l = record {
   same : IsTrue g.O.Site.told → g.O.Site.trace l.site ≡ g.O.Site.trace l.initial.site;
   sized : length l.room ≡ RUN_LENGTH;
   low : l.from ≤ l.first;
-  before : IsTrue g.O.Site.told → (k : ℕ) → l.from ≤ k → k < l.first → slot_gate l.layout (g.O.Site.trace l.initial.site).now.image l.bank k ≡ l.gate;
+  before : IsTrue g.O.Site.told → (k : ℕ) → l.from ≤ k → k < l.first → slot_gate l.layout
+      (g.O.Site.trace l.initial.site).now.image l.bank k ≡ l.gate;
 }

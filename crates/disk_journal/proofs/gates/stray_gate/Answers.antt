@@ -11,7 +11,8 @@ returns-then-index-layout-clause-found g c = λ told.
     let low = found.reached below in
     let high : c.in_ok-index.index < c.args.from + (c.args.layout.slots - c.args.from) = omega (arith, low, below) in
     ap (λ (at : ℕ). Some at) c.slot_at.ensures
-    ∙ sym (first_other c.args.layout c.args.bank gate (c.args.layout.slots - c.args.from) c.args.from c.in_ok-index.index
+    ∙ sym (first_other c.args.layout c.args.bank gate
+    (c.args.layout.slots - c.args.from) c.args.from c.in_ok-index.index
     low high found.before (found.other below))
 
 pub returns-clause-found : goal.returns-clause-found

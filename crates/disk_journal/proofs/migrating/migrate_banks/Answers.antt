@@ -4,12 +4,14 @@ use Rattle.disk_journal.proofs.migrating.migrate_banks.Goals as goal
 
 pub returns-in_err-lay_banks-clause-any_moment : goal.returns-in_err-lay_banks-clause-any_moment
 returns-in_err-lay_banks-clause-any_moment g c = λ told.
-    laid_moments c.args.layout FIRST_GENERATION c.args.content.now (g.O.Site.trace c.args.site.now) (g.O.Site.trace c.lay_banks.new.site)
+    laid_moments c.args.layout FIRST_GENERATION c.args.content.now (g.O.Site.trace c.args.site.now)
+    (g.O.Site.trace c.lay_banks.new.site)
     (c.lay_banks.ensures.any_moment told)
 
 pub returns-in_err-store-clause-any_moment : goal.returns-in_err-store-clause-any_moment
 returns-in_err-store-clause-any_moment g c = λ told.
-    octet_moments c.args.layout FIRST_GENERATION c.args.content.now (g.O.Site.trace c.args.site.now) (g.O.Site.trace c.lay_banks.new.site)
+    octet_moments c.args.layout FIRST_GENERATION c.args.content.now (g.O.Site.trace c.args.site.now)
+    (g.O.Site.trace c.lay_banks.new.site)
     (g.O.Site.trace c.store.new.site) (c.lay_banks.ensures.any_moment told) (c.in_ok-lay_banks.ensures.laid told).1
     (c.store.ensures.any_moment told)
 
@@ -18,7 +20,8 @@ returns-clause-any_moment g c = λ told.
     let laid = (c.in_ok-lay_banks.ensures.laid told).1 in
     erased_moments c.args.layout FIRST_GENERATION c.args.content.now (g.O.Site.trace c.args.site.now)
     (g.O.Site.trace c.lay_banks.new.site) (g.O.Site.trace c.store.new.site) (g.O.Site.trace c.clear.new.site)
-    (octet_moments c.args.layout FIRST_GENERATION c.args.content.now (g.O.Site.trace c.args.site.now) (g.O.Site.trace c.lay_banks.new.site)
+    (octet_moments c.args.layout FIRST_GENERATION c.args.content.now (g.O.Site.trace c.args.site.now)
+    (g.O.Site.trace c.lay_banks.new.site)
     (g.O.Site.trace c.store.new.site) (c.lay_banks.ensures.any_moment told) laid (c.store.ensures.any_moment told))
     laid (c.in_ok-store.ensures.stored told).1 (c.clear.ensures.any_moment told)
 

@@ -29,4 +29,5 @@ returns-clause-any_moment g c = λ told.
 pub returns-clause-cleared : goal.returns-clause-cleared
 returns-clause-cleared g c = λ told.
     erased c.sync.result c.args.at c.args.count (g.O.Site.trace c.args.site.now) (g.O.Site.trace c.write_zeros.new.site)
-    (g.O.Site.trace c.sync.new.self) (c.requires.within told) (c.in_ok-write_zeros.ensures.written told) (c.sync.ensures.synced told)
+    (g.O.Site.trace c.sync.new.self) (c.requires.within told) (c.in_ok-write_zeros.ensures.written told)
+    (c.sync.ensures.synced told)

@@ -7,7 +7,8 @@ use Rattle.disk_journal.proofs.storing.write_head.Goals as goal
 pub returns-in_err-write_at-clause-row : goal.returns-in_err-write_at-clause-row
 returns-in_err-write_at-clause-row g c = λ told.
     let size : length c.write_u64.new.buf ≡ 8 = search rules in
-    in_wider (c.args.bank + GENERATION_AT) (length c.write_u64.new.buf) (c.args.bank + 1) (CONTENT_AT + length c.args.content.now - 1)
+    in_wider (c.args.bank + GENERATION_AT) (length c.write_u64.new.buf) (c.args.bank + 1)
+    (CONTENT_AT + length c.args.content.now - 1)
     (g.O.Site.trace c.args.site.now) (g.O.Site.trace c.write_at.new.self) (omega arith) (omega arith)
     (writes_in (c.args.bank + GENERATION_AT) c.write_u64.new.buf c.write_at.result (g.O.Site.trace c.args.site.now)
     (g.O.Site.trace c.write_at.new.self) (c.write_at.ensures.written told))
@@ -20,10 +21,14 @@ returns-clause-row g c = λ told.
     let new = g.O.Site.trace c.write_at-2.new.self in
     let count = CONTENT_AT + length c.args.content.now - 1 in
     in_then (c.args.bank + 1) count old mid new
-    (in_wider (c.args.bank + GENERATION_AT) (length c.write_u64.new.buf) (c.args.bank + 1) count old mid (omega arith) (omega arith)
-    (writes_in (c.args.bank + GENERATION_AT) c.write_u64.new.buf c.write_at.result old mid (c.write_at.ensures.written told)))
-    (in_wider (c.args.bank + CONTENT_AT) (length c.args.content.now) (c.args.bank + 1) count mid new (omega arith) (omega arith)
-    (writes_in (c.args.bank + CONTENT_AT) c.args.content.now c.write_at-2.result mid new (c.write_at-2.ensures.written told)))
+    (in_wider (c.args.bank + GENERATION_AT) (length c.write_u64.new.buf) (c.args.bank + 1) count old mid (omega arith)
+    (omega arith)
+    (writes_in (c.args.bank + GENERATION_AT) c.write_u64.new.buf c.write_at.result old mid
+    (c.write_at.ensures.written told)))
+    (in_wider (c.args.bank + CONTENT_AT) (length c.args.content.now) (c.args.bank + 1) count mid new (omega arith)
+    (omega arith)
+    (writes_in (c.args.bank + CONTENT_AT) c.args.content.now c.write_at-2.result mid new
+    (c.write_at-2.ensures.written told)))
 
 pub returns-clause-written : goal.returns-clause-written
 returns-clause-written g c = λ told.

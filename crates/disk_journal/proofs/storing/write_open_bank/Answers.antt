@@ -8,7 +8,8 @@ pub returns-in_err-write_at-clause-row : goal.returns-in_err-write_at-clause-row
 returns-in_err-write_at-clause-row g c = λ told.
     in_wider c.args.bank 1 c.args.bank (CONTENT_AT + length c.args.content.now) (g.O.Site.trace c.args.site.now)
     (g.O.Site.trace c.write_at.new.self) (omega arith) (omega arith)
-    (writes_in c.args.bank (OPEN ∷ []) c.write_at.result (g.O.Site.trace c.args.site.now) (g.O.Site.trace c.write_at.new.self)
+    (writes_in c.args.bank (OPEN ∷ []) c.write_at.result (g.O.Site.trace c.args.site.now)
+    (g.O.Site.trace c.write_at.new.self)
     (c.write_at.ensures.written told))
 
 pub returns-clause-row : goal.returns-clause-row
@@ -20,10 +21,12 @@ returns-clause-row g c = λ told.
     in_then c.args.bank count old mid new
     (in_wider c.args.bank 1 c.args.bank count old mid (omega arith) (omega arith)
     (writes_in c.args.bank (OPEN ∷ []) c.write_at.result old mid (c.write_at.ensures.written told)))
-    (in_wider (c.args.bank + 1) (count - 1) c.args.bank count mid new (omega arith) (omega arith) (c.write_head.ensures.row told))
+    (in_wider (c.args.bank + 1) (count - 1) c.args.bank count mid new (omega arith) (omega arith)
+    (c.write_head.ensures.row told))
 
 pub returns-clause-written : goal.returns-clause-written
 returns-clause-written g c = λ told.
-    bank_written c.write_head.result (g.O.Site.trace c.args.site.now).now.image (g.O.Site.trace c.write_at.new.self).now.image
+    bank_written c.write_head.result (g.O.Site.trace c.args.site.now).now.image
+    (g.O.Site.trace c.write_at.new.self).now.image
     (g.O.Site.trace c.write_head.new.site).now.image c.args.bank c.args.generation c.args.content.now
     (c.in_ok-write_at.ensures.written told).1 (c.write_head.ensures.written told)

@@ -17,17 +17,21 @@ loop-done-init g c = record {
 
 pub write_at-requires : goal.write_at-requires
 write_at-requires g c = λ told.
-    (zeroed (g.O.Site.trace c.args.site.now).now.image (g.O.Site.trace c.loop-done.site).now.image c.args.at c.loop-done.done
+    (zeroed (g.O.Site.trace c.args.site.now).now.image
+    (g.O.Site.trace c.loop-done.site).now.image c.args.at c.loop-done.done
     (c.requires.within told) (c.loop-done.invariant.written told)).long
 
 pub returns-in_err-write_at-clause-row : goal.returns-in_err-write_at-clause-row
 returns-in_err-write_at-clause-row g c = λ told.
     let below : c.loop-done.done < c.args.count = c.loop-done-test.true in
     let within : c.piece_of-piece.result ≤ c.args.count - c.loop-done.done = c.piece_of-piece.ensures.within in
-    let size : length c.zeros_of.result.now ≡ c.piece_of-piece.result = zeros_end c.zeros_of.result.now c.piece_of-piece.result c.zeros_of.ensures in
-    in_then c.args.at c.args.count (g.O.Site.trace c.args.site.now) (g.O.Site.trace c.loop-done.site) (g.O.Site.trace c.write_at.new.self)
+    let size : length c.zeros_of.result.now ≡ c.piece_of-piece.result =
+    zeros_end c.zeros_of.result.now c.piece_of-piece.result c.zeros_of.ensures in
+    in_then c.args.at c.args.count (g.O.Site.trace c.args.site.now) (g.O.Site.trace c.loop-done.site)
+    (g.O.Site.trace c.write_at.new.self)
     (c.loop-done.invariant.row told)
-    (in_wider (c.args.at + c.loop-done.done) (length c.zeros_of.result.now) c.args.at c.args.count (g.O.Site.trace c.loop-done.site)
+    (in_wider (c.args.at + c.loop-done.done) (length c.zeros_of.result.now) c.args.at c.args.count
+    (g.O.Site.trace c.loop-done.site)
     (g.O.Site.trace c.write_at.new.self) (omega arith) (omega arith)
     (writes_in (c.args.at + c.loop-done.done) c.zeros_of.result.now c.write_at.result (g.O.Site.trace c.loop-done.site)
     (g.O.Site.trace c.write_at.new.self) (c.write_at.ensures.written told)))
@@ -36,23 +40,29 @@ pub loop-done-preserved : goal.loop-done-preserved
 loop-done-preserved g c =
     let below : c.loop-done.done < c.args.count = c.loop-done-test.true in
     let within : c.piece_of-piece.result ≤ c.args.count - c.loop-done.done = c.piece_of-piece.ensures.within in
-    let size : length c.zeros_of.result.now ≡ c.piece_of-piece.result = zeros_end c.zeros_of.result.now c.piece_of-piece.result c.zeros_of.ensures in
+    let size : length c.zeros_of.result.now ≡ c.piece_of-piece.result =
+    zeros_end c.zeros_of.result.now c.piece_of-piece.result c.zeros_of.ensures in
     record {
       stood = c.in_ok-write_at.ensures.cause.stood ∙ c.loop-done.invariant.stood;
       puts = c.in_ok-write_at.ensures.puts ∙ c.loop-done.invariant.puts;
       within = omega arith;
       written = λ told.
           zeros_more (g.O.Site.trace c.args.site.now).now.image (g.O.Site.trace c.loop-done.site).now.image
-          (g.O.Site.trace c.write_at.new.self).now.image c.args.at c.loop-done.done c.piece_of-piece.result (c.requires.within told)
+          (g.O.Site.trace c.write_at.new.self).now.image c.args.at c.loop-done.done c.piece_of-piece.result
+          (c.requires.within told)
           (c.loop-done.invariant.written told)
           ((c.in_ok-write_at.ensures.written told).1
-          ∙ ap (overwritten (g.O.Site.trace c.loop-done.site).now.image (c.args.at + c.loop-done.done)) c.zeros_of.ensures);
+          ∙ ap (overwritten (g.O.Site.trace c.loop-done.site).now.image (c.args.at + c.loop-done.done))
+          c.zeros_of.ensures);
       row = λ told.
-          in_then c.args.at c.args.count (g.O.Site.trace c.args.site.now) (g.O.Site.trace c.loop-done.site) (g.O.Site.trace c.write_at.new.self)
+          in_then c.args.at c.args.count (g.O.Site.trace c.args.site.now) (g.O.Site.trace c.loop-done.site)
+          (g.O.Site.trace c.write_at.new.self)
           (c.loop-done.invariant.row told)
-          (in_wider (c.args.at + c.loop-done.done) (length c.zeros_of.result.now) c.args.at c.args.count (g.O.Site.trace c.loop-done.site)
+          (in_wider (c.args.at + c.loop-done.done) (length c.zeros_of.result.now) c.args.at c.args.count
+          (g.O.Site.trace c.loop-done.site)
           (g.O.Site.trace c.write_at.new.self) (omega arith) (omega arith)
-          (writes_in (c.args.at + c.loop-done.done) c.zeros_of.result.now c.write_at.result (g.O.Site.trace c.loop-done.site)
+          (writes_in (c.args.at + c.loop-done.done) c.zeros_of.result.now c.write_at.result
+          (g.O.Site.trace c.loop-done.site)
           (g.O.Site.trace c.write_at.new.self) (c.write_at.ensures.written told)));
     }
 

@@ -6,4 +6,5 @@ use Rattle.disk_journal.proofs.storing.zeros_of.Goals as goal
 
 pub returns : goal.returns
 returns c =
-    ap (take c.args.count) c.requires.zeros ∙ take-replicate c.args.count RUN_LENGTH 0 c.requires.short ∙ sym (are_zeros c.args.count)
+    ap (take c.args.count) c.requires.zeros ∙ take-replicate c.args.count RUN_LENGTH 0 c.requires.short
+    ∙ sym (are_zeros c.args.count)
