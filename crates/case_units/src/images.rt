@@ -3,7 +3,7 @@ ghost use Rattle.std.specs.Prelude.{◌≡◌, ◌+◌, ◌≤◌, [], IfSome, I
 ghost use Rattle.sdls_base.specs.declared.version.Version.TheVariants.{One};
 ghost use Rattle.unit_plan.specs.PlanLines.{PlanLines};
 ghost use Rattle.unit_plan.specs.Plan.{plan_of};
-ghost use Rattle.plan_bare.specs.Bare.{bare_of};
+ghost use Rattle.unit_plan.specs.Bare.{bare_of};
 ghost use Rattle.unit_state.specs.declared.state.State.{State};
 ghost use Rattle.image_content.specs.Content.{content_of};
 ghost use Rattle.image_content.specs.Reading.{FitsVersion};
@@ -14,11 +14,10 @@ ghost use Rattle.image_beginning.specs.Beginning.{SaysPlan, image_of_plan};
 use disk_journal::{JournalFault, create};
 use image_beginning::create_image;
 use image_content::write_content;
-use plan_bare::{bare_plan_is_short, write_bare_plan};
 use sdls_base::{CONTENT_LENGTH_ONE, CONTENT_LENGTH_TWO, Version};
 use sdls_outside::{Crash, MemSite, Site};
 use std::alloc::{AllocError, Global};
-use unit_plan::{MOST_OCTETS, Plan};
+use unit_plan::{MOST_OCTETS, Plan, bare_plan_is_short, write_bare_plan};
 use unit_state::State;
 
 /// The lines of a plan behind the first five: a telecommand channel that one association protects, under a CMAC key.

@@ -2,12 +2,11 @@
 use crate::answers::write_digits;
 use crate::text::Text;
 use case_lines::{octet, short};
-use plan_bare::write_bare_plan;
 use sdls_base::{AnyLayout, ChannelId, Link};
 use std::alloc::{AllocError, Global};
 use std::str;
 use std::str::SplitWhitespace;
-use unit_plan::{Plan, PlanKey, PlanSa};
+use unit_plan::{Plan, PlanKey, PlanSa, write_bare_plan};
 
 /// Writes the words for a layout.
 fn write_layout(layout: &AnyLayout, answer: &mut String) -> Result<(), AllocError> {

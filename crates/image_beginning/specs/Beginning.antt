@@ -3,7 +3,7 @@ use Rattle.std.specs.Prelude.{◌≡◌, ℕ, List, [], Ok}
 use Rattle.sdls_base.specs.declared.version.Version.TheVariants.{Two}
 use Rattle.unit_plan.specs.PlanLines.{PlanLines}
 use Rattle.unit_plan.specs.Plan.{plan_of}
-use Rattle.plan_bare.specs.Bare.{bare_of}
+use Rattle.unit_plan.specs.Bare.{bare_of}
 use Rattle.unit_state.specs.declared.state.State.{State}
 use Rattle.unit_state.specs.Initial.{initial}
 use Rattle.image_content.specs.Content.{content_of}

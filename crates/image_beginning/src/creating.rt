@@ -4,7 +4,7 @@ ghost use Rattle.sdls_outside.specs.Disk.{IsSynced};
 ghost use Rattle.sdls_outside.specs.Faults.{HasCause};
 ghost use Rattle.sdls_outside.specs.Moments.{Trace};
 ghost use Rattle.unit_plan.specs.Plan.{plan_of};
-ghost use Rattle.plan_bare.specs.Bare.{bare_of};
+ghost use Rattle.unit_plan.specs.Bare.{bare_of};
 ghost use Rattle.image_content.specs.Content.{content_of};
 ghost use Rattle.disk_journal.specs.declared.layout.HeaderForm.TheVariants.{New};
 ghost use Rattle.disk_journal.specs.Initial.{IsLaid};
@@ -12,10 +12,9 @@ ghost use Rattle.image_beginning.specs.Beginning.{image_of_plan};
 
 use disk_journal::{JournalFault, create_two};
 use image_content::write_content_two;
-use plan_bare::{bare_plan_is_short, write_bare_plan};
 use sdls_base::CONTENT_LENGTH_TWO;
 use sdls_outside::Site;
-use unit_plan::Plan;
+use unit_plan::{Plan, bare_plan_is_short, write_bare_plan};
 use unit_state::State;
 
 /// Writes the image of version 2 that the plan of a text begins with, in this state, if there is no image. The bare

@@ -8,8 +8,8 @@ use Rattle.unit_state.specs.State.{KeepsRules}
 use Rattle.unit_state.proofs.Starts.{initial_rules}
 use Rattle.unit_state.proofs.StateLaws.{restarted_twice}
 use Rattle.image_beginning.specs.Beginning.{SaysPlan}
-use Rattle.plan_bare.proofs.BareRoom.{bare_plan_is_short, bare_plan_reads}
-use Rattle.plan_bare.specs.Bare.{bare_of, without_rows}
+use Rattle.unit_plan.proofs.BareRoom.{bare_plan_is_short, bare_plan_reads}
+use Rattle.unit_plan.specs.Bare.{bare_of, without_rows}
 use Rattle.image_content.specs.Content.{content_of}
 use Rattle.image_content.specs.Reading.{HasRows, IsContent}
 use Rattle.disk_journal.specs.declared.layout.HeaderForm.TheVariants.{New}

@@ -1,7 +1,7 @@
 -- What the units of a drill begin with.
 use Rattle.std.proofs.Common.{◌≡◌, ℕ, List, Ok, sym, ◌∙◌, ap, subst}
-use Rattle.plan_bare.specs.Bare.{without_rows}
-use Rattle.plan_bare.proofs.BareRoom.{bare_plan_reads}
+use Rattle.unit_plan.specs.Bare.{without_rows}
+use Rattle.unit_plan.proofs.BareRoom.{bare_plan_reads}
 use Rattle.image_beginning.specs.Beginning.{image_of_plan}
 use Rattle.unit_image.specs.Image.{Held, held}
 use Rattle.unit_image.specs.Shows.{Shows}

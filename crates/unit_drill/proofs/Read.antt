@@ -1,6 +1,6 @@
 -- The texts of the plans are read, and what the plans of the images say.
 use Rattle.std.proofs.Common.{◌≡◌, Ok, refl}
-use Rattle.plan_bare.specs.Bare.{without_rows}
+use Rattle.unit_plan.specs.Bare.{without_rows}
 use Rattle.hex.specs.Hex.{decode_pairs}
 use Rattle.unit_plan.specs.AssociationLine.{association_said, before_list}
 use Rattle.unit_plan.specs.ChannelLine.{channel_said}

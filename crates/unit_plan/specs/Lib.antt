@@ -13,3 +13,4 @@ pub mod PlanLines
 pub mod LineForm
 pub mod Plan
 pub mod PlanRules
+pub mod Bare

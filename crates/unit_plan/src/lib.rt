@@ -3,9 +3,13 @@
 //!
 //! A text is its lines, and a line its words: [`Lines`] and [`Words`] walk them without memory.
 //! [`Plan`] is what a whole text says, or there is the first line with a cause: read `specs/Plan.antt` first.
+//! [`write_bare_plan`] writes the text without the lines of keys and associations, which is what an image holds of a
+//! plan, and [`bare_plan_reads`] says what that reads as.
 #![tactic(auto)]
 
 mod association_line;
+mod bare;
+mod bare_laws;
 mod channel_line;
 mod channels;
 mod fields;
@@ -20,6 +24,8 @@ mod reading;
 mod taking;
 
 pub use association_line::are_channels;
+pub use bare::write_bare_plan;
+pub use bare_laws::{bare_plan_is_short, bare_plan_reads};
 pub use channel_line::Place;
 pub use lines::{Lines, Words};
 pub use number::number_of;

@@ -105,7 +105,8 @@ fn association_of(line: u32, said: AssociationLine) -> Option<PlanSa>
     })
 }
 
-fn is_skipped(line: &[u8]) -> bool
+/// Whether the line is empty or a comment.
+pub(crate) fn is_skipped(line: &[u8]) -> bool
     ensures { result ≡ is_skipped line.now }
 {
     line.is_empty() || line[0] == b'#'

@@ -1,16 +1,11 @@
+//! A plan's text without its keys and associations, which is what an image holds of it.
 ghost use Rattle.std.specs.Prelude.{◌≡◌, ◌+◌, ◌≤◌, ◌++◌, [], length, take, drop, if◌then◌else◌};
 ghost use Rattle.unit_plan.specs.Lines.{words_of};
-ghost use Rattle.unit_plan.specs.Plan.{is_skipped};
-ghost use Rattle.plan_bare.specs.Bare.{names_rows, is_bare, ended, bare_of};
+ghost use Rattle.unit_plan.specs.Bare.{names_rows, is_bare, ended, bare_of};
 
+use crate::lines::{Lines, Words};
+use crate::taking::is_skipped;
 use sdls_base::put;
-use unit_plan::{Lines, Words};
-
-fn is_skipped(line: &[u8]) -> bool
-    ensures { result ≡ is_skipped line.now }
-{
-    line.is_empty() || line[0] == b'#'
-}
 
 /// Whether the line is that of a key or of an association.
 fn names_rows(line: &[u8]) -> bool

@@ -21,9 +21,9 @@ use Rattle.unit_plan.specs.LinkLine.{link_said, is_link, is_layout}
 use Rattle.unit_plan.specs.Plan.{plan_of, after, taken, is_skipped, version_taken, device_taken, slots_taken, block_taken, accept_taken, link_taken, channel_taken, number_in_order, is_on, is_on_link, link_admitted, channel_admitted}
 use Rattle.unit_plan.specs.PlanError.{◌>>=◌, check, require}
 use Rattle.unit_plan.specs.PlanLines.{PlanLines, no_lines, has_link}
-use Rattle.plan_bare.specs.Bare.{names_rows, is_bare, ended, bare_of, without_rows}
-use Rattle.plan_bare.proofs.BareReading.{taken_keeps, not_long, reads_if_short}
-use Rattle.plan_bare.proofs.WordCosts.{cost, words_cost, is_word, both_true, version_cost, device_cost, number_cost, link_cost, channel_cost, IsSmall}
+use Rattle.unit_plan.specs.Bare.{names_rows, is_bare, ended, bare_of, without_rows}
+use Rattle.unit_plan.proofs.BareReading.{taken_keeps, not_long, reads_if_short}
+use Rattle.unit_plan.proofs.WordCosts.{cost, words_cost, is_word, both_true, version_cost, device_cost, number_cost, link_cost, channel_cost, IsSmall}
 
 -- ---- numbers that have no line yet
 

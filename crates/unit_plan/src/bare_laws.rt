@@ -1,9 +1,10 @@
+//! Laws of the bare plan.
 ghost use Rattle.std.specs.Prelude.{◌≡◌, ◌≤◌, ℕ, List, length, Ok};
 ghost use Rattle.unit_plan.specs.Plan.{plan_of};
 ghost use Rattle.unit_plan.specs.PlanLines.{PlanLines};
-ghost use Rattle.plan_bare.specs.Bare.{bare_of, without_rows};
+ghost use Rattle.unit_plan.specs.Bare.{bare_of, without_rows};
 
-use unit_plan::MOST_OCTETS;
+use crate::MOST_OCTETS;
 
 /// Law: the bare plan of a plan is no longer than a plan may be, though the last line of the plan may lack its line
 /// feed.

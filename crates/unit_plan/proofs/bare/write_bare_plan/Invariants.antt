@@ -1,8 +1,8 @@
 use Rattle.std.proofs.Common.{◌≡◌, ◌+◌, ◌≤◌, ◌++◌, length, take, drop}
 use Rattle.std.specs.List.{flat_map}
 use Rattle.std.specs.Prelude.{filter}
-use Rattle.plan_bare.specs.Bare.{is_bare, ended, bare_of}
-use Rattle.plan_bare.proofs.bare.write_bare_plan.Given as goal
+use Rattle.unit_plan.specs.Bare.{is_bare, ended, bare_of}
+use Rattle.unit_plan.proofs.bare.write_bare_plan.Given as goal
 
 abbrev pub invariant-loop-line : goal.invariant-loop-line
 invariant-loop-line l = record {

@@ -3,9 +3,9 @@ use Rattle.std.specs.List.{flat_map}
 use Rattle.std.specs.Prelude.{filter, if◌then◌else◌}
 use Rattle.std.proofs.lemmas.List.{drop-drop}
 use Rattle.unit_plan.specs.Lines.{lines_of}
-use Rattle.plan_bare.specs.Bare.{is_bare, ended}
-use Rattle.plan_bare.proofs.BareReading.{lines_room, kept_on, kept_short}
-use Rattle.plan_bare.proofs.bare.write_bare_plan.Goals as goal
+use Rattle.unit_plan.specs.Bare.{is_bare, ended}
+use Rattle.unit_plan.proofs.BareReading.{lines_room, kept_on, kept_short}
+use Rattle.unit_plan.proofs.bare.write_bare_plan.Goals as goal
 
 pub loop-line-init : goal.loop-line-init
 loop-line-init c =

@@ -18,7 +18,7 @@ use Rattle.unit_plan.specs.KeyLine.{key_said}
 use Rattle.unit_plan.specs.AssociationLine.{association_said}
 use Rattle.unit_plan.specs.PlanError.{◌>>=◌, fault, check, require}
 use Rattle.unit_plan.specs.PlanLines.{PlanLines, no_lines, has_link}
-use Rattle.plan_bare.specs.Bare.{names_rows, is_bare, ended, bare_of, without_rows}
+use Rattle.unit_plan.specs.Bare.{names_rows, is_bare, ended, bare_of, without_rows}
 
 -- ---- lines that were written each with a line feed are read again
 

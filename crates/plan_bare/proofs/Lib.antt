@@ -1,3 +1,0 @@
-mod BareReading
-mod WordCosts
-pub mod BareRoom
