@@ -9,10 +9,10 @@ ghost use Rattle.image_content.specs.Content.{content_of};
 ghost use Rattle.image_content.specs.Reading.{FitsVersion};
 ghost use Rattle.disk_journal.specs.declared.layout.HeaderForm.TheVariants.{Old};
 ghost use Rattle.disk_journal.specs.Initial.{created_image};
-ghost use Rattle.image_beginning.specs.Beginning.{SaysPlan, image_of_plan};
+ghost use Rattle.unit_image.specs.Beginning.{SaysPlan, image_of_plan};
 
 use disk_journal::{JournalFault, create};
-use image_beginning::create_image;
+use unit_image::create_image;
 use image_content::write_content;
 use sdls_base::{CONTENT_LENGTH_ONE, CONTENT_LENGTH_TWO, Version};
 use sdls_outside::{Crash, MemSite, Site};

@@ -20,8 +20,8 @@ use Rattle.book_record.specs.Padded.{padded}
 use Rattle.book_record.specs.SaParts.{IsSaRow}
 use Rattle.book_record.specs.Reading.{word_at}
 use Rattle.book_record.proofs.Rows.{padded_front, padded_length, sa_row_length}
-use Rattle.book_rows.specs.Rows.{HasRowsCause, MakesOf, state_of}
-use Rattle.book_rows.specs.declared.rows_fault.RowsFault.{RowsFault}
+use Rattle.image_content.specs.Rows.{HasRowsCause, MakesOf, state_of}
+use Rattle.image_content.specs.declared.rows_fault.RowsFault.{RowsFault}
 use Rattle.image_content.specs.Content.{sa_parts, key_rows, sa_rows, counts_of, key_room_of, sa_room_of, associations_at, content_of}
 use Rattle.image_content.specs.Reading.{IsRestartedRow, AreKeyRows, AreSaRows, AreZero, key_count, sa_count, counts_end_of, HasRoom, keys_in, associations_in, FitsVersion, HasRows, IsContent}
 use Rattle.image_content.proofs.Highs.{rows_low, rows_left}

@@ -1,3 +1,5 @@
+mod Lacking
+mod Lists
 mod Joined
 mod Fields
 mod RowsRead

@@ -7,9 +7,9 @@ use Rattle.book_record.proofs.Rows.{one_key_row, one_sa_row, key_row_length, sa_
 use Rattle.book_record.specs.declared.sa_parts.SaParts.{SaParts}
 use Rattle.book_record.specs.KeyParts.{key_row_octets, IsKeyRow}
 use Rattle.book_record.specs.SaParts.{sa_row_octets}
-use Rattle.book_rows.specs.Rows.{HasRowsCause}
-use Rattle.book_rows.specs.declared.rows_fault.RowsFault.{RowsFault}
-use Rattle.book_rows.specs.declared.rows_fault.RowsFault.TheVariants.{Unfit, NoMemory}
+use Rattle.image_content.specs.Rows.{HasRowsCause}
+use Rattle.image_content.specs.declared.rows_fault.RowsFault.{RowsFault}
+use Rattle.image_content.specs.declared.rows_fault.RowsFault.TheVariants.{Unfit, NoMemory}
 use Rattle.key_book.specs.declared.key_row.KeyRow.{KeyRow}
 use Rattle.replay_window.specs.Window.{new_window}
 use Rattle.sa_book.specs.declared.sa_row.SaRow.{SaRow}

@@ -2,16 +2,17 @@
 
 ghost use Rattle.std.specs.Prelude.{◌≡◌, ◌↔◌, ◌+◌, ◌*◌, ◌≤◌, IsTrue, length, IfOk, IfErr};
 ghost use Rattle.sdls_base.specs.Version.{content_length_of};
-ghost use Rattle.book_rows.specs.Rows.{HasRowsCause};
+ghost use Rattle.image_content.specs.Rows.{HasRowsCause};
 ghost use Rattle.unit_state.specs.declared.state.State.{State};
 ghost use Rattle.image_content.specs.Content.{associations_at};
 ghost use Rattle.image_content.specs.Reading.{AreZero, key_count, sa_count, HasRoom, keys_in, associations_in};
 ghost use Rattle.image_content.specs.Reading.{IsContent};
 
 use crate::layout::{KEYS_AT, associations_at, counts_end};
+use crate::making::state_of_rows;
 use crate::reading_rows::{are_zeros, read_keys, sa_rows};
+use crate::rows_fault::RowsFault;
 use book_record::{KEY_ROW_LENGTH, SA_ROW_LENGTH};
-use book_rows::{RowsFault, state_of_rows};
 use sdls_base::{ChannelList, Version};
 use std::alloc::Global;
 use unit_state::State;

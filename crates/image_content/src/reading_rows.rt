@@ -9,14 +9,15 @@ ghost use Rattle.replay_window.specs.Window.{new_window};
 ghost use Rattle.unit_state.specs.Restart.{restarted_high};
 ghost use Rattle.book_record.specs.KeyParts.{IsKeyRow, IsRowKeyLength};
 ghost use Rattle.book_record.specs.SaParts.{IsSaRow};
-ghost use Rattle.book_rows.specs.Rows.{HasRowsCause};
+ghost use Rattle.image_content.specs.Rows.{HasRowsCause};
 ghost use Rattle.image_content.specs.Content.{key_parts, sa_parts};
 ghost use Rattle.image_content.specs.Reading.{IsRestartedRow, AreKeyRows, AreSaRows};
 
+use crate::making::keys_of;
+use crate::rows_fault::RowsFault;
 use book_record::{
     KEY_ROW_LENGTH, KeyParts, RecordError, SA_ROW_LENGTH, SaParts, read_key_row, read_sa_row,
 };
-use book_rows::{RowsFault, keys_of};
 use key_book::{KeyBook, KeyOctets, KeyRow};
 use replay_window::Window;
 use sa_book::SaRow;

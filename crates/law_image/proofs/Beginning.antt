@@ -7,7 +7,6 @@ use Rattle.unit_state.specs.Restart.{restarted}
 use Rattle.unit_state.specs.State.{KeepsRules}
 use Rattle.unit_state.proofs.Starts.{initial_rules}
 use Rattle.unit_state.proofs.StateLaws.{restarted_twice}
-use Rattle.image_beginning.specs.Beginning.{SaysPlan}
 use Rattle.unit_plan.proofs.BareRoom.{bare_plan_is_short, bare_plan_reads}
 use Rattle.unit_plan.specs.Bare.{bare_of, without_rows}
 use Rattle.image_content.specs.Content.{content_of}
@@ -18,7 +17,7 @@ use Rattle.disk_journal.specs.Forms.{Holds}
 use Rattle.disk_journal.specs.Initial.{BeginsAtRest}
 use Rattle.disk_journal.proofs.InitialImage.{begins}
 use Rattle.unit_image.specs.Shows.{Shows}
-use Rattle.image_beginning.specs.Beginning.{held_of_plan, image_of_plan}
+use Rattle.unit_image.specs.Beginning.{SaysPlan, held_of_plan, image_of_plan}
 use Rattle.law_image.proofs.Planned.{plan_rules}
 use Rattle.law_image.proofs.Contents.{content_sized, has_rows, is_content}
 use Rattle.law_image.proofs.PlanIds.{plan_ids}

@@ -7,7 +7,6 @@ ghost use Rattle.unit_plan.specs.PlanRules.{IsPlan};
 ghost use Rattle.unit_state.specs.declared.state.State.{State};
 ghost use Rattle.unit_state.specs.Restart.{restarted};
 ghost use Rattle.unit_state.specs.State.{KeepsRules};
-ghost use Rattle.image_beginning.specs.Beginning.{SaysPlan};
 ghost use Rattle.image_content.specs.Content.{content_of};
 ghost use Rattle.image_content.specs.Reading.{IsContent};
 ghost use Rattle.disk_journal.specs.Moments.{AllBut};
@@ -18,7 +17,7 @@ ghost use Rattle.disk_journal.specs.Fault.{image_fault};
 ghost use Rattle.disk_journal.specs.Forms.{HasOneClosed, Holds, Becomes, Regates, StaysWithin};
 ghost use Rattle.unit_image.specs.OpeningImage.{LeftByOpening, IsMigrating};
 ghost use Rattle.unit_image.specs.Shows.{Shows, ShowsNone};
-ghost use Rattle.image_beginning.specs.Beginning.{held_of_plan, image_of_plan};
+ghost use Rattle.unit_image.specs.Beginning.{SaysPlan, held_of_plan, image_of_plan};
 ghost use Rattle.law_image.specs.Keeping.{HoldsSame, IsShown, KeepsForms, ShowsThroughout};
 
 use book_record::change_of_its_kind;

@@ -13,7 +13,7 @@ use Rattle.unit_plan.specs.Plan.{plan_of}
 use Rattle.unit_plan.specs.PlanLines.{PlanLines}
 use Rattle.unit_state.specs.declared.state.State.{State}
 use Rattle.unit_state.specs.State.{key_row}
-use Rattle.image_beginning.specs.Beginning.{SaysPlan, image_of_plan}
+use Rattle.unit_image.specs.Beginning.{SaysPlan, image_of_plan}
 use Rattle.unit_image.specs.Shows.{Shows}
 use Rattle.run_promise.specs.Answers.{Uses, Accepts}
 use Rattle.run_promise.specs.Fits.{Course, state_in, state_before}

@@ -17,7 +17,7 @@ use Rattle.unit_plan.specs.Bare.{bare_of}
 use Rattle.image_content.specs.Content.{content_of}
 use Rattle.disk_journal.specs.declared.layout.HeaderForm.TheVariants.{New}
 use Rattle.sdls_base.specs.declared.version.Version.TheVariants.{Two}
-use Rattle.image_beginning.specs.Beginning.{SaysPlan, image_of_plan}
+use Rattle.unit_image.specs.Beginning.{SaysPlan, image_of_plan}
 use Rattle.sdls_plain.specs.Init.{IsNoneOrInitial, LeavesNoOther}
 use Rattle.sdls_plain.proofs.Making.{said_whole}
 use Rattle.sdls_plain.proofs.Sinking.{sinks_leave}

@@ -11,7 +11,7 @@ use Rattle.unit_plan.specs.PlanLines.{PlanLines}
 use Rattle.unit_plan.specs.Plan.{plan_of}
 use Rattle.unit_state.specs.declared.state.State.{State}
 use Rattle.unit_state.specs.Initial.{initial}
-use Rattle.image_beginning.specs.Beginning.{SaysPlan, image_of_plan}
+use Rattle.unit_image.specs.Beginning.{SaysPlan, image_of_plan}
 use Rattle.unit_image.specs.Shows.{ShowsNone}
 use Rattle.sdls_plain.specs.declared.init.InitEnd.{InitEnd}
 use Rattle.sdls_plain.specs.declared.init.InitEnd.TheVariants.{Made, ImageExists, Refused, SourceFault, SiteFault}

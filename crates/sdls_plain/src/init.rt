@@ -7,7 +7,7 @@ ghost use Rattle.sdls_outside.specs.Intake.{TakesAtMost};
 ghost use Rattle.sdls_outside.specs.Output.{Delivers, OnlySinks};
 
 use command_words::put_text;
-use image_beginning::create_image;
+use unit_image::create_image;
 use itoa::Buffer;
 use law_image::cut_beginning;
 use record_io::Outcome;

@@ -2,7 +2,7 @@
 use Rattle.std.proofs.Common.{◌≡◌, ℕ, List, Ok, sym, ◌∙◌, ap, subst}
 use Rattle.unit_plan.specs.Bare.{without_rows}
 use Rattle.unit_plan.proofs.BareRoom.{bare_plan_reads}
-use Rattle.image_beginning.specs.Beginning.{image_of_plan}
+use Rattle.unit_image.specs.Beginning.{image_of_plan}
 use Rattle.unit_image.specs.Image.{Held, held}
 use Rattle.unit_image.specs.Shows.{Shows}
 use Rattle.sdls_base.specs.declared.states.Direction.TheVariants.{Receive, Send}

@@ -3,7 +3,7 @@ use Rattle.std.proofs.Common.{◌≡◌, ℕ, true, List, refl, ◌∙◌, ap, s
 use Rattle.sdls_base.specs.declared.TheConstants.{MOST_KEYS}
 use Rattle.sdls_outside.specs.Moments.{Trace}
 use Rattle.sdls_outside.specs.Crash.{fresh}
-use Rattle.image_beginning.specs.Beginning.{SaysPlan, image_of_plan}
+use Rattle.unit_image.specs.Beginning.{SaysPlan, image_of_plan}
 use Rattle.unit_image.specs.Image.{held}
 use Rattle.unit_plan.specs.Plan.{plan_of}
 use Rattle.unit_plan.specs.PlanLines.{PlanLines}

@@ -13,7 +13,7 @@ use Rattle.counter_table.specs.Numbers.{amount}
 use Rattle.counter_table.specs.Turn.{stands}
 use Rattle.counter_table.specs.Whole.{IsWhole, RowStands}
 use Rattle.fsr_log.specs.Noted.{Noted}
-use Rattle.image_beginning.specs.Beginning.{image_of_plan}
+use Rattle.unit_image.specs.Beginning.{image_of_plan}
 use Rattle.law_image.proofs.Planned.{plan_rules}
 use Rattle.law_image.proofs.Ruled.{shown_left, shown_rules}
 use Rattle.law_runs.specs.AtEnd.{EndsRun, course_at_end}

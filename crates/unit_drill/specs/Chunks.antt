@@ -2,7 +2,7 @@
 use Rattle.std.specs.Prelude.{◌≡◌, ℕ, zero, suc, ◌+◌, ◌-◌, ◌*◌, ◌≤◌, min, Bool, true, false, List, [], ◌++◌, Ok}
 use Rattle.std.specs.List.{All, list_any}
 use Rattle.sdls_base.specs.declared.TheConstants.{MOST_KEYS}
-use Rattle.image_beginning.specs.Beginning.{SaysPlan, image_of_plan}
+use Rattle.unit_image.specs.Beginning.{SaysPlan, image_of_plan}
 use Rattle.unit_image.specs.Image.{held}
 use Rattle.record_io.specs.declared.answers.Answer.{Answer}
 use Rattle.record_io.specs.Answers.{IsAnswer}

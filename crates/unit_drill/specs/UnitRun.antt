@@ -2,7 +2,7 @@
 use Rattle.std.specs.Prelude.{◌≡◌, ℕ, suc, zero, ◌+◌, ◌-◌, ◌*◌, ◌/◌, ◌==◌, ◌||◌, Bool, false, List, [], ◌++◌, length}
 use Rattle.std.specs.Prelude.{map, take, drop, Ok}
 use Rattle.std.specs.List.{list_any, range_with_len}
-use Rattle.image_beginning.specs.Beginning.{SaysPlan, image_of_plan}
+use Rattle.unit_image.specs.Beginning.{SaysPlan, image_of_plan}
 use Rattle.record_io.specs.declared.answers.Answer.{Answer}
 use Rattle.record_io.specs.declared.code.TheConstants as codes_of
 use Rattle.record_io.specs.declared.records.Record.{Record}

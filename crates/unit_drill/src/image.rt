@@ -2,12 +2,12 @@
 ghost use Rattle.std.specs.Prelude.{◌≡◌, ◌≤◌, IfOk, length, vec_len};
 ghost use Rattle.unit_plan.specs.PlanLines.{PlanLines};
 ghost use Rattle.unit_state.specs.declared.state.State.{State};
-ghost use Rattle.image_beginning.specs.Beginning.{SaysPlan, image_of_plan};
+ghost use Rattle.unit_image.specs.Beginning.{SaysPlan, image_of_plan};
 ghost use Rattle.sdls_outside.specs.Crash.{fresh};
 ghost use Rattle.sdls_outside.specs.MemSite.{site_trace};
 ghost use Rattle.unit_drill.specs.Plans.{receiver_plan, sender_plan};
 
-use image_beginning::create_image;
+use unit_image::create_image;
 use sdls_base::{CONTENT_LENGTH_TWO, NoMemory};
 use sdls_outside::{Crash, MemSite};
 use std::alloc::{AllocError, Global};

@@ -6,7 +6,7 @@ ghost use Rattle.unit_state.specs.State.{KeepsRules};
 ghost use Rattle.unit_state.specs.Allows.{Allows};
 ghost use Rattle.unit_image.specs.Shows.{LeadTo, IsNoChangeAt, IsBadRecord};
 ghost use Rattle.unit_image.specs.OpeningImage.{HasOpenFault, TakesRecord};
-ghost use Rattle.book_rows.specs.Rows.{HasRowsCause};
+ghost use Rattle.image_content.specs.Rows.{HasRowsCause};
 ghost use Rattle.sdls_base.specs.Version.{content_length_of};
 ghost use Rattle.disk_journal.specs.Image.{records, held, record_at};
 ghost use Rattle.disk_journal.specs.Journal.{IsOpen};
@@ -16,9 +16,8 @@ ghost use Rattle.unit_image.specs.OpeningImage.{as_open_fault, IsNoContent, IsTe
 
 use crate::fault::OpenFault;
 use book_record::{RecordError, read_record};
-use book_rows::RowsFault;
 use disk_journal::{Journal, JournalFault, PLAN_AT, PLAN_ROOM, RecordRun, SLOT_COUNT_AT};
-use image_content::read_content;
+use image_content::{RowsFault, read_content};
 use sdls_base::{BODY_LENGTH, CONTENT_LENGTH_TWO, Change, ChannelList, NoMemory, Version};
 use sdls_outside::Site;
 use std::alloc::Global;

@@ -3,7 +3,7 @@ use Rattle.std.proofs.lemmas.Result.{err_from_is_err_and}
 use Rattle.key_book.specs.declared.key_row.KeyRow.{KeyRow}
 use Rattle.unit_state.specs.declared.state.State.{State}
 use Rattle.unit_state.specs.State.{KeepsRules}
-use Rattle.book_rows.specs.Rows.{state_of}
+use Rattle.image_content.specs.Rows.{state_of}
 use Rattle.image_content.specs.Reading.{AreKeyRows, AreSaRows, associations_in, IsContent}
 use Rattle.image_content.proofs.Contents.{content_says, keys_are, keys_read, sas_are, sas_read, read_content, made, not_made}
 use Rattle.image_content.proofs.RowsRead.{whole_cause}
