@@ -29,5 +29,6 @@ pub use laws::{key_row_changes, marks_change, one_state, restart_leaves_content,
 pub use layout::KEYS_AT;
 pub use making::{keys_of, state_of_rows};
 pub use reading::read_content;
+pub use rows::spell_key_row;
 pub use rows_fault::RowsFault;
 pub use writing::{fits, write_content, write_content_two};

@@ -3,7 +3,7 @@
 ghost use Rattle.std.specs.Prelude.{◌≡◌, ◌+◌, ◌*◌, ◌≤◌, ◌++◌, length, take, replicate, All};
 ghost use Rattle.book_record.specs.KeyParts.{key_row_octets};
 ghost use Rattle.book_record.specs.SaParts.{sa_row_octets};
-ghost use Rattle.key_book.specs.KeyRow.{IsKeyRow};
+ghost use Rattle.key_book.specs.KeyRow.{HasBytes, IsKeyRow};
 ghost use Rattle.sa_book.specs.SaRow.{IsSaRow};
 ghost use Rattle.image_content.specs.Content.{key_parts, sa_parts, key_rows, sa_rows};
 ghost use Rattle.image_content.specs.Reading.{IsTypedKey, IsTypedSa};
@@ -24,8 +24,9 @@ pub(crate) fn put_zeros(out: &mut [u8], at: usize, count: usize) -> usize
     end
 }
 
-fn key_row(row: &KeyRow) -> [u8; KEY_ROW_LENGTH]
-    requires { IsKeyRow row.now }
+/// The octets of a key's row, whatever its mark and floor.
+pub fn spell_key_row(row: &KeyRow) -> [u8; KEY_ROW_LENGTH]
+    requires { HasBytes row.now.state row.now.bytes row.now.digest }
     ensures spelled { result ≡ key_row_octets (key_parts row.now) }
     ensures types { IsTypedKey row.now }
 {
@@ -39,7 +40,7 @@ fn key_row(row: &KeyRow) -> [u8; KEY_ROW_LENGTH]
     })
 }
 
-fn sa_row(row: &SaRow) -> [u8; SA_ROW_LENGTH]
+fn spell_sa_row(row: &SaRow) -> [u8; SA_ROW_LENGTH]
     requires { IsSaRow row.now }
     ensures spelled { result ≡ sa_row_octets (sa_parts row.now) }
     ensures types { IsTypedSa row.now }
@@ -65,7 +66,7 @@ pub(crate) fn put_key_rows(out: &mut [u8], at: usize, rows: &[KeyRow]) -> usize
 {
     let mut end = at;
     for row in rows {
-        end = put(out, end, &key_row(row));
+        end = put(out, end, &spell_key_row(row));
     }
     end
 }
@@ -80,7 +81,7 @@ pub(crate) fn put_sa_rows(out: &mut [u8], at: usize, rows: &[SaRow]) -> usize
 {
     let mut end = at;
     for row in rows {
-        end = put(out, end, &sa_row(row));
+        end = put(out, end, &spell_sa_row(row));
     }
     end
 }

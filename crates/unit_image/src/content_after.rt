@@ -11,8 +11,10 @@ ghost use Rattle.unit_state.specs.Restart.{IsLight, IsStorable, restarted};
 ghost use Rattle.image_content.specs.Content.{content_of, key_parts};
 ghost use Rattle.image_content.specs.Reading.{HasRows, IsContent};
 
-use book_record::{KEY_ROW_LENGTH, KeyView, write_key_row};
-use image_content::{KEYS_AT, key_row_changes, restart_leaves_content, write_content_two};
+use book_record::KEY_ROW_LENGTH;
+use image_content::{
+    KEYS_AT, key_row_changes, restart_leaves_content, spell_key_row, write_content_two,
+};
 use key_book::KeyRow;
 use sdls_base::{CONTENT_LENGTH_TWO, Change, KeyId, put};
 use unit_state::State;
@@ -22,13 +24,10 @@ fn marked_row(row: &KeyRow, mark: u64, floor: u64) -> [u8; KEY_ROW_LENGTH]
     requires { key_rows.IsKeyRow row.now }
     ensures { IsKeyRow (key_parts (record row.now { mark = mark; floor = floor })) result }
 {
-    write_key_row(&KeyView {
-        id: row.id,
-        state: row.state,
-        bytes: row.bytes.as_slice(),
-        digest: &row.digest,
+    spell_key_row(&KeyRow {
         mark,
         floor,
+        ..*row
     })
 }
 

@@ -14,18 +14,18 @@ loop-row-preserved c =
     let row = c.row-item.result in
     let before = c.loop-row.invariant in
     let front = take c.args.at c.args.out.now in
-    let spelled = c.key_row.ensures.spelled in
+    let spelled = c.spell_key_row.ensures.spelled in
     let more : take (i + 1) rows ≡ take i rows ++ row ∷ [] =
     take_more rows i row c.loop-row-test.true ∙ ap (λ (last : KeyRow). take i rows ++ last ∷ []) (sym c.row-item.is) in
     record {
-      place = omega (arith, before.place, c.put-end.ensures.place, ap length spelled, key_sized row c.key_row.ensures.types);
+      place = omega (arith, before.place, c.put-end.ensures.place, ap length spelled, key_sized row c.spell_key_row.ensures.types);
       written = c.put-end.ensures.written
-          ∙ ap (λ (s : List ℕ). s ++ c.key_row.result) before.written
+          ∙ ap (λ (s : List ℕ). s ++ c.spell_key_row.result) before.written
           ∙ ap (λ (s : List ℕ). (front ++ key_rows (take i rows)) ++ s) spelled
           ∙ append_assoc front (key_rows (take i rows)) (key_octets row)
           ∙ ap (λ (s : List ℕ). front ++ s) (flat_map_more key_octets [] (take i rows) row)
           ∙ ap (λ (all : List KeyRow). front ++ key_rows all) (sym more);
-      types = subst (All IsTypedKey) (sym more) (All-push IsTypedKey (take i rows) row before.types c.key_row.ensures.types);
+      types = subst (All IsTypedKey) (sym more) (All-push IsTypedKey (take i rows) row before.types c.spell_key_row.ensures.types);
     }
 
 pub returns-clause-types : goal.returns-clause-types

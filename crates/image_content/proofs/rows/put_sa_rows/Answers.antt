@@ -15,18 +15,18 @@ loop-row-preserved c =
     let row = c.row-item.result in
     let before = c.loop-row.invariant in
     let front = take c.args.at c.args.out.now in
-    let spelled = c.sa_row.ensures.spelled in
+    let spelled = c.spell_sa_row.ensures.spelled in
     let more : take (i + 1) rows ≡ take i rows ++ row ∷ [] =
     take_more rows i row c.loop-row-test.true ∙ ap (λ (last : SaRow). take i rows ++ last ∷ []) (sym c.row-item.is) in
     record {
-      place = omega (arith, before.place, c.put-end.ensures.place, ap length spelled, sa_row_length (sa_parts row) (sa_octets row) c.sa_row.ensures.types);
+      place = omega (arith, before.place, c.put-end.ensures.place, ap length spelled, sa_row_length (sa_parts row) (sa_octets row) c.spell_sa_row.ensures.types);
       written = c.put-end.ensures.written
-          ∙ ap (λ (s : List ℕ). s ++ c.sa_row.result) before.written
+          ∙ ap (λ (s : List ℕ). s ++ c.spell_sa_row.result) before.written
           ∙ ap (λ (s : List ℕ). (front ++ sa_rows (take i rows)) ++ s) spelled
           ∙ append_assoc front (sa_rows (take i rows)) (sa_octets row)
           ∙ ap (λ (s : List ℕ). front ++ s) (flat_map_more sa_octets [] (take i rows) row)
           ∙ ap (λ (all : List SaRow). front ++ sa_rows all) (sym more);
-      types = subst (All IsTypedSa) (sym more) (All-push IsTypedSa (take i rows) row before.types c.sa_row.ensures.types);
+      types = subst (All IsTypedSa) (sym more) (All-push IsTypedSa (take i rows) row before.types c.spell_sa_row.ensures.types);
     }
 
 pub returns-clause-types : goal.returns-clause-types
