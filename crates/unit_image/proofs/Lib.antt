@@ -7,3 +7,4 @@ pub mod ContentAfter
 pub mod Stored
 pub mod Bringing
 pub mod OpenFaults
+pub mod Outside

@@ -11,6 +11,7 @@ pub use Rattle.disk_journal.specs.Forms.{Becomes, HasOneClosed, Holds, Settles, 
 pub use Rattle.disk_journal.specs.Journal.{IsJournalOf, IsSettled, IsSettledImage, JournalView}
 pub use Rattle.disk_journal.specs.Moments.{EachImage, OnlySyncs}
 pub use Rattle.disk_journal.specs.Initial.{created_image}
+pub use Rattle.disk_journal.specs.Changes.{KeepsBeside}
 
 -- how many slots of the current bank hold records
 abbrev pub used_of : List ℕ → ℕ

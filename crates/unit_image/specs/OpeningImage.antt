@@ -1,5 +1,5 @@
 -- Why the opening of an image fails, and what a crash in it leaves (profile).
-use Rattle.std.specs.Prelude.{◌≡◌, ℕ, ◌+◌, ◌≤◌, ◌⊎◌, ⊤, List, Some, Result, IfErr, OnOk}
+use Rattle.std.specs.Prelude.{◌≡◌, ℕ, ◌+◌, ◌<◌, ◌≤◌, ◌⊎◌, ⊤, List, Some, Result, IfErr, OnOk, slice_index}
 use Rattle.std.specs.List.{slice_get}
 use Rattle.sdls_base.specs.declared.change.Change.{Change}
 use Rattle.sdls_base.specs.declared.version.Version.TheVariants.{One, Two}
@@ -11,11 +11,14 @@ use Rattle.sdls_outside.specs.Disk.{Leaves}
 use Rattle.sdls_outside.specs.Moments.{Trace}
 use Rattle.unit_plan.specs.PlanLines.{PlanLines}
 use Rattle.unit_state.specs.declared.state.State.{State}
-use Rattle.disk_journal.specs.declared.layout.TheConstants.{PLAN_AT, CONTENT_AT}
+use Rattle.disk_journal.specs.declared.layout.TheConstants.{BANKS_AT, PLAN_AT, CONTENT_AT, MIGRATED_AT}
+use Rattle.disk_journal.specs.declared.layout.Layout.{Layout}
 use Rattle.unit_image.specs.declared.fault.OpenFault.{OpenFault}
 use Rattle.unit_image.specs.declared.fault.OpenFault.TheVariants.{SiteFault, Image, NoMemory}
 use Rattle.disk_journal.specs.declared.fault.JournalFault.{JournalFault}
 use Rattle.disk_journal.specs.declared.fault.JournalFault.TheVariants as journal_faults
+use Rattle.disk_journal.specs.Banks.{image_end}
+use Rattle.disk_journal.specs.Changes.{KeepsPast}
 use Rattle.image_content.specs.Content.{content_of}
 use Rattle.image_content.specs.Reading.{IsContent}
 use Rattle.disk_journal.specs.Moments.{EachImage, OnlySyncs}
@@ -110,6 +113,14 @@ pub record BringsUp {T E : Type 0} (state : State) (result : Result T E) (journa
   pub is : IsBroughtUp state (held old.now.image) next
   pub moments : EachImage old new (Becomes (held old.now.image) next)
   pub done : OnOk result (IsSettled new journal × (held new.now.image ≡ next))
+
+-- What stands outside the banks once an image is opened, where this layout has them: the octets before all banks are as
+-- they were, but for the one that migrates an image, and so are those past the banks. The image ends where it ended, or
+-- with banks that were written behind its own.
+pub record KeepsOutside (layout : Layout) (old new : List ℕ) : Type 0 where
+  pub before : (i : ℕ) → (i < MIGRATED_AT) ⊎ ((MIGRATED_AT < i) × (i < BANKS_AT))
+      → slice_index new i ≡ slice_index old i
+  pub past : KeepsPast (image_end layout) old new
 
 -- Left is on the way from an image of version 1 to its migration.
 pub record IsMigrating (image left : List ℕ) : Type 0 where

@@ -1,5 +1,5 @@
 -- How a change of the state is stored in an image of two banks (profile).
-use Rattle.std.specs.Prelude.{◌≡◌, ℕ, Bool, IsTrue, List, Result, OnErr, OnOk}
+use Rattle.std.specs.Prelude.{◌≡◌, ℕ, Bool, IsTrue, List, length, take, Result, OnErr, OnOk}
 use Rattle.sdls_base.specs.declared.change.Change.{Change}
 use Rattle.sdls_base.specs.declared.change.Change.TheVariants.{Marks, Load, KeyStates, Create, Rekey, SaTo, SetNumber}
 use Rattle.sdls_base.specs.declared.change.Change.TheVariants.{SetWindow, Accepted, Nothing}
@@ -12,8 +12,12 @@ use Rattle.unit_state.specs.declared.state.State.{State}
 use Rattle.unit_state.specs.Applied.{applied}
 use Rattle.unit_state.specs.Restart.{restarted}
 use Rattle.image_content.specs.Content.{content_of}
+use Rattle.disk_journal.specs.declared.layout.HeaderForm.{HeaderForm}
+use Rattle.disk_journal.specs.declared.layout.TheConstants.{BANKS_AT, OPEN}
+use Rattle.disk_journal.specs.Banks.{image_end, layout_of}
 use Rattle.disk_journal.specs.Changes.{KeepsBeside}
-use Rattle.disk_journal.specs.Image.{Held, held}
+use Rattle.disk_journal.specs.Image.{Held, held, image_layout}
+use Rattle.disk_journal.specs.Initial.{front_image, rest_image}
 use Rattle.disk_journal.specs.Forms.{Becomes}
 use Rattle.disk_journal.specs.Journal.{IsSettled, JournalView}
 use Rattle.disk_journal.specs.Rest.{IsRest}
@@ -48,6 +52,21 @@ pub record Stores {T E : Type 0} (state : State) (change : Change) (result : Res
 abbrev pub LeavesRest : Trace → JournalView → State → Type 0
 LeavesRest new journal state =
     (image : List ℕ) → Leaves new.now image → IsRest image journal.bank journal.generation (content_of Two state)
+
+-- Outside its banks the image has the front of this plan alone: zeros from the plan's end up to the banks, and no octet
+-- past the last one.
+pub record HasPlanAlone (form : HeaderForm) (plan : List ℕ) (slots : ℕ) (image : List ℕ) : Type 0 where
+  pub layout : image_layout image ≡ layout_of form slots
+  pub front : take BANKS_AT image ≡ front_image form OPEN plan slots
+  pub ends : length image ≡ image_end (layout_of form slots)
+
+-- If the image as it was opened has a plan alone outside its banks, whatever a crash leaves is the image of that plan
+-- and this state, with no records, from its first octet to its last.
+abbrev pub LeavesRestImage : List ℕ → Trace → JournalView → State → Type 0
+LeavesRestImage opened new journal state =
+    (form : HeaderForm) (plan : List ℕ) (slots : ℕ) → HasPlanAlone form plan slots opened
+    → (image : List ℕ) → Leaves new.now image
+    → image ≡ rest_image form OPEN plan slots (content_of Two state) journal.generation journal.bank
 
 -- the journal has its places in the image: as many octets of a plan, and the banks where they were
 pub record KeepsPlaces (old new : JournalView) : Type 0 where

@@ -8,10 +8,15 @@ ghost use Rattle.unit_state.specs.Applied.{applied};
 ghost use Rattle.unit_state.specs.Restart.{restarted};
 ghost use Rattle.unit_state.specs.Laws.{StoresWell};
 ghost use Rattle.image_content.specs.Reading.{IsContent};
+ghost use Rattle.sdls_outside.specs.Moments.{Trace};
+ghost use Rattle.disk_journal.specs.Changes.{KeepsBeside};
 ghost use Rattle.disk_journal.specs.Image.{Held, grown, turned, migrated};
+ghost use Rattle.disk_journal.specs.Journal.{IsSettled, JournalView};
 ghost use Rattle.unit_image.specs.Shows.{Says, Shows, ShowsNone};
+ghost use Rattle.unit_image.specs.Storing.{LeavesRest, LeavesRestImage};
 
 use book_record::one_change;
+use disk_journal::rest_is_whole;
 use image_content::one_state;
 use unit_state::restarts_once;
 
@@ -54,3 +59,13 @@ pub fn says_migrated()
     ensures { (what : Held) (state : State) (content : List ℕ) → Says what state → IsContent Two state content
         → Says (migrated content what) state }
 {}
+
+/// Law: an image is as it was when it was opened, but for its banks, and of these each octet is stated. Had it then a
+/// plan alone outside them, each octet of it is stated.
+pub fn rest_stays_whole()
+    ensures { (opened : List ℕ) (now : Trace) (journal : JournalView) (state : State) → IsSettled now journal
+        → KeepsBeside journal.layout opened now.now.image → LeavesRest now journal state
+        → LeavesRestImage opened now journal state }
+{
+    rest_is_whole();
+}

@@ -18,6 +18,8 @@ mod storing;
 pub use creating::create_image;
 pub use disk_journal::Journal;
 pub use fault::OpenFault;
-pub use laws::{refused_with_one, says_grown, says_migrated, says_turned, shows_one};
+pub use laws::{
+    refused_with_one, rest_stays_whole, says_grown, says_migrated, says_turned, shows_one,
+};
 pub use opening_image::{Opened, open};
 pub use storing::{SiteFault, store};

@@ -1,5 +1,5 @@
 // The opening of an image.
-ghost use Rattle.std.specs.Prelude.{◌≡◌, ◌≤◌, IsTrue, IfErr, IfOk, OnOk, length, vec_len};
+ghost use Rattle.std.specs.Prelude.{◌≡◌, ◌≤◌, ℕ, List, IsTrue, IfErr, IfOk, OnOk, length, vec_len};
 ghost use Rattle.sdls_outside.specs.Disk.{Leaves};
 ghost use Rattle.sdls_outside.specs.Moments.{EachMoment};
 ghost use Rattle.disk_journal.specs.Moments.{EachImage, OnlySyncs};
@@ -7,11 +7,12 @@ ghost use Rattle.unit_state.specs.State.{KeepsRules};
 ghost use Rattle.unit_plan.specs.Plan.{plan_of};
 ghost use Rattle.unit_image.specs.OpeningImage.{HasOpenFault};
 ghost use Rattle.disk_journal.specs.declared.layout.TheConstants.{PLAN_ROOM};
+ghost use Rattle.disk_journal.specs.Changes.{KeepsPlan};
 ghost use Rattle.disk_journal.specs.Image.{held};
 ghost use Rattle.disk_journal.specs.Journal.{HasSiteFault, IsOpen, IsSettled};
 ghost use Rattle.unit_image.specs.Shows.{Shows, ShowsNone};
 ghost use Rattle.unit_image.specs.Image.{IsOfTwo};
-ghost use Rattle.unit_image.specs.OpeningImage.{BringsUp, IsHeldNext, LeavesShown, Opening};
+ghost use Rattle.unit_image.specs.OpeningImage.{BringsUp, IsHeldNext, KeepsOutside, LeavesShown, Opening};
 
 use crate::fault::OpenFault;
 use crate::laws::refused_with_one;
@@ -109,6 +110,8 @@ fn show<O: Site>(
         × Shows (O.trace site.new).now.image opened.state) }
     ensures holds { IsTrue O.told → OnOk result (held (O.trace site.new).now.image
         ≡ held (O.trace site.old).now.image) }
+    ensures beside { IsTrue O.told → IfOk result (λ opened.
+        KeepsPlan opened.journal.layout (O.trace site.old).now.image (O.trace site.new).now.image) }
     ensures plan { IsTrue O.told → IfOk result (λ opened.
         plan_of (held (O.trace site.old).now.image).plan ≡ Ok opened.plan) }
     ensures rules { IfOk result (λ opened. KeepsRules opened.state) }
@@ -141,6 +144,10 @@ fn bring_up<O: Site>(
     requires shows { IsTrue O.told → Shows (O.trace site.old).now.image state.now }
     requires rules { KeepsRules state.now }
     ensures brings { IsTrue O.told → BringsUp state.now result journal.new (O.trace site.old) (O.trace site.new) }
+    // told of the image as it was before it was brought to rest
+    ensures outside { IsTrue O.told → OnOk result ((before : List ℕ)
+        → KeepsPlan journal.old.layout before (O.trace site.old).now.image
+        → KeepsOutside journal.new.layout before (O.trace site.new).now.image) }
     ensures version { OnOk result (IsOfTwo journal.new) }
     ensures puts { O.put_faults site.new ≡ O.put_faults site.old }
     ensures fault { HasSiteFault (O.faults site.old) (O.faults site.new) result }
@@ -176,6 +183,11 @@ pub fn open<O: Site>(alloc: Global, site: &mut O, room: &mut [u8]) -> Result<Ope
     // What was held is held, or its migration if the image was of version 1.
     ensures holds { IsTrue O.told → OnOk result
         (IsHeldNext (O.trace site.old).now.image (held (O.trace site.new).now.image)) }
+    // Outside the banks the image is as it was, but for the octet that migrates it. So it holds the same plan.
+    ensures outside { IsTrue O.told → IfOk result (λ opened.
+        KeepsOutside opened.journal.layout (O.trace site.old).now.image (O.trace site.new).now.image) }
+    ensures same_plan { IsTrue O.told → OnOk result ((held (O.trace site.new).now.image).plan
+        ≡ (held (O.trace site.old).now.image).plan) }
     // The plan is the one that the image's text says.
     ensures plan { IsTrue O.told → IfOk result (λ opened.
         plan_of (held (O.trace site.old).now.image).plan ≡ Ok opened.plan) }
