@@ -14,6 +14,7 @@ use Rattle.sdls_base.specs.Bounds.{AreChannels, IsKeyLength, IsKeyCount}
 use Rattle.sdls_base.specs.Code.{key_state_code, new_state_code, direction_code, suite_code, key_state_of}
 use Rattle.sdls_base.specs.Spelling.{item_octets, association_octets}
 use Rattle.sdls_base.proofs.Codes.{key_state_again, new_state_again, direction_again, suite_again}
+use Rattle.sdls_base.proofs.PlaceFacts.{word_in_front}
 use Rattle.sdls_base.specs.declared.change.Change.{Change}
 use Rattle.sdls_base.specs.declared.change.Change.TheVariants.{Marks, Load, KeyStates, Create, Rekey, SaTo, SetNumber, SetWindow, Accepted, Nothing}
 use Rattle.sdls_base.specs.declared.key_item.KeyItem.{KeyItem}
@@ -31,7 +32,8 @@ use Rattle.book_record.specs.declared.record_error.RecordError.{RecordError}
 use Rattle.book_record.specs.declared.record_error.RecordError.TheVariants.{Malformed, NoMemory}
 use Rattle.book_record.specs.Kind.{kind_of}
 use Rattle.book_record.specs.Record.{body_of, record_octets, HasRecord, HasTypes, IsRecord, IsKey, IsSpi}
-use Rattle.book_record.specs.Reading.{HasCause, octet_at, word_at, number_at, IsWithin, keys_in, AreKeys, item_at, behind_item, items_in, AreItems, channels_at, change_at, MayStand}
+use Rattle.sdls_base.specs.Places.{octet_at, word_at, number_at}
+use Rattle.book_record.specs.Reading.{HasCause, IsWithin, keys_in, AreKeys, item_at, behind_item, items_in, AreItems, channels_at, change_at, MayStand}
 use Rattle.book_record.proofs.Lists.{item_end, item_length}
 
 -- ---- codes
@@ -77,7 +79,7 @@ keys_again : (ids : List ℕ) (at : ℕ) (octets back : List ℕ) → AllByRecur
     → drop at octets ≡ flat_map (to_be_bytes w16) ids ++ back → KeysAgain ids at octets
 keys_again [] at octets back are stands = record { may = tt; same = refl }
 keys_again (key ∷ ids) at octets back are stands =
-    let head : word_at at octets ≡ key = ap (λ (s : List ℕ). from_be_bytes w16 (take 2 s)) stands ∙ key_again key are.0 in
+    let head : word_at at octets ≡ key = word_in_front at octets (flat_map (to_be_bytes w16) (key ∷ ids) ++ back) stands ∙ key_again key are.0 in
     let rest : drop (at + 2) octets ≡ flat_map (to_be_bytes w16) ids ++ back = sym (drop-drop 2 at octets) ∙ ap (λ (s : List ℕ). drop 2 s) stands in
     let tail = keys_again ids (at + 2) octets back are.1 rest in
     let others = tail.same in
@@ -97,7 +99,7 @@ items_again [] at octets back ids lengths stands = record { may = tt; same = ref
 items_again (item ∷ items) at octets back ids lengths stands =
     let bytes = item.bytes in
     let after = flat_map item_octets items ++ back in
-    let head : word_at at octets ≡ item.id = ap (λ (s : List ℕ). from_be_bytes w16 (take 2 s)) stands ∙ key_again item.id ids.0 in
+    let head : word_at at octets ≡ item.id = word_in_front at octets (flat_map item_octets (item ∷ items) ++ back) stands ∙ key_again item.id ids.0 in
     let size : octet_at (at + 2) octets ≡ length bytes = sym (get_or-drop at octets 2 0) ∙ ap (λ (s : List ℕ). get_or s 2 0) stands in
     let third : drop (at + 3) octets ≡ bytes ++ after =
     sym (drop-drop 3 at octets) ∙ ap (λ (s : List ℕ). drop 3 s) stands ∙ append_assoc bytes (flat_map item_octets items) back in

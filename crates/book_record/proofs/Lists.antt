@@ -10,7 +10,8 @@ use Rattle.book_record.specs.declared.record_error.RecordError.{RecordError}
 use Rattle.book_record.specs.declared.record_error.RecordError.TheVariants.{Malformed, NoMemory}
 use Rattle.sdls_base.specs.declared.key_item.KeyItem.{KeyItem}
 use Rattle.book_record.specs.Record.{IsKey}
-use Rattle.book_record.specs.Reading.{HasCause, octet_at, word_at, keys_in, AreKeys, item_at, IsItem, behind_item, items_in, AreItems}
+use Rattle.sdls_base.specs.Places.{octet_at, word_at}
+use Rattle.book_record.specs.Reading.{HasCause, keys_in, AreKeys, item_at, IsItem, behind_item, items_in, AreItems}
 
 -- ---- what was written up to a place
 

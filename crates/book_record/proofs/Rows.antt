@@ -7,6 +7,7 @@ use Rattle.std.proofs.lemmas.Bool.{ne_eqb}
 use Rattle.std.proofs.lemmas.List.{drop-drop, drop-replicate, take-append-drop, length-replicate, length-take-le, length-take, length-drop}
 use Rattle.sdls_base.proofs.Codes.{key_state_again, sa_state_again, direction_again, suite_again}
 use Rattle.sdls_base.proofs.Endings.{drop_front}
+use Rattle.sdls_base.proofs.PlaceFacts.{number_in_front}
 use Rattle.sdls_base.specs.Bounds.{AreChannels}
 use Rattle.sdls_base.specs.Code.{key_state_code, sa_state_code, direction_code, suite_code}
 use Rattle.sdls_base.specs.declared.states.KeyState.{KeyState}
@@ -19,7 +20,8 @@ use Rattle.book_record.specs.declared.sa_parts.SaParts.{SaParts}
 use Rattle.book_record.specs.Padded.{padded}
 use Rattle.book_record.specs.KeyParts.{key_row_octets, IsRowKeyLength, HasKeyTypes, IsKeyRow}
 use Rattle.book_record.specs.SaParts.{held_code, sa_row_octets, HasSaTypes, IsSaRow}
-use Rattle.book_record.specs.Reading.{IsWithin, octet_at, word_at, number_at, channels_at}
+use Rattle.sdls_base.specs.Places.{octet_at, word_at, number_at}
+use Rattle.book_record.specs.Reading.{IsWithin, channels_at}
 use Rattle.book_record.specs.Record.{IsKey, IsSpi}
 use Rattle.book_record.specs.RowReading.{key_parts_at, MayBeKeyRow, held_of, sa_parts_at, MayBeSaRow}
 use Rattle.book_record.proofs.Again.{key_again, spi_again, number_again, direction_within, suite_within}
@@ -86,8 +88,8 @@ key_row_again parts types fits =
     ap (λ (s : List ℕ). take (length parts.bytes) s) from_key ∙ padded_front KEY_ROOM parts.bytes rest in
     let digest : take 32 (drop 36 row) ≡ parts.digest =
     ap (λ (s : List ℕ). take 32 s) from_digest ∙ ap (λ (n : ℕ). take n rest) (sym types.digest) ∙ take-append_seam parts.digest numbers in
-    let mark : number_at 68 row ≡ parts.mark = ap (λ (s : List ℕ). from_be_bytes w64 (take 8 s)) from_mark ∙ number_again parts.mark types.mark in
-    let floor : number_at 76 row ≡ parts.floor = ap (λ (s : List ℕ). from_be_bytes w64 (take 8 s)) from_floor ∙ number_again parts.floor types.floor in
+    let mark : number_at 68 row ≡ parts.mark = number_in_front 68 row numbers from_mark ∙ number_again parts.mark types.mark in
+    let floor : number_at 76 row ≡ parts.floor = number_in_front 76 row (floored ++ zeros) from_floor ∙ number_again parts.floor types.floor in
     record {
       may = (subst IsKey (sym id) types.id, any_state_within parts.state, fits);
       value = λ i. record { id = id i; state = state i; bytes = bytes i; digest = digest i; mark = mark i; floor = floor i };
@@ -160,7 +162,7 @@ sa_row_again parts types fits =
     let key : held_of (word_at 5 row) ≡ parts.key = held_again parts.key types.key in
     let channels : channels_at 7 row ≡ new.channels =
     ap (λ (s : List ℕ). take (length new.channels) s) from_channels ∙ padded_front CHANNEL_ROOM new.channels rest in
-    let window : number_at 16 row ≡ new.window = ap (λ (s : List ℕ). from_be_bytes w64 (take 8 s)) from_window ∙ number_again new.window types.window in
+    let window : number_at 16 row ≡ new.window = number_in_front 16 row rest from_window ∙ number_again new.window types.window in
     record {
       may = (
         subst IsSpi (sym spi) types.spi,

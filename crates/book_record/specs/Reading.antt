@@ -1,10 +1,10 @@
 -- What stands at the places of a body, and when it may stand there (profile).
-use Rattle.std.specs.Prelude.{◌≡◌, ⊤, ℕ, zero, suc, ◌+◌, ◌≤◌, List, [], ◌∷◌, take, drop, slice_index, Option, Result}
+use Rattle.std.specs.Prelude.{◌≡◌, ⊤, ℕ, zero, suc, ◌+◌, ◌≤◌, List, [], ◌∷◌, take, drop, Option, Result}
 use Rattle.std.specs.Prelude.{Ok, Err}
 use Rattle.std.specs.Option.{option_map}
-use Rattle.std.specs.Int.{w16, w64, from_be_bytes}
 use Rattle.sdls_base.specs.Bounds.{AreChannels, IsKeyLength, IsKeyCount}
 use Rattle.sdls_base.specs.Code.{key_state_of, new_state_of, direction_of, suite_of}
+use Rattle.sdls_base.specs.Places.{octet_at, word_at, number_at}
 use Rattle.sdls_base.specs.declared.change.Change.{Change}
 use Rattle.sdls_base.specs.declared.change.Change.TheVariants.{Marks, Load, KeyStates, Create, Rekey, SaTo, SetNumber}
 use Rattle.sdls_base.specs.declared.change.Change.TheVariants.{SetWindow}
@@ -32,17 +32,6 @@ HasCause NoMemory Cause = ⊤
 abbrev pub Judges : {X : Type 0} → Result X RecordError → Type 0 → X → Type 0
 Judges (Ok x) MayStand value = MayStand × (x ≡ value)
 Judges (Err e) MayStand value = HasCause e (¬ MayStand)
-
--- ---- the number at a place, in 1, 2 or 8 octets
-
-abbrev pub octet_at : ℕ → List ℕ → ℕ
-octet_at at octets = slice_index octets at
-
-abbrev pub word_at : ℕ → List ℕ → ℕ
-word_at at octets = from_be_bytes w16 (take 2 (drop at octets))
-
-abbrev pub number_at : ℕ → List ℕ → ℕ
-number_at at octets = from_be_bytes w64 (take 8 (drop at octets))
 
 -- a number from the least to the most
 pub record IsWithin (least most n : ℕ) : Type 0 where

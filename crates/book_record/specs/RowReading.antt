@@ -6,7 +6,8 @@ use Rattle.book_record.specs.declared.layout.TheConstants.{DIGEST_LENGTH}
 use Rattle.book_record.specs.declared.key_parts.KeyParts.{KeyParts}
 use Rattle.book_record.specs.declared.sa_parts.SaParts.{SaParts}
 use Rattle.book_record.specs.KeyParts.{IsRowKeyLength}
-use Rattle.book_record.specs.Reading.{IsWithin, octet_at, word_at, number_at, channels_at}
+use Rattle.sdls_base.specs.Places.{octet_at, word_at, number_at}
+use Rattle.book_record.specs.Reading.{IsWithin, channels_at}
 use Rattle.book_record.specs.Record.{IsKey, IsSpi}
 
 -- ---- a key's row

@@ -1,16 +1,16 @@
 //! The fields of a body, read at their places.
-ghost use Rattle.std.specs.Prelude.{◌≡◌, ◌+◌, ◌<◌, ◌≤◌, ◌↔◌, IsTrue, length, take, drop};
-ghost use Rattle.std.specs.List.Sorted.{IsStrictlyIncreasing};
-ghost use Rattle.sdls_base.specs.Bounds.{AreChannels, IsKeyLength, IsKeyCount};
+ghost use Rattle.std.specs.Prelude.{◌≡◌, ◌+◌, ◌<◌, ◌≤◌, length, take, drop};
+ghost use Rattle.sdls_base.specs.Bounds.{IsKeyLength, IsKeyCount};
 ghost use Rattle.sdls_base.specs.Code.{key_state_of, sa_state_of, new_state_of, direction_of, suite_of};
 ghost use Rattle.book_record.specs.KeyParts.{IsRowKeyLength};
 ghost use Rattle.book_record.specs.Record.{IsKey, IsSpi};
-ghost use Rattle.book_record.specs.Reading.{Judges, IsWithin, octet_at, word_at, number_at};
+ghost use Rattle.sdls_base.specs.Places.{word_at};
+ghost use Rattle.book_record.specs.Reading.{Judges, IsWithin};
 ghost use Rattle.book_record.specs.RowReading.{held_of};
 
 use crate::record_error::RecordError;
 use sdls_base::{
-    Direction, KeyId, KeyState, MOST_CHANNELS, MOST_KEYS_AT_ONCE, SaState, Spi, Suite,
+    Direction, KeyId, KeyState, MOST_CHANNELS, MOST_KEYS_AT_ONCE, SaState, Spi, Suite, word_at,
 };
 
 /// So many octets from a place on.
@@ -23,32 +23,18 @@ pub(crate) fn array<const N: usize>(body: &[u8], at: usize) -> [u8; N]
     array
 }
 
-pub(crate) fn word(body: &[u8], at: usize) -> u16
-    requires { at + 2 ≤ length body.now }
-    ensures { result ≡ word_at at body.now }
-{
-    u16::from_be_bytes(array(body, at))
-}
-
-pub(crate) fn number(body: &[u8], at: usize) -> u64
-    requires { at + 8 ≤ length body.now }
-    ensures { result ≡ number_at at body.now }
-{
-    u64::from_be_bytes(array(body, at))
-}
-
 pub(crate) fn key(body: &[u8], at: usize) -> Result<KeyId, RecordError>
     requires { at + 2 ≤ length body.now }
     ensures { Judges result (IsKey (word_at at body.now)) (word_at at body.now) }
 {
-    KeyId::new(word(body, at)).ok_or(RecordError::Malformed)
+    KeyId::new(word_at(body, at)).ok_or(RecordError::Malformed)
 }
 
 pub(crate) fn spi(body: &[u8], at: usize) -> Result<Spi, RecordError>
     requires { at + 2 ≤ length body.now }
     ensures { Judges result (IsSpi (word_at at body.now)) (word_at at body.now) }
 {
-    Spi::new(word(body, at)).ok_or(RecordError::Malformed)
+    Spi::new(word_at(body, at)).ok_or(RecordError::Malformed)
 }
 
 /// A count of keys.
@@ -110,7 +96,7 @@ pub(crate) fn held_key(row: &[u8], at: usize) -> Option<KeyId>
     requires { at + 2 ≤ length row.now }
     ensures { result ≡ held_of (word_at at row.now) }
 {
-    KeyId::new(word(row, at))
+    KeyId::new(word_at(row, at))
 }
 
 /// The state that keys take: never the one in which they are loaded.
@@ -145,22 +131,4 @@ pub(crate) fn suite(number: u8) -> Result<Suite, RecordError>
     ensures { Judges result (IsWithin 1 2 number) (suite_of number) }
 {
     Suite::from_code(number).ok_or(RecordError::Malformed)
-}
-
-fn ascend(numbers: &[u8]) -> bool
-    ensures { IsTrue result ↔ IsStrictlyIncreasing numbers.now }
-{
-    for next in 1..numbers.len() {
-        if numbers[next] <= numbers[next - 1] {
-            return false;
-        }
-    }
-    true
-}
-
-/// Whether these are one to eight channels, ascending. Whether one is above 63 is not looked at.
-pub fn are_channels(numbers: &[u8]) -> bool
-    ensures { IsTrue result ↔ AreChannels numbers.now }
-{
-    !numbers.is_empty() && numbers.len() <= MOST_CHANNELS && ascend(numbers)
 }

@@ -6,11 +6,11 @@ ghost use Rattle.book_record.specs.Reading.{Judges, IsReadUnlessNoMemory};
 ghost use Rattle.book_record.specs.RowReading.{key_parts_at, MayBeKeyRow};
 
 use crate::data::Data;
-use crate::fields::{array, key, number, row_key_length, row_key_state};
+use crate::fields::{array, key, row_key_length, row_key_state};
 use crate::key_parts::{KeyParts, KeyView};
 use crate::layout::{KEY_ROOM, KEY_ROW_LENGTH};
 use crate::record_error::RecordError;
-use sdls_base::Octets;
+use sdls_base::{Octets, number_at};
 use std::alloc::Global;
 
 /// Writes the row of a key, 96 octets: identifier, state, length of the key, the key in 32 octets, digest, mark, floor,
@@ -48,8 +48,8 @@ fn key_parts(alloc: Global, row: &[u8]) -> Result<KeyParts, RecordError>
         state,
         bytes: Octets::new(bytes),
         digest: array(row, 36),
-        mark: number(row, 68),
-        floor: number(row, 76),
+        mark: number_at(row, 68),
+        floor: number_at(row, 76),
     })
 }
 

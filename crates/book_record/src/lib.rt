@@ -21,7 +21,6 @@ mod sa_parts;
 mod sa_rows;
 mod writing;
 
-pub use fields::are_channels;
 pub use key_parts::{KeyParts, KeyView};
 pub use key_rows::{read_key_row, write_key_row};
 pub use laws::{change_of_its_kind, one_change, one_key_row, one_sa_row};

@@ -6,17 +6,17 @@ ghost use Rattle.sdls_base.specs.declared.change.Change.{Change};
 ghost use Rattle.book_record.specs.declared.kind.Kind.TheVariants.{Marks, Load, KeyStates, Create, Rekey, SaTo};
 ghost use Rattle.book_record.specs.declared.kind.Kind.TheVariants.{SetNumber, SetWindow};
 ghost use Rattle.book_record.specs.Record.{IsRecord};
-ghost use Rattle.book_record.specs.Reading.{Judges, IsReadUnlessNoMemory, octet_at, item_at, IsItem, items_in};
+ghost use Rattle.sdls_base.specs.Places.{octet_at};
+ghost use Rattle.book_record.specs.Reading.{Judges, IsReadUnlessNoMemory, item_at, IsItem, items_in};
 ghost use Rattle.book_record.specs.Reading.{AreItems, keys_in, AreKeys, change_at, MayStand};
 
-use crate::fields::{
-    are_channels, count, direction, key, key_length, key_state, number, sa_state, spi, suite,
-};
+use crate::fields::{count, direction, key, key_length, key_state, sa_state, spi, suite};
 use crate::kind::Kind;
 use crate::record_error::RecordError;
 use crate::writing::write_record;
 use sdls_base::{
     BODY_LENGTH, Change, KeyItem, KeyItems, KeyList, MOST_KEYS_AT_ONCE, NewSa, Octets,
+    are_channels, number_at,
 };
 use std::alloc::Global;
 
@@ -72,8 +72,8 @@ fn marks(body: &[u8]) -> Result<Change, RecordError>
 {
     Ok(Change::Marks {
         key: key(body, 3)?,
-        mark: number(body, 5),
-        floor: number(body, 13),
+        mark: number_at(body, 5),
+        floor: number_at(body, 13),
     })
 }
 
@@ -110,7 +110,7 @@ fn create(alloc: Global, body: &[u8]) -> Result<Change, RecordError>
         spi,
         direction,
         suite,
-        window: number(body, 7),
+        window: number_at(body, 7),
         channels: Octets::new(Vec::from_slice(alloc, channels)?),
     }))
 }
@@ -124,7 +124,7 @@ fn rekey(body: &[u8]) -> Result<Change, RecordError>
     Ok(Change::Rekey {
         spi,
         key,
-        number: number(body, 7),
+        number: number_at(body, 7),
     })
 }
 
@@ -143,7 +143,7 @@ fn set_number(body: &[u8]) -> Result<Change, RecordError>
 {
     Ok(Change::SetNumber {
         spi: spi(body, 3)?,
-        number: number(body, 5),
+        number: number_at(body, 5),
     })
 }
 
@@ -153,7 +153,7 @@ fn set_window(body: &[u8]) -> Result<Change, RecordError>
 {
     Ok(Change::SetWindow {
         spi: spi(body, 3)?,
-        window: number(body, 5),
+        window: number_at(body, 5),
     })
 }
 

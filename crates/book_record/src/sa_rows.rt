@@ -8,13 +8,11 @@ ghost use Rattle.book_record.specs.Reading.{Judges, IsReadUnlessNoMemory};
 ghost use Rattle.book_record.specs.RowReading.{sa_parts_at, MayBeSaRow};
 
 use crate::data::Data;
-use crate::fields::{
-    are_channels, channel_count, direction, held_key, number, row_sa_state, spi, suite,
-};
+use crate::fields::{channel_count, direction, held_key, row_sa_state, spi, suite};
 use crate::layout::{CHANNEL_ROOM, SA_ROW_LENGTH};
 use crate::record_error::RecordError;
 use crate::sa_parts::{SaParts, SaView};
-use sdls_base::{KeyId, NewSa, Octets};
+use sdls_base::{KeyId, NewSa, Octets, are_channels, number_at};
 use std::alloc::Global;
 
 /// The number of a key, 0 where there is none.
@@ -68,7 +66,7 @@ fn sa_parts(alloc: Global, row: &[u8]) -> Result<SaParts, RecordError>
             spi,
             direction,
             suite,
-            window: number(row, 16),
+            window: number_at(row, 16),
             channels: Octets::new(Vec::from_slice(alloc, channels)?),
         },
         state,

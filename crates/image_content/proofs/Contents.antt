@@ -18,7 +18,7 @@ use Rattle.unit_state.specs.State.{KeepsRules}
 use Rattle.unit_state.specs.Restart.{restarted, restarted_row}
 use Rattle.book_record.specs.Padded.{padded}
 use Rattle.book_record.specs.SaParts.{IsSaRow}
-use Rattle.book_record.specs.Reading.{word_at}
+use Rattle.sdls_base.specs.Places.{word_at}
 use Rattle.book_record.proofs.Rows.{padded_front, padded_length, sa_row_length}
 use Rattle.image_content.specs.Rows.{HasRowsCause, MakesOf, state_of}
 use Rattle.image_content.specs.declared.rows_fault.RowsFault.{RowsFault}

@@ -4,7 +4,7 @@ use Rattle.sdls_base.specs.Version.{most_keys_of, most_associations_of, content_
 use Rattle.sdls_base.specs.declared.version.Version.{Version}
 use Rattle.sdls_base.specs.declared.version.Version.TheVariants.{One, Two}
 use Rattle.book_record.specs.declared.layout.TheConstants.{KEY_ROW_LENGTH, SA_ROW_LENGTH}
-use Rattle.book_record.specs.Reading.{octet_at, word_at}
+use Rattle.sdls_base.specs.Places.{octet_at, word_at}
 use Rattle.book_record.specs.KeyParts.{key_row_octets, IsKeyRow}
 use Rattle.book_record.specs.SaParts.{sa_row_octets, IsSaRow}
 use Rattle.key_book.specs.declared.key_row.KeyRow.{KeyRow}

@@ -9,10 +9,9 @@ ghost use Rattle.sdls_base.specs.declared.states.SaState.TheVariants.{Unkeyed, O
 ghost use Rattle.sa_book.specs.SaRow.{HasHigh, IsSaRow};
 ghost use Rattle.sa_book.specs.SaBook.{RowsAreApart, MayFollow};
 
-use book_record::are_channels;
 use replay_window::MOST_BACK;
 use sa_book::{SaBook, SaRow};
-use sdls_base::{Direction, KeyId, MOST_ASSOCIATIONS, MOST_WINDOW, SaState};
+use sdls_base::{Direction, KeyId, MOST_ASSOCIATIONS, MOST_WINDOW, SaState, are_channels};
 
 fn is_width(width: u64) -> bool
     ensures { IsTrue result ↔ IsWidth width }

@@ -2,8 +2,8 @@
 use Rattle.std.proofs.Common.{◌≡◌, ℕ, ◌≤◌, List, [], ◌∷◌, ◌++◌, length, drop, sym, ap, ◌∙◌, arith}
 use Rattle.std.specs.Int.{w16, w32, w64, to_be_bytes}
 use Rattle.std.proofs.lemmas.List.{append-nil, drop_all}
-use Rattle.ep_codec.specs.Field.{octet_at, word_at, double_word_at, number_at}
-use Rattle.ep_codec.proofs.FieldFacts.{AreOctets, octet_field, word_field, double_word_field, number_field, word_small, double_word_small, number_small}
+use Rattle.sdls_base.specs.Places.{octet_at, word_at, double_word_at, number_at}
+use Rattle.sdls_base.proofs.PlaceFacts.{AreOctets, octet_field, word_field, double_word_field, number_field, word_small, double_word_small, number_small}
 use Rattle.record_io.specs.Answers.{Header, header_octets}
 use Rattle.record_io.specs.AnswerReading.{IsAnswerCode, UnknownInFront}
 

@@ -10,7 +10,7 @@ ghost use Rattle.record_io.specs.declared.answer_reading.AnswerError.TheVariants
 use crate::answers::{ANSWER_HEADER, Answer};
 use crate::codes::AnswerCode;
 use crate::short_octets::ShortOctets;
-use ep_codec::{double_word_at, number_at, word_at};
+use sdls_base::{double_word_at, number_at, word_at};
 use std::alloc::{AllocError, Global};
 use thiserror::Error;
 

@@ -9,3 +9,5 @@ pub mod Remainders
 pub mod Differences
 pub mod OctetSteps
 pub mod Words
+mod Joined
+pub mod PlaceFacts

@@ -9,4 +9,5 @@ pub mod ControlField
 pub mod Link
 pub mod Bounds
 pub mod Numbers
+pub mod Places
 pub mod Version

@@ -5,6 +5,7 @@
 //! their number, and the lists (`Octets`, `KeyList`, ..) as the list of their items. No call takes memory but `clone`.
 #![tactic(auto)]
 
+mod bounds;
 mod change;
 mod channel_id;
 mod comparing;
@@ -18,11 +19,13 @@ mod lists;
 mod no_memory;
 mod ocf;
 mod octets;
+mod places;
 mod spi;
 mod states;
 mod version;
 mod writing;
 
+pub use bounds::are_channels;
 pub use change::{Change, NewSa};
 pub use channel_id::ChannelId;
 pub use comparing::same_octets;
@@ -36,6 +39,7 @@ pub use lists::{ChannelList, KeyItems, KeyList, KeyRows};
 pub use no_memory::NoMemory;
 pub use ocf::cut_ocf;
 pub use octets::Octets;
+pub use places::{are_zeros, double_word_at, number_at, word_at};
 pub use spi::Spi;
 pub use states::{Direction, KeyState, SaState, Suite};
 pub use version::{CONTENT_LENGTH_ONE, CONTENT_LENGTH_TWO, Version};

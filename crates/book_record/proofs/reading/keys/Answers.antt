@@ -1,5 +1,6 @@
 use Rattle.std.proofs.Common.{◌≡◌, suc, ◌+◌, ◌-◌, ◌∷◌, ◌++◌, [], ap, ◌∙◌, arith}
-use Rattle.book_record.specs.Reading.{word_at, keys_in, AreKeys}
+use Rattle.sdls_base.specs.Places.{word_at}
+use Rattle.book_record.specs.Reading.{keys_in, AreKeys}
 use Rattle.book_record.proofs.Lists.{keys_read, keys_may}
 use Rattle.book_record.proofs.reading.keys.Goals as goal
 

@@ -1,7 +1,7 @@
 use Rattle.std.proofs.Common.{◌≡◌, ◌+◌, ◌-◌, ◌∙◌, ap, subst, ℕ, take, drop, arith}
 use Rattle.std.proofs.lemmas.Result.{err_from_is_err_and}
 use Rattle.sdls_base.specs.Bounds.{AreChannels}
-use Rattle.book_record.specs.Reading.{octet_at}
+use Rattle.sdls_base.specs.Places.{octet_at}
 use Rattle.book_record.proofs.Lists.{fails}
 use Rattle.book_record.proofs.Rows.{room_for}
 use Rattle.book_record.proofs.sa_rows.sa_parts.Goals as goal
@@ -24,7 +24,7 @@ returns c =
     let state = c.in_ok-state.ensures in (
       (spi.0, direction.0, suite.0, state.0, subst AreChannels slice are),
       λ i. record {
-        sa = record { spi = spi.1 i; direction = direction.1 i; suite = suite.1 i; window = c.number.ensures i; channels = same i };
+        sa = record { spi = spi.1 i; direction = direction.1 i; suite = suite.1 i; window = c.number_at.ensures i; channels = same i };
         state = state.1 i;
         key = c.held_key.ensures i;
       },
