@@ -1,3 +1,4 @@
 pub mod AosFrame
 pub mod FirstFault
+pub mod Header
 pub mod Reading

@@ -5,10 +5,12 @@
 //! field of the security header, the data and the security trailer stand in the room between prefix and trailer fields.
 #![tactic(auto)]
 
+mod header;
 mod parts;
 mod reading;
 mod writing;
 
+pub use header::{is_idle, lacks_header, spacecraft_of, virtual_channel_of};
 pub use parts::Parts;
 pub use reading::{fault_of, read, take_apart};
 pub use writing::write;

@@ -5,11 +5,9 @@ ghost use Rattle.aos_frame.specs.AosFrame.{AosParts, AosFrame, IsLayout, view, p
 ghost use Rattle.aos_frame.specs.FirstFault.{first_fault};
 ghost use Rattle.aos_frame.specs.Reading.{parts_in};
 
+use crate::header::{HEADER, spacecraft_of, virtual_channel_of};
 use crate::parts::Parts;
 use sdls_base::{AosLayout, FrameFault, before_fecf, cut_ocf, fecf_fails, flag};
-
-/// The octets of the primary header.
-const HEADER: usize = 6;
 
 /// The first check of a frame of the layout that fails: `Short`, `Long`, `Version`, `Spare`, `Fecf`. None where the
 /// octets are such a frame.
@@ -41,13 +39,12 @@ fn parts_of<'a>(body: &'a [u8], layout: &AosLayout) -> Parts<'a>
     ensures parts { view result ≡ parts_in layout.now body.now }
     ensures prefix { result.prefix.now ≡ take (6 + layout.now.insert) body.now }
 {
-    let first = u16::from_be_bytes([body[0], body[1]]);
     let signals = body[5];
     let start = HEADER + usize::from(layout.insert);
     let (front, ocf) = cut_ocf(body, layout.ocf);
     Parts {
-        spacecraft: ((first >> 6) & 0xFF) as u8,
-        channel: (first & 0x3F) as u8,
+        spacecraft: spacecraft_of(body),
+        channel: virtual_channel_of(body),
         count: u32::from_be_bytes([0, body[2], body[3], body[4]]),
         replay: flag(signals, 7),
         cycle_use: flag(signals, 6),

@@ -2,12 +2,11 @@
 
 ghost use Rattle.std.specs.Prelude.{◌≡◌, ◌↔◌, ◌≤◌, length, Some, None, IfOk, IfErr, IsOk};
 ghost use Rattle.sdls_base.specs.Link.{IsInBounds};
-ghost use Rattle.tc_frame.specs.FirstFault.{segment_length};
 ghost use Rattle.frame_shield.specs.AnyFrame.{first_fault};
-ghost use Rattle.frame_checks.specs.Header.{HasRoom, header_length, lacks_header, first_bits, map_of, is_clear};
-ghost use Rattle.frame_checks.specs.Header.{channel_of};
+ghost use Rattle.frame_checks.specs.Header.{HasRoom, header_length, lacks_header, is_clear, channel_of};
 
-use sdls_base::{AnyLayout, AosLayout, ChannelId, FrameFault, TcLayout, TmLayout, flag};
+use frame_shield::{body_of, fault_of};
+use sdls_base::{AnyLayout, ChannelId, FrameFault};
 use unit_plan::Plan;
 
 /// Whether a frame has not the octets of its primary header, and of its segment header where it should have one.
@@ -15,11 +14,9 @@ pub(crate) fn lacks_header(layout: &AnyLayout, frame: &[u8]) -> bool
     ensures { result ≡ lacks_header layout.now frame.now }
 {
     match layout {
-        AnyLayout::Tc(layout) => {
-            frame.len() < 5 || (layout.segment && !flag(frame[0], 4) && frame.len() < 6)
-        }
-        AnyLayout::Tm(_) => frame.len() < 6,
-        AnyLayout::Aos(_) => frame.len() < 6,
+        AnyLayout::Tc(layout) => tc_frame::lacks_header(frame, layout),
+        AnyLayout::Tm(_) => tm_frame::lacks_header(frame),
+        AnyLayout::Aos(_) => aos_frame::lacks_header(frame),
     }
 }
 
@@ -29,27 +26,9 @@ pub(crate) fn is_clear(layout: &AnyLayout, frame: &[u8]) -> bool
     ensures { result ≡ is_clear layout.now frame.now }
 {
     match layout {
-        AnyLayout::Tc(_) => flag(frame[0], 4),
+        AnyLayout::Tc(_) => tc_frame::is_control(frame),
         AnyLayout::Tm(_) => false,
-        AnyLayout::Aos(_) => frame[1] & 0x3F == 63,
-    }
-}
-
-fn first_bits(frame: &[u8]) -> u16
-    requires { 2 ≤ length frame.now }
-    ensures { result ≡ first_bits frame.now }
-{
-    u16::from_be_bytes([frame[0], frame[1]])
-}
-
-fn map_of(layout: &TcLayout, frame: &[u8]) -> Option<u8>
-    requires { header_length (AnyLayout.Tc layout.now) frame.now ≤ length frame.now }
-    ensures { result ≡ map_of (AnyLayout.Tc layout.now) frame.now }
-{
-    if layout.segment && !flag(frame[0], 4) {
-        Some(frame[5] & 0x3F)
-    } else {
-        None
+        AnyLayout::Aos(_) => aos_frame::is_idle(frame),
     }
 }
 
@@ -63,48 +42,25 @@ pub(crate) fn channel_of(
     requires { header_length layout.now frame.now ≤ length frame.now }
     ensures { result ≡ channel_of plan.now link layout.now frame.now }
 {
-    let first = first_bits(frame);
     match layout {
-        AnyLayout::Tc(layout) => {
-            plan.channel_of(link, first & 0x3FF, frame[2] >> 2, map_of(layout, frame))
-        }
-        AnyLayout::Tm(_) => plan.channel_of(link, (first >> 4) & 0x3FF, (frame[1] >> 1) & 7, None),
-        AnyLayout::Aos(_) => plan.channel_of(link, (first >> 6) & 0xFF, frame[1] & 0x3F, None),
-    }
-}
-
-fn tc_room<'a>(frame: &'a [u8], layout: &TcLayout) -> Result<&'a [u8], FrameFault>
-    ensures room { IfOk result (λ room. HasRoom (AnyLayout.Tc layout.now) frame.now room.now) }
-    ensures ok { IsOk result ↔ (first_fault (AnyLayout.Tc layout.now) frame.now ≡ None) }
-    ensures fault { IfErr result (λ fault. first_fault (AnyLayout.Tc layout.now) frame.now ≡ Some fault) }
-{
-    match tc_frame::read(frame, layout) {
-        Ok(parts) => Ok(parts.room),
-        Err(fault) => Err(fault),
-    }
-}
-
-fn tm_room<'a>(frame: &'a [u8], layout: &TmLayout) -> Result<&'a [u8], FrameFault>
-    requires { IsInBounds (AnyLayout.Tm layout.now) }
-    ensures room { IfOk result (λ room. HasRoom (AnyLayout.Tm layout.now) frame.now room.now) }
-    ensures ok { IsOk result ↔ (first_fault (AnyLayout.Tm layout.now) frame.now ≡ None) }
-    ensures fault { IfErr result (λ fault. first_fault (AnyLayout.Tm layout.now) frame.now ≡ Some fault) }
-{
-    match tm_frame::read(frame, layout) {
-        Ok(parts) => Ok(parts.room),
-        Err(fault) => Err(fault),
-    }
-}
-
-fn aos_room<'a>(frame: &'a [u8], layout: &AosLayout) -> Result<&'a [u8], FrameFault>
-    requires { IsInBounds (AnyLayout.Aos layout.now) }
-    ensures room { IfOk result (λ room. HasRoom (AnyLayout.Aos layout.now) frame.now room.now) }
-    ensures ok { IsOk result ↔ (first_fault (AnyLayout.Aos layout.now) frame.now ≡ None) }
-    ensures fault { IfErr result (λ fault. first_fault (AnyLayout.Aos layout.now) frame.now ≡ Some fault) }
-{
-    match aos_frame::read(frame, layout) {
-        Ok(parts) => Ok(parts.room),
-        Err(fault) => Err(fault),
+        AnyLayout::Tc(layout) => plan.channel_of(
+            link,
+            tc_frame::spacecraft_of(frame),
+            tc_frame::virtual_channel_of(frame),
+            tc_frame::map_of(frame, layout),
+        ),
+        AnyLayout::Tm(_) => plan.channel_of(
+            link,
+            tm_frame::spacecraft_of(frame),
+            tm_frame::virtual_channel_of(frame),
+            None,
+        ),
+        AnyLayout::Aos(_) => plan.channel_of(
+            link,
+            u16::from(aos_frame::spacecraft_of(frame)),
+            aos_frame::virtual_channel_of(frame),
+            None,
+        ),
     }
 }
 
@@ -116,9 +72,8 @@ pub(crate) fn room_of<'a>(frame: &'a [u8], layout: &AnyLayout) -> Result<&'a [u8
     ensures fault { IfErr result (λ fault. first_fault layout.now frame.now ≡ Some fault) }
     ensures header { IsOk result → header_length layout.now frame.now ≤ length frame.now }
 {
-    match layout {
-        AnyLayout::Tc(layout) => tc_room(frame, layout),
-        AnyLayout::Tm(layout) => tm_room(frame, layout),
-        AnyLayout::Aos(layout) => aos_room(frame, layout),
+    match fault_of(frame, layout) {
+        Some(fault) => Err(fault),
+        None => Ok(body_of(frame, layout).room),
     }
 }

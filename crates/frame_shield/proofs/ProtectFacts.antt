@@ -24,7 +24,8 @@ use Rattle.frame_shield.specs.AnyFrame.{AnyParts, tc, tm, aos, IsFrame, prefix_o
 use Rattle.frame_shield.specs.Body.{ocf_of}
 use Rattle.sdls_base.specs.Link.{has_fecf, IsInBounds}
 use Rattle.frame_shield.specs.Binding.{IsBinding, clear_layout, gain_of}
-use Rattle.frame_shield.specs.Shield.{with_length_field, prefix_for, room_for}
+use Rattle.tc_frame.specs.Header.{with_length_field}
+use Rattle.frame_shield.specs.Shield.{prefix_for, room_for}
 use Rattle.frame_shield.specs.Secured.{IsSecured, sealed, covered, header_of, vector_for}
 use Rattle.frame_shield.specs.Protects.{Protects}
 use Rattle.frame_shield.proofs.Lengths.{length-frame, tc_length, gain_most, length-sealed}

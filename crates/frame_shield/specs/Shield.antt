@@ -1,5 +1,6 @@
 -- How a protected frame is put together, for the private calls.
-use Rattle.std.specs.Prelude.{ℕ, ◌+◌, ◌-◌, ◌*◌, ◌/◌, ◌%◌, ◌^◌, List, [], ◌∷◌, ◌++◌, drop, slice_index}
+use Rattle.std.specs.Prelude.{ℕ, List, ◌++◌}
+use Rattle.tc_frame.specs.Header.{with_length_field}
 use Rattle.sdls_header.specs.declared.pieces.Vector.{Vector}
 use Rattle.sdls_header.specs.SecurityHeader.{header_octets}
 use Rattle.frame_shield.specs.declared.binding.Binding.{Binding}
@@ -8,12 +9,6 @@ use Rattle.sdls_base.specs.declared.link.AnyLayout.TheVariants.{Tc, Tm, Aos}
 use Rattle.sdls_base.specs.Link.{mask_octets}
 use Rattle.sdls_header.specs.Authenticated.{masked_octets}
 use Rattle.frame_shield.specs.Secured.{header_of, sealed}
-
--- a TC prefix with the length field of a frame of n octets
-abbrev pub with_length_field : List ℕ → ℕ → List ℕ
-with_length_field prefix n =
-    (slice_index prefix 0 ∷ slice_index prefix 1 ∷ (slice_index prefix 2 / 4 * 4 + (n - 1) / 2 ^ 8) ∷ ((n - 1) % 2 ^ 8)
-    ∷ slice_index prefix 4 ∷ []) ++ drop 5 prefix
 
 -- the most octets of a frame
 abbrev pub most_of : AnyLayout → ℕ

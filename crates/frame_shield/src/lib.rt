@@ -14,6 +14,7 @@ mod protecting_frames;
 mod sealing;
 
 pub use binding::Binding;
+pub use body::{Body, body_of, fault_of};
 pub use laws::{opens_once, protected_once, protected_opens};
 pub use opening_frames::{Opened, unshield};
 pub use protecting_frames::{FRAME_ROOM, ShieldFault, fits, shield};

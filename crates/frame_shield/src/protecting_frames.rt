@@ -11,7 +11,7 @@ ghost use Rattle.frame_shield.specs.Body.{IsBody};
 ghost use Rattle.sdls_base.specs.Link.{IsInBounds};
 ghost use Rattle.frame_shield.specs.Protects.{Protects};
 ghost use Rattle.frame_shield.specs.Secured.{vector_for};
-ghost use Rattle.frame_shield.specs.Shield.{most_of, with_length_field, prefix_for, room_behind, room_for};
+ghost use Rattle.frame_shield.specs.Shield.{most_of, prefix_for, room_behind, room_for};
 ghost use Rattle.frame_shield.specs.ShieldFault.{fault_number};
 
 use crate::binding::{Binding, clear_layout, gain_of};
@@ -53,27 +53,6 @@ pub fn fits(binding: &Binding, clear: &[u8]) -> Result<(), ShieldFault>
     }
 }
 
-/// Writes a TC prefix into the front of `out`, with the length field of a frame of `count` octets.
-fn put_tc_prefix(out: &mut [u8], prefix: &[u8], count: usize) -> usize
-    requires prefix { 5 ≤ length prefix.now }
-    requires count { (1 ≤ count) × (count ≤ 1024) }
-    requires room { length prefix.now ≤ length out.old }
-    ensures place { result ≡ length prefix.now }
-    ensures written { take result out.new ≡ with_length_field prefix.now count }
-    ensures rest { drop result out.new ≡ drop result out.old }
-{
-    let [high, low] = ((count - 1) as u16).to_be_bytes();
-    let header = [
-        prefix[0],
-        prefix[1],
-        (prefix[2] & 0xFC) + high,
-        low,
-        prefix[4],
-    ];
-    let header_end = put(out, 0, &header);
-    put(out, header_end, &prefix[5..])
-}
-
 /// Writes the prefix of the protected frame of `count` octets into the front of `out`.
 fn put_prefix(out: &mut [u8], layout: &AnyLayout, prefix: &[u8], count: usize) -> usize
     requires prefix { 5 ≤ length prefix.now }
@@ -85,8 +64,8 @@ fn put_prefix(out: &mut [u8], layout: &AnyLayout, prefix: &[u8], count: usize) -
     ensures rest { drop result out.new ≡ drop result out.old }
 {
     match layout {
-        AnyLayout::Tc(_) => put_tc_prefix(out, prefix, count),
-        _ => put(out, 0, prefix),
+        AnyLayout::Tc(_) => tc_frame::put_prefix(out, prefix, count),
+        AnyLayout::Tm(_) | AnyLayout::Aos(_) => put(out, 0, prefix),
     }
 }
 

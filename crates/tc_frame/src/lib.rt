@@ -4,10 +4,12 @@
 //! security header, the data and the security trailer stand in the room behind the prefix.
 #![tactic(auto)]
 
+mod header;
 mod parts;
 mod reading;
 mod writing;
 
+pub use header::{is_control, lacks_header, map_of, put_prefix, spacecraft_of, virtual_channel_of};
 pub use parts::Parts;
 pub use reading::{fault_of, read, take_apart};
 pub use writing::write;

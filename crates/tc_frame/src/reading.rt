@@ -1,23 +1,13 @@
 ghost use Rattle.std.specs.Prelude.{◌≡◌, ◌+◌, ◌≤◌, ◌<◌, ◌++◌, Bool, length, take, if◌then◌else◌, Some, None, IfOk};
 ghost use Rattle.std.specs.Prelude.{IsOkAnd, MatchResult, slice_index};
 ghost use Rattle.sdls_base.specs.ErrorControl.{with_error_control};
-ghost use Rattle.tc_frame.specs.TcFrame.{TcParts, TcFrame, has_segment, view, prefix_of};
-ghost use Rattle.tc_frame.specs.FirstFault.{first_fault, control_of, segment_length, least};
+ghost use Rattle.tc_frame.specs.TcFrame.{TcParts, TcFrame, view, prefix_of};
+ghost use Rattle.tc_frame.specs.FirstFault.{first_fault, segment_length, least};
 ghost use Rattle.tc_frame.specs.Reading.{parts_in};
 
+use crate::header::{HEADER, is_control, segmented, spacecraft_of, virtual_channel_of};
 use crate::parts::Parts;
 use sdls_base::{FrameFault, TcLayout, before_fecf, fecf_fails, flag};
-
-/// The octets of the primary header.
-const HEADER: usize = 5;
-
-/// Whether a frame that begins so has a segment header.
-fn segmented(frame: &[u8], layout: &TcLayout) -> bool
-    requires { 0 < length frame.now }
-    ensures { result ≡ has_segment layout.now (control_of frame.now) }
-{
-    layout.segment && !flag(frame[0], 4)
-}
 
 /// The octets that the frame needs at least.
 fn least_length(frame: &[u8], layout: &TcLayout) -> usize
@@ -80,9 +70,9 @@ fn parts_of<'a>(body: &'a [u8], layout: &TcLayout) -> Parts<'a>
     let (start, segment) = cut_segment(body, segmented(body, layout));
     Parts {
         bypass: flag(body[0], 5),
-        control: flag(body[0], 4),
-        spacecraft: u16::from_be_bytes([body[0], body[1]]) & 0x3FF,
-        channel: body[2] >> 2,
+        control: is_control(body),
+        spacecraft: spacecraft_of(body),
+        channel: virtual_channel_of(body),
         sequence: body[4],
         segment,
         prefix: &body[..start],

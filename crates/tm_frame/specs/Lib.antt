@@ -1,3 +1,4 @@
 pub mod FirstFault
+pub mod Header
 pub mod Reading
 pub mod TmFrame

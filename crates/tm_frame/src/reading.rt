@@ -6,11 +6,9 @@ ghost use Rattle.tm_frame.specs.TmFrame.{TmParts, TmFrame, IsLayout, view, prefi
 ghost use Rattle.tm_frame.specs.FirstFault.{first_fault, ocf_flag, status_of, data_length, fails_secondary};
 ghost use Rattle.tm_frame.specs.Reading.{parts_in, secondary_length};
 
+use crate::header::{HEADER, spacecraft_of, virtual_channel_of};
 use crate::parts::Parts;
 use sdls_base::{FrameFault, TmLayout, before_fecf, cut_ocf, fecf_fails, flag};
-
-/// The octets of the primary header.
-const HEADER: usize = 6;
 
 fn status(frame: &[u8]) -> u16
     requires { 6 ≤ length frame.now }
@@ -80,12 +78,11 @@ fn parts_of(body: &[u8]) -> Parts<'_>
     ensures parts { view result ≡ parts_in body.now }
     ensures prefix { result.prefix.now ≡ take (6 + secondary_length body.now) body.now }
 {
-    let first = u16::from_be_bytes([body[0], body[1]]);
     let start = HEADER + octets_of_secondary(body);
     let (front, ocf) = cut_ocf(body, flag(body[1], 0));
     Parts {
-        spacecraft: (first >> 4) & 0x3FF,
-        channel: (body[1] >> 1) & 7,
+        spacecraft: spacecraft_of(body),
+        channel: virtual_channel_of(body),
         master_count: body[2],
         channel_count: body[3],
         status: status(body),

@@ -1,13 +1,12 @@
 use Rattle.std.proofs.Common.{arith, ◌∙◌, ap, take, drop}
 use Rattle.std.proofs.lemmas.Grind.{common_steps}
-use Rattle.sdls_base.proofs.FieldLemmas.{word}
 use Rattle.aos_frame.proofs.Words.{same_parts, three}
 use Rattle.aos_frame.proofs.reading.parts_of.Goals as goal
 
 pub returns-clause-parts : goal.returns-clause-parts
 returns-clause-parts c = same_parts
-    (grind (arith, common_steps, c.from_be_bytes-first.ensures, word))
-    (grind (arith, common_steps, c.from_be_bytes-first.ensures, word))
+    c.spacecraft_of.ensures
+    (omega (arith, c.virtual_channel_of.ensures))
     (c.from_be_bytes.ensures ∙ three _ _ _)
     c.flag.ensures
     c.flag-2.ensures

@@ -1,14 +1,13 @@
 use Rattle.std.proofs.Common.{◌∙◌, ap, take, drop, refl, arith}
 use Rattle.std.proofs.lemmas.Grind.{common_steps}
 use Rattle.sdls_base.specs.ControlField.{ocf_at}
-use Rattle.sdls_base.proofs.FieldLemmas.{word}
 use Rattle.tm_frame.proofs.Words.{same_parts}
 use Rattle.tm_frame.proofs.reading.parts_of.Goals as goal
 
 pub returns-clause-parts : goal.returns-clause-parts
 returns-clause-parts c = same_parts
-    (grind (arith, common_steps, c.from_be_bytes-first.ensures, word))
-    (grind (arith, common_steps))
+    c.spacecraft_of.ensures
+    c.virtual_channel_of.ensures
     refl
     refl
     c.status.ensures
