@@ -53,6 +53,11 @@ unfoldable pub keys_text : List KeyRow → ℕ → ℕ → List ℕ
 keys_text rows first zero = []
 keys_text rows first (suc count) = option_map_or key_line (row_of rows first) [] ++ keys_text rows (first + 1) count
 
+-- a line for each of some keys, in their order
+unfoldable pub key_lines : List KeyRow → List ℕ
+key_lines [] = []
+key_lines (row ∷ rows) = key_line row ++ key_lines rows
+
 -- a line for each association, in their order, which ascends
 unfoldable pub associations_text : List SaRow → List ℕ
 associations_text [] = []

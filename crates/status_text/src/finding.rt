@@ -1,30 +1,24 @@
-//! The rows of keys, found by identifier.
-ghost use Rattle.std.specs.Prelude.{◌≡◌, ℕ, ◌<◌, length, slice_index_or, IfOk};
-ghost use Rattle.std.specs.Option.{option_map};
-ghost use Rattle.key_book.specs.KeyBook.{row_of};
+//! The rows of keys, put in the order of their identifiers.
+ghost use Rattle.std.specs.Prelude.{◌≡◌, map, IfOk, IsPermutation};
+ghost use Rattle.std.specs.List.Sorted.{IsNonDecreasingBy};
 
 use key_book::KeyRow;
 use sdls_base::NoMemory;
-use std::alloc::Global;
+use std::alloc::{AllocError, Global};
 
-/// Identifiers, 0 among them, which no key has.
-const IDENTIFIERS: usize = 65_536;
-
-/// A place for each identifier, ascending: the first row with it, if there is one.
-pub(crate) fn rows_by_identifier(
-    alloc: Global,
-    rows: &[KeyRow],
-) -> Result<Vec<Option<&KeyRow>>, NoMemory>
-    ensures places { IfOk result (λ table. length table.items ≡ IDENTIFIERS) }
-    ensures rows { IfOk result (λ table. (id : ℕ) → id < IDENTIFIERS
-        → option_map (λ row. row.now) (slice_index_or table.items id None) ≡ row_of rows.now id) }
+/// The rows in their order.
+fn listed(alloc: Global, rows: &[KeyRow]) -> Result<Vec<&KeyRow>, AllocError>
+    ensures { IfOk result (λ found. map (λ row. row.now) found.items ≡ rows.now) }
 {
-    let mut table = vec![in alloc; None; IDENTIFIERS]?;
-    for row in rows {
-        let id = usize::from(row.id.get());
-        if table[id].is_none() {
-            table[id] = Some(row);
-        }
-    }
-    Ok(table)
+    rows.iter().collect(alloc)
+}
+
+/// The rows, ascending by identifier.
+pub(crate) fn rows_by_identifier(alloc: Global, rows: &[KeyRow]) -> Result<Vec<&KeyRow>, NoMemory>
+    ensures same { IfOk result (λ found. IsPermutation rows.now (map (λ row. row.now) found.items)) }
+    ensures ascending { IfOk result (λ found. IsNonDecreasingBy (λ row. row.now.id) found.items) }
+{
+    let mut found = listed(alloc, rows)?;
+    found.sort_by_key(|row| row.id)?;
+    Ok(found)
 }

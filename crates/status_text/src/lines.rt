@@ -1,5 +1,5 @@
 //! The lines, each put behind a text.
-ghost use Rattle.std.specs.Prelude.{◌≡◌, ◌++◌, OnOk};
+ghost use Rattle.std.specs.Prelude.{◌≡◌, ◌++◌, ◌<◌, OnOk};
 ghost use Rattle.status_text.specs.Text.{association_line, back_text, key_and_window, key_line, slots_line};
 
 use key_book::KeyRow;
@@ -22,7 +22,8 @@ pub(crate) fn put_slots(text: &mut Vec<u8>, used: u32, slots: u32) -> Result<(),
 
 #[tactic(auto, unfolding(crate::specs::Text::key_line, crate::specs::Text::key_text))]
 pub(crate) fn put_key(text: &mut Vec<u8>, row: &KeyRow) -> Result<(), NoMemory>
-    ensures { OnOk result (text.new.items ≡ text.old.items ++ key_line row.now) }
+    ensures put { OnOk result (text.new.items ≡ text.old.items ++ key_line row.now) }
+    ensures numbered { OnOk result ((0 < row.now.id) × (row.now.id < 65536)) }
 {
     put_octets(text, b"key ")?;
     put_decimal(text, u64::from(row.id.get()))?;

@@ -1,6 +1,7 @@
 //! The whole text.
-ghost use Rattle.std.specs.Prelude.{◌≡◌, ◌++◌, IfOk, OnOk};
-ghost use Rattle.status_text.specs.Text.{associations_text, highest_identifier, keys_text, status_text};
+ghost use Rattle.std.specs.Prelude.{◌≡◌, ◌++◌, ◌<◌, map, All, IfOk, OnOk};
+ghost use Rattle.key_book.specs.KeyBook.{IsKeyBook};
+ghost use Rattle.status_text.specs.Text.{associations_text, highest_identifier, key_lines, keys_text, status_text};
 
 use crate::finding::rows_by_identifier;
 use crate::lines::{put_association, put_key, put_slots};
@@ -10,17 +11,25 @@ use sdls_base::NoMemory;
 use std::alloc::Global;
 use unit_state::State;
 
-/// Puts a line for each key, ascending by identifier.
-fn put_keys(text: &mut Vec<u8>, rows: &[KeyRow]) -> Result<(), NoMemory>
-    ensures { OnOk result (text.new.items ≡ text.old.items ++ keys_text rows.now 1 highest_identifier) }
+/// Puts a line for each of some keys, in their order.
+#[tactic(auto, unfolding(crate::specs::Text::key_lines))]
+fn put_key_lines(text: &mut Vec<u8>, rows: &[&KeyRow]) -> Result<(), NoMemory>
+    ensures put { OnOk result (text.new.items ≡ text.old.items ++ key_lines (map (λ row. row.now) rows.now)) }
+    ensures numbered { OnOk result (All (λ row. (0 < row.now.id) × (row.now.id < 65536)) rows.now) }
 {
-    let table = rows_by_identifier(*text.allocator(), rows)?;
-    for found in &table[1..] {
-        if let Some(row) = found {
-            put_key(text, row)?;
-        }
+    for row in rows {
+        put_key(text, row)?;
     }
     Ok(())
+}
+
+/// Puts a line for each key, ascending by identifier.
+fn put_keys(text: &mut Vec<u8>, rows: &[KeyRow]) -> Result<(), NoMemory>
+    requires { IsKeyBook rows.now }
+    ensures { OnOk result (text.new.items ≡ text.old.items ++ keys_text rows.now 1 highest_identifier) }
+{
+    let found = rows_by_identifier(*text.allocator(), rows)?;
+    put_key_lines(text, found.as_slice())
 }
 
 #[tactic(auto, unfolding(crate::specs::Text::associations_text))]
