@@ -4,7 +4,7 @@ use Rattle.std.proofs.lemmas.List.Elements.{All-append, All-cons, All-nil}
 use Rattle.unit_plan.specs.declared.plan.PlanKey.{PlanKey}
 use Rattle.unit_plan.specs.declared.plan.PlanSa.{PlanSa}
 use Rattle.unit_plan.specs.PlanLines.{PlanLines}
-use Rattle.plan_text.specs.declared.reader.Fault.{Fault}
+use Rattle.plan_text.specs.declared.wanted.Fault.{Fault}
 use Rattle.plan_text.specs.Wanted.{IsLineOf}
 
 pub key_line : (plan : PlanLines) (key : PlanKey) (i : ℕ) → i < length plan.keys → slice_index_or plan.keys i key ≡ key

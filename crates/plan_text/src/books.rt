@@ -5,8 +5,7 @@ ghost use Rattle.unit_plan.specs.PlanLines.{PlanLines};
 ghost use Rattle.unit_plan.specs.PlanRules.{IsAssociation};
 ghost use Rattle.plan_text.specs.Wanted.{IsLineOf};
 
-use crate::reader::Fault;
-use crate::wanted::{Refused, Wanted};
+use crate::wanted::{Fault, Refused, Wanted};
 use key_book::{KeyBook, KeyRefusal};
 use sa_book::{SaBook, SaRefusal};
 use sdls_base::{Change, ChannelList, Direction, KeyList, KeyState, NoMemory, SaState, Spi, Suite};

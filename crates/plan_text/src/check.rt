@@ -2,17 +2,15 @@
 ghost use Rattle.std.specs.Prelude.{◌≡◌, IfOk};
 ghost use Rattle.plan_text.specs.Check.{Judges, SaysFault, Tells};
 
-use crate::above::Above;
 use crate::books::refused_lines;
 use crate::mending::plan_without;
 use crate::moved::moved_line;
 use crate::note::{PlanNote, note_of};
-use crate::reader::Fault;
-use crate::wanted::Wanted;
+use crate::wanted::{Fault, Wanted};
 use sdls_base::NoMemory;
 use status_text::status_text;
 use std::alloc::Global;
-use unit_plan::{Lines, Plan, PlanCause, PlanError, PlanFault};
+use unit_plan::{Above, Lines, Plan, PlanCause, PlanError, PlanFault};
 use unit_state::State;
 
 /// What a text is as a plan.
@@ -47,13 +45,13 @@ fn faults_of_text(alloc: Global, text: &[u8]) -> Result<Vec<PlanNote>, NoMemory>
     let mut above = Above::new(alloc);
     let mut number: u32 = 1;
     for line in Lines::of(text) {
-        if let Some(fault) = above.fault_of(alloc, number, line)? {
-            notes.push(note_of(alloc, number, line, fault)?)?;
+        if let Some(spot) = above.spot_of(number, line)? {
+            notes.push(note_of(alloc, number, line, Fault::of(spot))?)?;
         }
         number = number.saturating_add(1);
     }
-    if let Some(fault) = above.missing_head() {
-        notes.push(note_of(alloc, number, b"", fault)?)?;
+    if let Some(spot) = above.missing_head() {
+        notes.push(note_of(alloc, number, b"", Fault::of(spot))?)?;
     }
     Ok(notes)
 }

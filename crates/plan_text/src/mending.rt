@@ -1,29 +1,13 @@
 //! A plan without its lines at fault, so that the books can be asked about the others.
 
-use crate::line::head_of;
 use crate::note::PlanNote;
 use sdls_base::NoMemory;
 use std::alloc::Global;
 use text_words::put_octets;
-use unit_plan::{Lines, Plan, PlanCause, PlanError, Words};
+use unit_plan::{Lines, Plan, PlanCause, PlanError, stand_in};
 
 /// So many lines are left out because they name what a line at fault would have made.
 const MOST_ROUNDS: u32 = 256;
-
-/// A line of the same kind for one of the first five, without which there is no plan; no words for any other line.
-fn stand_in(line: &[u8]) -> &'static [u8] {
-    let Some(word) = Words::of(line).next() else {
-        return b"";
-    };
-    match head_of(word) {
-        Some(0) => b"sdls 1",
-        Some(1) => b"device 00000000",
-        Some(2) => b"slots 16",
-        Some(3) => b"block 1",
-        Some(_) => b"accept 1",
-        None => b"",
-    }
-}
 
 /// The text with other lines for those that have a note. The notes ascend by line.
 fn without_noted(alloc: Global, text: &[u8], notes: &[PlanNote]) -> Result<Vec<u8>, NoMemory> {

@@ -2,7 +2,7 @@
 ghost use Rattle.std.specs.Prelude.{◌≡◌, IfOk};
 
 use crate::phrases::{wanted_number, wanted_text};
-use crate::reader::{Fault, are_digits};
+use crate::wanted::Fault;
 use sdls_base::NoMemory;
 use std::alloc::Global;
 use text_words::{put_decimal, put_octets};
@@ -53,13 +53,17 @@ fn put_seen(text: &mut Vec<u8>, word: &[u8]) -> Result<(), NoMemory> {
     put_octets(text, b"\"")
 }
 
+fn are_digits(word: &[u8]) -> bool {
+    word.iter().all(|octet| octet.is_ascii_hexdigit())
+}
+
 /// Whether a word may be shown. None is that may be the digits of a key, and of a line that loads a key none that may
 /// be a part of them.
 fn may_show(line: &[u8], place: u32, word: &[u8]) -> bool {
     if line.starts_with(b"key") {
         return place <= 3 && word.len() <= MOST_SHOWN_OF_KEY;
     }
-    word.len() < LEAST_OF_KEY || !are_digits(word, word.len())
+    word.len() < LEAST_OF_KEY || !are_digits(word)
 }
 
 /// Puts where a word stands, and the word itself.

@@ -1,10 +1,11 @@
 //! What was expected at a word that is at fault, in words.
 
-use crate::wanted::{
-    AssociationWord, ChannelWord, HeadWord, KeyWord, LinkWord, NamedAbove, Refused, Spelling,
-    Wanted,
-};
+use crate::wanted::{Refused, Wanted};
 use sdls_base::{MOST_ASSOCIATIONS, MOST_KEYS};
+use unit_plan::{
+    AssociationWord, ChannelWord, Expected, HeadWord, KeyWord, LinkWord, MapWord, NamedAbove,
+    Spelling,
+};
 
 fn spelling_text(spelling: Spelling) -> &'static [u8] {
     match spelling {
@@ -45,8 +46,8 @@ fn link_text(word: LinkWord) -> &'static [u8] {
         LinkWord::Segments => b"seg or noseg",
         LinkWord::Fecf => b"fecf or nofecf",
         LinkWord::Ocf => b"ocf or noocf",
-        LinkWord::LongMask => b"a mask of 12 hexadecimal digits, or - for the usual one",
-        LinkWord::ShortMask => b"a mask of 10 hexadecimal digits, or - for the usual one",
+        LinkWord::Mask(5) => b"a mask of 10 hexadecimal digits, or - for the usual one",
+        LinkWord::Mask(_) => b"a mask of 12 hexadecimal digits, or - for the usual one",
         LinkWord::Length => b"a length of frames, 48 to 2048",
         LinkWord::LengthFrom(_) => b"a length of 48 and the insert zone at least, so of ",
         LinkWord::Insert => b"an insert zone, 0 to 64",
@@ -58,9 +59,11 @@ fn channel_text(word: ChannelWord) -> &'static [u8] {
         ChannelWord::Number => b"a channel, 0 to 63",
         ChannelWord::Spacecraft(_) => b"a spacecraft, 0 to ",
         ChannelWord::VirtualChannel(_) => b"a virtual channel, 0 to ",
-        ChannelWord::Map => b"a MAP, 0 to 63, for the link has segment headers",
-        ChannelWord::NoMap => b"-, for the link has no segment headers",
-        ChannelWord::MapOrNone => b"a MAP, 0 to 63, or - if the link has no segment headers",
+        ChannelWord::Map(MapWord::Number) => b"a MAP, 0 to 63, for the link has segment headers",
+        ChannelWord::Map(MapWord::Absent) => b"-, for the link has no segment headers",
+        ChannelWord::Map(MapWord::Either) => {
+            b"a MAP, 0 to 63, or - if the link has no segment headers"
+        }
     }
 }
 
@@ -115,19 +118,54 @@ fn refused_text(refused: Refused) -> &'static [u8] {
     }
 }
 
+fn expected_text(expected: Expected) -> &'static [u8] {
+    match expected {
+        Expected::Spelling(spelling) => spelling_text(spelling),
+        Expected::Kind => b"sdls, device, slots, block, accept, link, channel, key or sa",
+        Expected::Head(head) => head_text(head),
+        Expected::NoHead => b"another line, for the first five stand once and in their order",
+        Expected::HeadWord(word) => head_word_text(word),
+        Expected::Link(word) => link_text(word),
+        Expected::Channel(word) => channel_text(word),
+        Expected::Key(word) => key_text(word),
+        Expected::Association(word) => association_text(word),
+        Expected::NamedAbove(named) => named_text(named),
+    }
+}
+
+fn expected_number(expected: Expected) -> Option<u64> {
+    match expected {
+        Expected::Link(LinkWord::LengthFrom(n))
+        | Expected::Channel(ChannelWord::Spacecraft(n) | ChannelWord::VirtualChannel(n))
+        | Expected::NamedAbove(
+            NamedAbove::KnownChannel(n)
+            | NamedAbove::NewLink(n)
+            | NamedAbove::NewChannel(n)
+            | NamedAbove::NewPlace(n)
+            | NamedAbove::NewKey(n)
+            | NamedAbove::NewSpi(n),
+        ) => Some(n),
+        _ => None,
+    }
+}
+
+fn refused_number(refused: Refused) -> Option<u64> {
+    match refused {
+        Refused::OtherOctets(n)
+        | Refused::FreeKey(n)
+        | Refused::NumberBelow(n)
+        | Refused::NumberFrom(n)
+        | Refused::FreeChannels(n) => Some(n),
+        Refused::KeyRoom => Some(MOST_KEYS as u64),
+        Refused::AssociationRoom => Some(MOST_ASSOCIATIONS as u64),
+        _ => None,
+    }
+}
+
 /// What was expected, behind which the number stands if there is one.
 pub(crate) fn wanted_text(wanted: Wanted) -> &'static [u8] {
     match wanted {
-        Wanted::Spelling(spelling) => spelling_text(spelling),
-        Wanted::Kind => b"sdls, device, slots, block, accept, link, channel, key or sa",
-        Wanted::Head(head) => head_text(head),
-        Wanted::NoHead => b"another line, for the first five stand once and in their order",
-        Wanted::HeadWord(word) => head_word_text(word),
-        Wanted::Link(word) => link_text(word),
-        Wanted::Channel(word) => channel_text(word),
-        Wanted::Key(word) => key_text(word),
-        Wanted::Association(word) => association_text(word),
-        Wanted::NamedAbove(named) => named_text(named),
+        Wanted::Line(expected) => expected_text(expected),
         Wanted::Refused(refused) => refused_text(refused),
         Wanted::ShortText => b"at most 65536 octets in all",
         Wanted::Other => b"a line that a plan may have",
@@ -137,25 +175,8 @@ pub(crate) fn wanted_text(wanted: Wanted) -> &'static [u8] {
 /// The number behind the text.
 pub(crate) fn wanted_number(wanted: Wanted) -> Option<u64> {
     match wanted {
-        Wanted::Link(LinkWord::LengthFrom(n))
-        | Wanted::Channel(ChannelWord::Spacecraft(n) | ChannelWord::VirtualChannel(n))
-        | Wanted::NamedAbove(
-            NamedAbove::KnownChannel(n)
-            | NamedAbove::NewLink(n)
-            | NamedAbove::NewChannel(n)
-            | NamedAbove::NewPlace(n)
-            | NamedAbove::NewKey(n)
-            | NamedAbove::NewSpi(n),
-        )
-        | Wanted::Refused(
-            Refused::OtherOctets(n)
-            | Refused::FreeKey(n)
-            | Refused::NumberBelow(n)
-            | Refused::NumberFrom(n)
-            | Refused::FreeChannels(n),
-        ) => Some(n),
-        Wanted::Refused(Refused::KeyRoom) => Some(MOST_KEYS as u64),
-        Wanted::Refused(Refused::AssociationRoom) => Some(MOST_ASSOCIATIONS as u64),
-        _ => None,
+        Wanted::Line(expected) => expected_number(expected),
+        Wanted::Refused(refused) => refused_number(refused),
+        Wanted::ShortText | Wanted::Other => None,
     }
 }

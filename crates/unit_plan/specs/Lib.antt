@@ -14,3 +14,4 @@ pub mod LineForm
 pub mod Plan
 pub mod PlanRules
 pub mod Bare
+pub mod Above

@@ -6,10 +6,11 @@ ghost use Rattle.sdls_base.specs.Bounds.{AreChannels};
 ghost use Rattle.unit_plan.specs.AssociationLine.{direction_of, suite_of, before_list, association_said, channels_from};
 ghost use Rattle.unit_plan.specs.AssociationLine.{are_channels};
 
+use crate::bounds::{MOST_CHANNEL, MOST_KEY, MOST_NUMBER, MOST_SPI};
+use crate::expected::{AssociationWord, Expected, KeyWord};
 use crate::fields::{channels, choice, decimal};
-use crate::lines::Words;
-use crate::reading::ended;
-use sdls_base::{Direction, MOST_CHANNELS, Octets, Suite};
+use crate::reader::Reader;
+use sdls_base::{Direction, MOST_CHANNELS, MOST_WINDOW, Octets, Suite};
 use std::alloc::{AllocError, Global};
 
 /// What an `sa` line says before its list.
@@ -46,19 +47,32 @@ fn suite_of(is_cmac: bool) -> Suite
     if is_cmac { Suite::Cmac } else { Suite::Gcm }
 }
 
+fn expected(word: AssociationWord) -> Expected {
+    Expected::Association(word)
+}
+
 /// The words before the list, and the word of the list.
 #[tactic(auto, unfolding(crate::specs::AssociationLine::before_list))]
-fn before_list<'a>(words: &mut Words<'a>) -> Option<(BeforeList, &'a [u8])>
+pub(crate) fn before_list<'a>(words: &mut Reader<'a>) -> Option<(BeforeList, &'a [u8])>
     ensures { option_map (λ read. (read.0, read.1.now)) result ≡ before_list words.old }
 {
-    let spi = decimal(words)?;
-    let direction = direction_of(choice(words, b"send", b"receive")?);
-    let suite = suite_of(choice(words, b"cmac", b"gcm")?);
-    let key = decimal(words)?;
-    let number = decimal(words)?;
-    let window = decimal(words)?;
-    let list = words.next()?;
-    ended(words)?;
+    let spi = decimal(words, 1, MOST_SPI, expected(AssociationWord::Spi))?;
+    let sends = choice(
+        words,
+        b"send",
+        b"receive",
+        expected(AssociationWord::Direction),
+    )?;
+    let direction = direction_of(sends);
+    let is_cmac = choice(words, b"cmac", b"gcm", expected(AssociationWord::Suite))?;
+    let suite = suite_of(is_cmac);
+    let key = decimal(words, 1, MOST_KEY, Expected::Key(KeyWord::Number))?;
+    words.test_key(key);
+    let number = decimal(words, 0, MOST_NUMBER, expected(AssociationWord::Number))?;
+    let window = decimal(words, 1, MOST_WINDOW, expected(AssociationWord::Window))?;
+    let list = words.next(expected(AssociationWord::Channels))?;
+    words.test_channels(list);
+    words.end()?;
     let before = BeforeList {
         spi,
         direction,
@@ -73,7 +87,7 @@ fn before_list<'a>(words: &mut Words<'a>) -> Option<(BeforeList, &'a [u8])>
 #[tactic(auto, unfolding(crate::specs::AssociationLine::association_said))]
 pub(crate) fn association(
     alloc: Global,
-    words: &mut Words<'_>,
+    words: &mut Reader<'_>,
 ) -> Result<Option<AssociationLine>, AllocError>
     ensures { IfOk result (λ read. read ≡ association_said words.old) }
 {
@@ -96,7 +110,7 @@ fn ascend(numbers: &[u8]) -> bool
 {
     let mut least = 0;
     for number in numbers {
-        if *number < least || *number > 63 {
+        if *number < least || *number > MOST_CHANNEL {
             return false;
         }
         least = *number + 1;

@@ -2,9 +2,13 @@
 ghost use Rattle.std.specs.Prelude.{◌≡◌};
 ghost use Rattle.unit_plan.specs.ChannelLine.{channel_said, is_same_number, is_same_place, is_map, is_place};
 
+use crate::bounds::{
+    MOST_AOS_CHANNEL, MOST_AOS_SPACECRAFT, MOST_CHANNEL, MOST_LINK, MOST_MAP, MOST_SPACECRAFT,
+    MOST_TC_CHANNEL, MOST_TM_CHANNEL,
+};
+use crate::expected::{ChannelWord, Expected, LinkWord};
 use crate::fields::{octet, optional, short};
-use crate::lines::Words;
-use crate::reading::ended;
+use crate::reader::Reader;
 use sdls_base::{AnyLayout, Link};
 
 /// Where a channel lies.
@@ -18,17 +22,20 @@ pub struct Place {
     pub map: Option<u8>,
 }
 
-/// The number of a channel, and its place.
+/// The number of a channel, and its place. One that the link has no room for is noted, and read too.
 #[tactic(auto, unfolding(crate::specs::ChannelLine::channel_said))]
-pub(crate) fn channel(words: &mut Words<'_>) -> Option<(u8, Place)>
+pub(crate) fn channel(words: &mut Reader<'_>) -> Option<(u8, Place)>
     ensures { result ≡ channel_said words.old }
 {
-    let number = octet(words)?;
-    let link = octet(words)?;
-    let spacecraft = short(words)?;
-    let channel = octet(words)?;
-    let map = optional(words)?;
-    ended(words)?;
+    let number = octet(words, MOST_CHANNEL, Expected::Channel(ChannelWord::Number))?;
+    let link = octet(words, MOST_LINK, Expected::Link(LinkWord::Number))?;
+    let room = words.room_on(link);
+    let expected = Expected::Channel(ChannelWord::Spacecraft(u64::from(room.spacecraft)));
+    let spacecraft = short(words, 0, room.spacecraft, expected)?;
+    let expected = Expected::Channel(ChannelWord::VirtualChannel(u64::from(room.channel)));
+    let channel = octet(words, room.channel, expected)?;
+    let map = optional(words, room.map)?;
+    words.end()?;
     Some((
         number,
         Place {
@@ -64,7 +71,7 @@ fn is_map(wanted: bool, map: Option<u8>) -> bool
     ensures { result ≡ is_map wanted map }
 {
     match map {
-        Some(map) => wanted && map <= 63,
+        Some(map) => wanted && map <= MOST_MAP,
         None => !wanted,
     }
 }
@@ -75,13 +82,19 @@ pub(crate) fn is_place(link: &Link, place: &Place) -> bool
 {
     match &link.layout {
         AnyLayout::Tc(layout) => {
-            place.spacecraft <= 1_023 && place.channel <= 63 && is_map(layout.segment, place.map)
+            place.spacecraft <= MOST_SPACECRAFT
+                && place.channel <= MOST_TC_CHANNEL
+                && is_map(layout.segment, place.map)
         }
         AnyLayout::Tm(_) => {
-            place.spacecraft <= 1_023 && place.channel <= 7 && is_map(false, place.map)
+            place.spacecraft <= MOST_SPACECRAFT
+                && place.channel <= MOST_TM_CHANNEL
+                && is_map(false, place.map)
         }
         AnyLayout::Aos(_) => {
-            place.spacecraft <= 255 && place.channel <= 62 && is_map(false, place.map)
+            place.spacecraft <= MOST_AOS_SPACECRAFT
+                && place.channel <= MOST_AOS_CHANNEL
+                && is_map(false, place.map)
         }
     }
 }

@@ -54,6 +54,20 @@ fn later_kind_of(word: &[u8]) -> Option<Kind>
     None
 }
 
+impl Kind {
+    /// The place among the first five lines, from 0; 5 for the kinds of the others.
+    pub(crate) fn place(self) -> u8 {
+        match self {
+            Kind::Version => 0,
+            Kind::Device => 1,
+            Kind::Slots => 2,
+            Kind::Block => 3,
+            Kind::Accept => 4,
+            Kind::Link | Kind::Channel | Kind::Key | Kind::Association => 5,
+        }
+    }
+}
+
 pub(crate) fn kind_of(word: &[u8]) -> Option<Kind>
     ensures { result ≡ kind_of word.now }
 {

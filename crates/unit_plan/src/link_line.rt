@@ -4,19 +4,21 @@ ghost use Rattle.sdls_base.specs.Link.{IsInBounds};
 ghost use Rattle.unit_plan.specs.Reading.{Reads};
 ghost use Rattle.unit_plan.specs.LinkLine.{mask_at, tc_at, tm_at, aos_at, frame_at, link_said, is_link};
 
+use crate::bounds::{LEAST_LENGTH, MOST_INSERT, MOST_LENGTH, MOST_LINK};
+use crate::expected::{Expected, LinkWord};
 use crate::fields::{choice, octet, short};
-use crate::lines::Words;
-use crate::reading::ended;
+use crate::reader::Reader;
 use sdls_base::{AnyLayout, AosLayout, Link, Mask, TcLayout, TmLayout};
 
 /// Takes a mask as long as the usual one, for which `-` stands.
 #[tactic(auto, unfolding(crate::specs::LinkLine::mask_at))]
-fn mask(words: &mut Words<'_>, usual: Mask) -> Option<Mask>
+fn mask(words: &mut Reader<'_>, usual: Mask) -> Option<Mask>
     requires { usual.length ≤ 6 }
     ensures read { Reads result (mask_at usual words.old) words.new }
     ensures within { IfSome result (λ mask. mask.length ≤ 6) }
 {
-    let word = words.next()?;
+    let expected = Expected::Link(LinkWord::Mask(usual.length));
+    let word = words.next(expected)?;
     if word == b"-".as_slice() {
         return Some(usual);
     }
@@ -26,17 +28,20 @@ fn mask(words: &mut Words<'_>, usual: Mask) -> Option<Mask>
             octets,
             length: usual.length,
         }),
-        Err(_) => None,
+        Err(_) => {
+            words.note(expected);
+            None
+        }
     }
 }
 
 #[tactic(auto, unfolding(crate::specs::LinkLine::tc_at))]
-fn tc(words: &mut Words<'_>) -> Option<Link>
+fn tc(words: &mut Reader<'_>) -> Option<Link>
     ensures read { Reads result (tc_at words.old) words.new }
     ensures mask { IfSome result (λ link. link.mask.length ≤ 6) }
 {
-    let segment = choice(words, b"seg", b"noseg")?;
-    let fecf = choice(words, b"fecf", b"nofecf")?;
+    let segment = choice(words, b"seg", b"noseg", Expected::Link(LinkWord::Segments))?;
+    let fecf = choice(words, b"fecf", b"nofecf", Expected::Link(LinkWord::Fecf))?;
     let mask = mask(words, Mask::usual_tc(segment))?;
     Some(Link {
         layout: AnyLayout::Tc(TcLayout {
@@ -49,12 +54,17 @@ fn tc(words: &mut Words<'_>) -> Option<Link>
 }
 
 #[tactic(auto, unfolding(crate::specs::LinkLine::tm_at))]
-fn tm(words: &mut Words<'_>) -> Option<Link>
+fn tm(words: &mut Reader<'_>) -> Option<Link>
     ensures read { Reads result (tm_at words.old) words.new }
     ensures mask { IfSome result (λ link. link.mask.length ≤ 6) }
 {
-    let length = short(words)?;
-    let fecf = choice(words, b"fecf", b"nofecf")?;
+    let length = short(
+        words,
+        LEAST_LENGTH,
+        MOST_LENGTH,
+        Expected::Link(LinkWord::Length),
+    )?;
+    let fecf = choice(words, b"fecf", b"nofecf", Expected::Link(LinkWord::Fecf))?;
     let mask = mask(words, Mask::usual_tm())?;
     Some(Link {
         layout: AnyLayout::Tm(TmLayout { length, fecf }),
@@ -63,14 +73,26 @@ fn tm(words: &mut Words<'_>) -> Option<Link>
 }
 
 #[tactic(auto, unfolding(crate::specs::LinkLine::aos_at))]
-fn aos(words: &mut Words<'_>) -> Option<Link>
+fn aos(words: &mut Reader<'_>) -> Option<Link>
     ensures read { Reads result (aos_at words.old) words.new }
     ensures mask { IfSome result (λ link. link.mask.length ≤ 6) }
 {
-    let length = short(words)?;
-    let insert = octet(words)?;
-    let ocf = choice(words, b"ocf", b"noocf")?;
-    let fecf = choice(words, b"fecf", b"nofecf")?;
+    let length = short(
+        words,
+        LEAST_LENGTH,
+        MOST_LENGTH,
+        Expected::Link(LinkWord::Length),
+    )?;
+    let place = words.place();
+    let insert = octet(words, MOST_INSERT, Expected::Link(LinkWord::Insert))?;
+    let least = LEAST_LENGTH + u16::from(insert);
+    words.test_at(
+        place,
+        length >= least,
+        Expected::Link(LinkWord::LengthFrom(u64::from(least))),
+    );
+    let ocf = choice(words, b"ocf", b"noocf", Expected::Link(LinkWord::Ocf))?;
+    let fecf = choice(words, b"fecf", b"nofecf", Expected::Link(LinkWord::Fecf))?;
     let mask = mask(words, Mask::usual_aos())?;
     Some(Link {
         layout: AnyLayout::Aos(AosLayout {
@@ -84,11 +106,12 @@ fn aos(words: &mut Words<'_>) -> Option<Link>
 }
 
 #[tactic(auto, unfolding(crate::specs::LinkLine::frame_at))]
-fn frame(words: &mut Words<'_>) -> Option<Link>
+fn frame(words: &mut Reader<'_>) -> Option<Link>
     ensures read { Reads result (frame_at words.old) words.new }
     ensures mask { IfSome result (λ link. link.mask.length ≤ 6) }
 {
-    let kind = words.next()?;
+    let expected = Expected::Link(LinkWord::Frames);
+    let kind = words.next(expected)?;
     if kind == b"tc".as_slice() {
         return tc(words);
     }
@@ -98,18 +121,19 @@ fn frame(words: &mut Words<'_>) -> Option<Link>
     if kind == b"aos".as_slice() {
         return aos(words);
     }
+    words.note(expected);
     None
 }
 
 /// The number of a link, and what its line says of it.
 #[tactic(auto, unfolding(crate::specs::LinkLine::link_said))]
-pub(crate) fn link(words: &mut Words<'_>) -> Option<(u8, Link)>
+pub(crate) fn link(words: &mut Reader<'_>) -> Option<(u8, Link)>
     ensures said { result ≡ link_said words.old }
     ensures mask { IfSome result (λ said. said.1.mask.length ≤ 6) }
 {
-    let number = octet(words)?;
+    let number = octet(words, MOST_LINK, Expected::Link(LinkWord::Number))?;
     let link = frame(words)?;
-    ended(words)?;
+    words.end()?;
     Some((number, link))
 }
 
@@ -118,16 +142,16 @@ pub(crate) fn is_link(number: u8, link: &Link) -> bool
     ensures tested { result ≡ is_link number link.now }
     ensures bounds { IsTrue result → IsInBounds link.now.layout }
 {
-    if number > 15 {
+    if number > MOST_LINK {
         return false;
     }
     match &link.layout {
         AnyLayout::Tc(layout) => layout.most == 1_024,
-        AnyLayout::Tm(layout) => layout.length >= 48 && layout.length <= 2_048,
+        AnyLayout::Tm(layout) => layout.length >= LEAST_LENGTH && layout.length <= MOST_LENGTH,
         AnyLayout::Aos(layout) => {
-            layout.insert <= 64
-                && layout.length >= 48 + u16::from(layout.insert)
-                && layout.length <= 2_048
+            layout.insert <= MOST_INSERT
+                && layout.length >= LEAST_LENGTH + u16::from(layout.insert)
+                && layout.length <= MOST_LENGTH
         }
     }
 }

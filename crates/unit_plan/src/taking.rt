@@ -4,22 +4,23 @@ ghost use Rattle.sdls_base.specs.Link.{IsInBounds};
 ghost use Rattle.unit_plan.specs.Lines.{words_of};
 ghost use Rattle.unit_plan.specs.PlanRules.{IsAssociation};
 ghost use Rattle.unit_plan.specs.PlanError.{Gives};
-ghost use Rattle.unit_plan.specs.LineForm.{bounded, channel_id, version_said, device_said, number_said, association_of};
+ghost use Rattle.unit_plan.specs.LineForm.{bounded, channel_id, association_of};
 ghost use Rattle.unit_plan.specs.Plan.{TakesPlanLine, in_order, is_on_link, version_taken, device_taken, slots_taken};
 ghost use Rattle.unit_plan.specs.Plan.{number_in_order, link_admitted, channel_admitted, key_admitted};
 ghost use Rattle.unit_plan.specs.Plan.{block_taken, accept_taken, link_taken, channel_taken, key_taken, admitted};
 ghost use Rattle.unit_plan.specs.Plan.{association_added, association_taken, taken_as, taken, is_skipped, line_taken};
 
 use crate::association_line::{AssociationLine, are_channels, association};
+use crate::bounds::{LEAST_SLOTS, MOST_COUNT, MOST_KEY, MOST_LINK, MOST_NUMBER, MOST_SPI};
 use crate::channel_line::{Place, channel, is_place};
-use crate::fields::{decimal, decode};
+use crate::expected::Expected;
+use crate::heads::{device, number, version};
 use crate::key_line::key;
 use crate::kind::{Kind, kind_of};
-use crate::lines::Words;
 use crate::link_line::{is_link, link};
 use crate::plan::{Plan, PlanKey, PlanSa};
 use crate::plan_error::{PlanCause, PlanError, check, refused};
-use crate::reading::{ended, pass};
+use crate::reader::Reader;
 use sdls_base::{ChannelId, KeyId, KeyItem, Link, MOST_WINDOW, NewSa, Spi};
 use std::alloc::Global;
 
@@ -42,39 +43,15 @@ fn channel_id(n: u8) -> Option<ChannelId>
 fn key_id(n: u64) -> Option<KeyId>
     ensures { result ≡ bounded 1 65535 n }
 {
-    let n = bounded(n, 1, 65_535)?;
+    let n = bounded(n, 1, MOST_KEY)?;
     KeyId::new(n as u16)
 }
 
 fn spi(n: u64) -> Option<Spi>
     ensures { result ≡ bounded 1 65534 n }
 {
-    let n = bounded(n, 1, 65_534)?;
+    let n = bounded(n, 1, MOST_SPI)?;
     Spi::new(n as u16)
-}
-
-fn version(words: &mut Words<'_>) -> Option<()>
-    ensures { result ≡ version_said words.old }
-{
-    pass(words, b"1")?;
-    ended(words)
-}
-
-fn device(words: &mut Words<'_>) -> Option<[u8; 4]>
-    ensures { result ≡ device_said words.old }
-{
-    let word = words.next()?;
-    let octets = decode(word)?;
-    ended(words)?;
-    Some(octets)
-}
-
-fn number(words: &mut Words<'_>) -> Option<u64>
-    ensures { result ≡ number_said words.old }
-{
-    let n = decimal(words)?;
-    ended(words)?;
-    Some(n)
 }
 
 /// The association of a line whose numbers and list are within their bounds.
@@ -86,7 +63,7 @@ fn association_of(line: u32, said: AssociationLine) -> Option<PlanSa>
     let before = said.before;
     let spi = spi(before.spi)?;
     let key = key_id(before.key)?;
-    let number = bounded(before.number, 0, 1 << 48)?;
+    let number = bounded(before.number, 0, MOST_NUMBER)?;
     let window = bounded(before.window, 1, MOST_WINDOW)?;
     if !are_channels(said.channels.as_slice()) {
         return None;
@@ -120,7 +97,7 @@ impl Plan {
     }
 
     #[tactic(auto, unfolding(crate::specs::Plan::version_taken))]
-    fn take_version(&mut self, line: u32, words: &mut Words<'_>) -> Result<(), PlanError>
+    fn take_version(&mut self, line: u32, words: &mut Reader<'_>) -> Result<(), PlanError>
         ensures { TakesPlanLine result (version_taken line self.old words.old) self.new }
     {
         version(words).ok_or(refused(line, PlanCause::Form))?;
@@ -130,7 +107,7 @@ impl Plan {
     }
 
     #[tactic(auto, unfolding(crate::specs::Plan::device_taken))]
-    fn take_device(&mut self, line: u32, words: &mut Words<'_>) -> Result<(), PlanError>
+    fn take_device(&mut self, line: u32, words: &mut Reader<'_>) -> Result<(), PlanError>
         ensures { TakesPlanLine result (device_taken line self.old words.old) self.new }
     {
         let device = device(words).ok_or(refused(line, PlanCause::Form))?;
@@ -146,42 +123,41 @@ impl Plan {
         line: u32,
         heads: u8,
         least: u64,
-        most: u64,
-        words: &mut Words<'_>,
+        words: &mut Reader<'_>,
     ) -> Result<u64, PlanError>
-        ensures said { Gives result (number_in_order line self.now heads least most words.old) }
-        ensures within { IfOk result (λ n. (least ≤ n) × (n ≤ most)) }
+        ensures said { Gives result (number_in_order line self.now heads least 65536 words.old) }
+        ensures within { IfOk result (λ n. (least ≤ n) × (n ≤ 65536)) }
     {
-        let n = number(words).ok_or(refused(line, PlanCause::Form))?;
+        let n = number(words, least).ok_or(refused(line, PlanCause::Form))?;
         self.in_order(line, heads)?;
-        bounded(n, least, most).ok_or(refused(line, PlanCause::Range))
+        bounded(n, least, MOST_COUNT).ok_or(refused(line, PlanCause::Range))
     }
 
     #[tactic(auto, unfolding(crate::specs::Plan::slots_taken))]
-    fn take_slots(&mut self, line: u32, words: &mut Words<'_>) -> Result<(), PlanError>
+    fn take_slots(&mut self, line: u32, words: &mut Reader<'_>) -> Result<(), PlanError>
         ensures { TakesPlanLine result (slots_taken line self.old words.old) self.new }
     {
-        let n = self.number_in_order(line, 2, 16, 65_536, words)?;
+        let n = self.number_in_order(line, 2, LEAST_SLOTS, words)?;
         self.heads = 3;
         self.slots = n as u32;
         Ok(())
     }
 
     #[tactic(auto, unfolding(crate::specs::Plan::block_taken))]
-    fn take_block(&mut self, line: u32, words: &mut Words<'_>) -> Result<(), PlanError>
+    fn take_block(&mut self, line: u32, words: &mut Reader<'_>) -> Result<(), PlanError>
         ensures { TakesPlanLine result (block_taken line self.old words.old) self.new }
     {
-        let n = self.number_in_order(line, 3, 1, 65_536, words)?;
+        let n = self.number_in_order(line, 3, 1, words)?;
         self.heads = 4;
         self.block = n;
         Ok(())
     }
 
     #[tactic(auto, unfolding(crate::specs::Plan::accept_taken))]
-    fn take_accept(&mut self, line: u32, words: &mut Words<'_>) -> Result<(), PlanError>
+    fn take_accept(&mut self, line: u32, words: &mut Reader<'_>) -> Result<(), PlanError>
         ensures { TakesPlanLine result (accept_taken line self.old words.old) self.new }
     {
-        let n = self.number_in_order(line, 4, 1, 65_536, words)?;
+        let n = self.number_in_order(line, 4, 1, words)?;
         self.heads = 5;
         self.accept = n;
         Ok(())
@@ -198,7 +174,7 @@ impl Plan {
     }
 
     #[tactic(auto, unfolding(crate::specs::Plan::link_taken))]
-    fn take_link(&mut self, line: u32, words: &mut Words<'_>) -> Result<(), PlanError>
+    fn take_link(&mut self, line: u32, words: &mut Reader<'_>) -> Result<(), PlanError>
         ensures { TakesPlanLine result (link_taken line self.old words.old) self.new }
     {
         let said = link(words).ok_or(refused(line, PlanCause::Form))?;
@@ -223,7 +199,7 @@ impl Plan {
     {
         self.in_order(line, 5)?;
         let id = channel_id(number).ok_or(refused(line, PlanCause::Range))?;
-        check(line, PlanCause::Range, place.link <= 15)?;
+        check(line, PlanCause::Range, place.link <= MOST_LINK)?;
         check(line, PlanCause::Range, self.is_on_link(place))?;
         check(line, PlanCause::Twice, !self.channels.has(number))?;
         check(line, PlanCause::Twice, !self.channels.has_place(place))?;
@@ -232,7 +208,7 @@ impl Plan {
     }
 
     #[tactic(auto, unfolding(crate::specs::Plan::channel_taken))]
-    fn take_channel(&mut self, line: u32, words: &mut Words<'_>) -> Result<(), PlanError>
+    fn take_channel(&mut self, line: u32, words: &mut Reader<'_>) -> Result<(), PlanError>
         ensures { TakesPlanLine result (channel_taken line self.old words.old) self.new }
     {
         let (number, place) = channel(words).ok_or(refused(line, PlanCause::Form))?;
@@ -251,7 +227,12 @@ impl Plan {
     }
 
     #[tactic(auto, unfolding(crate::specs::Plan::key_taken))]
-    fn take_key(&mut self, alloc: Global, line: u32, words: &mut Words<'_>) -> Result<(), PlanError>
+    fn take_key(
+        &mut self,
+        alloc: Global,
+        line: u32,
+        words: &mut Reader<'_>,
+    ) -> Result<(), PlanError>
         ensures { TakesPlanLine result (key_taken line self.old words.old) self.new }
     {
         let said = key(alloc, words)?.ok_or(refused(line, PlanCause::Form))?;
@@ -296,7 +277,7 @@ impl Plan {
         &mut self,
         alloc: Global,
         line: u32,
-        words: &mut Words<'_>,
+        words: &mut Reader<'_>,
     ) -> Result<(), PlanError>
         ensures { TakesPlanLine result (association_taken line self.old words.old) self.new }
     {
@@ -313,7 +294,7 @@ impl Plan {
         alloc: Global,
         line: u32,
         kind: Kind,
-        words: &mut Words<'_>,
+        words: &mut Reader<'_>,
     ) -> Result<(), PlanError>
         ensures { TakesPlanLine result (taken_as line self.old kind words.old) self.new }
     {
@@ -331,10 +312,12 @@ impl Plan {
     }
 
     #[tactic(auto, unfolding(crate::specs::Plan::taken))]
-    fn take(&mut self, alloc: Global, line: u32, words: &mut Words<'_>) -> Result<(), PlanError>
+    fn take(&mut self, alloc: Global, line: u32, words: &mut Reader<'_>) -> Result<(), PlanError>
         ensures { TakesPlanLine result (taken line self.old words.old) self.new }
     {
-        let word = words.next().ok_or(refused(line, PlanCause::Form))?;
+        let word = words
+            .next(Expected::Kind)
+            .ok_or(refused(line, PlanCause::Form))?;
         let kind = kind_of(word).ok_or(refused(line, PlanCause::Form))?;
         self.take_as(alloc, line, kind, words)
     }
@@ -351,6 +334,6 @@ impl Plan {
         if is_skipped(text) {
             return Ok(());
         }
-        self.take(alloc, line, &mut Words::of(text))
+        self.take(alloc, line, &mut Reader::of(text))
     }
 }
