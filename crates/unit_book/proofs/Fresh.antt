@@ -4,7 +4,7 @@ use Rattle.std.proofs.lemmas.List.{take_all}
 use Rattle.sdls_outside.specs.Disk.{Leaves}
 use Rattle.sdls_outside.specs.Moments.{Trace, Between}
 use Rattle.sdls_outside.proofs.Moments.{each_same, synced_leaves}
-use Rattle.unit_image.specs.Image.{IsAtRest, IsSettled, JournalView}
+use Rattle.unit_image.specs.Image.{held, IsAtRest, IsSettled, JournalView}
 use Rattle.unit_plan.specs.PlanLines.{PlanLines}
 use Rattle.unit_state.specs.declared.state.State.{State}
 use Rattle.unit_state.specs.State.{KeepsRules}
@@ -49,8 +49,9 @@ pub fresh_kept : (told : Bool) (site : SiteSeen) (image : List ℕ) (plan : Plan
     (journal : JournalView)
     → KeepsRules start → (IsTrue told → IsSettled site.trace journal)
     → (IsTrue told → Shows site.trace.now.image (restarted start))
+    → (IsTrue told → (held site.trace.now.image).plan ≡ (held image).plan)
     → IsKept told (begun site image plan start journal)
-fresh_kept told site image plan start journal rules settled shows = record {
+fresh_kept told site image plan start journal rules settled shows same_plan = record {
   later = omega arith;
   stands = omega arith;
   few_left = omega arith;
@@ -66,6 +67,10 @@ fresh_kept told site image plan start journal rules settled shows = record {
     settled = settled is_told;
     shows = shows is_told;
   };
+  outside = λ is_told not. record {
+    beside = record { same_length = refl; outside = λ i off. refl };
+    same_plan = same_plan is_told;
+  };
 }
 
 -- the same, as the fields of a new book show it
@@ -73,9 +78,10 @@ pub fresh_shown : (told : Bool) (site opened : SiteSeen) (image : List ℕ) (pla
     (journal : JournalView)
     → opened ≡ site → start ≡ state → KeepsRules state → (IsTrue told → IsSettled site.trace journal)
     → (IsTrue told → Shows site.trace.now.image (restarted state))
+    → (IsTrue told → (held site.trace.now.image).plan ≡ (held image).plan)
     → IsKept told (record (begun site image plan state journal) { opened = opened; start = start })
-fresh_shown told site opened image plan state start journal same_site same_state rules settled shows =
+fresh_shown told site opened image plan state start journal same_site same_state rules settled shows same_plan =
     subst (λ (o : SiteSeen). IsKept told (record (begun site image plan state journal) { opened = o; start = start }))
     (sym same_site)
     (subst (λ (s : State). IsKept told (record (begun site image plan state journal) { start = s })) (sym same_state)
-    (fresh_kept told site image plan state journal rules settled shows))
+    (fresh_kept told site image plan state journal rules settled shows same_plan))

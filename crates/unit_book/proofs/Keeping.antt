@@ -1,14 +1,15 @@
 -- What holds of a book after its calls.
 use Rattle.std.proofs.Common.{◌≡◌, ℕ, ◌+◌, ◌<◌, ◌≤◌, ◌⊎◌, Bool, IsTrue, true, false, if◌then◌else◌, List, [], ◌∷◌, ◌++◌}
-use Rattle.std.proofs.Common.{length, take, Ok, Err, sym, ◌∙◌, ap, subst, arith, length-append}
+use Rattle.std.proofs.Common.{length, take, Ok, Err, sym, ◌∙◌, ap, subst, inl, inr, arith, length-append}
 use Rattle.std.proofs.lemmas.List.{take_all, take-append-le}
+use Rattle.sdls_base.specs.declared.change.Change.{Change}
 use Rattle.sdls_base.specs.declared.entry.Entry.{Entry}
 use Rattle.sdls_base.specs.declared.entry.Logged.{Logged}
 use Rattle.sdls_base.specs.declared.entry.Logged.TheVariants as logged
 use Rattle.sdls_outside.specs.Faults.{Rose}
 use Rattle.sdls_outside.specs.Moments.{Trace}
 use Rattle.sdls_outside.specs.Site.{Sank}
-use Rattle.unit_image.specs.Image.{Held, held, JournalView}
+use Rattle.unit_image.specs.Image.{Held, held, IsSettled, JournalView, KeepsBeside}
 use Rattle.unit_state.specs.declared.state.State.{State}
 use Rattle.unit_state.specs.Applied.{applied}
 use Rattle.unit_state.specs.Allows.{Allows}
@@ -16,14 +17,16 @@ use Rattle.unit_state.specs.Restart.{restarted, counts}
 use Rattle.unit_state.specs.History.{after, after_first, epoch_after}
 use Rattle.unit_state.proofs.RulesKept.{rules_kept}
 use Rattle.unit_image.specs.Shows.{Says}
-use Rattle.unit_image.specs.Storing.{Stores}
+use Rattle.unit_image.specs.Storing.{KeepsPlaces, LeavesRest, LeavesRestImage, Stores}
 use Rattle.unit_image.specs.declared.storing.SiteFault.{SiteFault}
+use Rattle.unit_image.proofs.Outside.{beside_then}
 use Rattle.run_promise.specs.Site.{SiteSeen}
 use Rattle.run_promise.specs.declared.limits.TheConstants.{MOST_ENTRIES}
 use Rattle.run_promise.specs.Log.{entries_of}
 use Rattle.unit_book.specs.Log.{sunk_between}
 use Rattle.unit_book.specs.Marks.{is_release, HasNoRelease, KeepsMarks}
-use Rattle.unit_book.specs.Book.{BookView, IsKept, CanEnter, Enters, entered, left_out, with_put}
+use Rattle.unit_book.specs.Book.{BookView, IsKept, CanEnter, Enters, IsAsOpened, LeavesStateAlone, entered, left_out}
+use Rattle.unit_book.specs.Book.{with_put}
 use Rattle.unit_book.proofs.MarksKept.{no_release_last, marks_then}
 use Rattle.unit_book.proofs.Growing.{after_entry, first_same, first_all, says_held}
 use Rattle.unit_book.proofs.Serving.{piece_entries, entry_entries, puts_history, piece_current, NextEntry}
@@ -44,6 +47,22 @@ epoch_more (first ∷ entries) entry =
     let rest : epoch_after (entries ++ entry ∷ []) ≡ epoch_after entries + (if counts entry.change then 1 else 0) =
     epoch_more entries entry in
     omega arith
+
+-- a put leaves the image as it is
+put_image : (octets : List ℕ) (old new : Trace) → (new ≡ old) ⊎ Sank octets old new → new.now.image ≡ old.now.image
+put_image octets old new (inl same) = ap (λ (trace : Trace). trace.now.image) same
+put_image octets old new (inr sank) = sank.image
+
+-- a store leaves what stands outside the banks, and the plan
+outside_stored : {T E : Type 0} (read opened : List ℕ) (state : State) (change : Change) (value : T)
+    (before after : JournalView) (old new : Trace) → KeepsPlaces before after
+    → KeepsBeside before.layout old.now.image new.now.image
+    → Stores {T = T} {E = E} state change (Ok value) after old new
+    → IsAsOpened read opened old.now.image before → IsAsOpened read opened new.now.image after
+outside_stored read opened state change value before after old new places beside stores keeps = record {
+  beside = beside_then before after opened old.now.image new.now.image places keeps.beside beside;
+  same_plan = ap (λ (what : Held). what.plan) stores.done.1 ∙ stores.same_plan ∙ keeps.same_plan;
+}
 
 -- a book after a put
 pub kept_put : (told : Bool) (octets : List ℕ) (old : BookView) (site : SiteSeen)
@@ -75,6 +94,10 @@ kept_put told octets old site low puts kept =
       current = λ is_told not. piece_current octets old.site.trace site.trace old.start old.journal old.log piece
           (puts is_told) (kept.current is_told
           (not_rose_earlier old.opened.faults old.site.faults site.faults low not));
+      outside = λ is_told not.
+          subst (λ (image : List ℕ). IsAsOpened old.image old.opened.trace.now.image image old.journal)
+          (sym (put_image octets old.site.trace site.trace (puts is_told)))
+          (kept.outside is_told (not_rose_earlier old.opened.faults old.site.faults site.faults low not));
     }
 
 -- what is known when an entry is to be made
@@ -149,8 +172,10 @@ module _ (told : Bool) (old : BookView) (entry : Entry)
   pub kept_stored : (site : SiteSeen) (journal : JournalView) → old.site.faults ≤ site.faults
       → (IsTrue told → Stores {T = Unit {0}} {E = SiteFault} old.state entry.change (Ok tt) journal old.site.trace
       site.trace)
+      → (IsTrue told → KeepsBeside old.journal.layout old.site.trace.now.image site.trace.now.image)
+      → KeepsPlaces old.journal journal
       → IsKept told (entered entry (record old { site = site; journal = journal }))
-  kept_stored site journal low stores =
+  kept_stored site journal low stores beside places =
       let whole : old.standing ≡ length (entries_of old.log) = all_stand in
       let longer : length (entries_of (old.log ++ logged.Entry entry ∷ [])) ≡ length (entries_of old.log) + 1 = size in
       let below : length (entries_of old.log) < MOST_ENTRIES = r.can.1 in
@@ -182,7 +207,27 @@ module _ (told : Bool) (old : BookView) (entry : Entry)
                     (next_entry s.next s.says is_told).then;
               };
             };
+        outside = λ is_told not. outside_stored {T = Unit {0}} {E = SiteFault} old.image
+            old.opened.trace.now.image old.state entry.change tt old.journal journal old.site.trace site.trace places
+            (beside is_told) (stores is_told) (r.kept.outside is_told r.can.0);
       }
+
+  -- after a store that leaves each octet of all banks stated
+  pub alone_stored : ((opened : List ℕ) (now : Trace) (journal : JournalView) (state : State) → IsSettled now journal
+      → KeepsBeside journal.layout opened now.now.image → LeavesRest now journal state
+      → LeavesRestImage opened now journal state)
+      → (site : SiteSeen) (journal : JournalView) → IsTrue told
+      → Stores {T = Unit {0}} {E = SiteFault} old.state entry.change (Ok tt) journal old.site.trace site.trace
+      → KeepsBeside old.journal.layout old.site.trace.now.image site.trace.now.image
+      → KeepsPlaces old.journal journal → LeavesRest site.trace journal (applied old.state entry.change)
+      → LeavesStateAlone (entered entry (record old { site = site; journal = journal }))
+  alone_stored whole site journal is_told stores beside places rest = record {
+    banks = rest;
+    whole = whole old.opened.trace.now.image site.trace journal (applied old.state entry.change) stores.done.0
+        (outside_stored {T = Unit {0}} {E = SiteFault} old.image old.opened.trace.now.image old.state entry.change tt
+        old.journal journal old.site.trace site.trace places beside stores (r.kept.outside is_told r.can.0)).beside
+        rest;
+  }
 
   -- the book, once the store has failed
   pub kept_failed : (site : SiteSeen) (fault : SiteFault) (journal : JournalView) → Rose old.site.faults site.faults
@@ -215,6 +260,7 @@ module _ (told : Bool) (old : BookView) (entry : Entry)
             failed_history old.opened.trace old.site.trace site.trace old.start old.log entry old.standing s.next
             (next_entry s.next s.says is_told) (r.kept.history is_told) whole s.moments;
         current = λ is_told not. absurd (not risen);
+        outside = λ is_told not. absurd (not risen);
       }
 
   -- and so the entry is made

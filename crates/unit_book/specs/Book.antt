@@ -8,7 +8,8 @@ use Rattle.sdls_base.specs.declared.entry.Logged.TheVariants as logged
 use Rattle.sdls_outside.specs.Disk.{Leaves}
 use Rattle.sdls_outside.specs.Faults.{Rose}
 use Rattle.sdls_outside.specs.Moments.{Trace, EachMoment, Between}
-use Rattle.unit_image.specs.Image.{IsAtRest, IsSettled, JournalView}
+use Rattle.unit_image.specs.Image.{held, IsAtRest, IsSettled, JournalView, KeepsBeside}
+use Rattle.unit_image.specs.Storing.{LeavesRest, LeavesRestImage}
 use Rattle.unit_plan.specs.PlanLines.{PlanLines}
 use Rattle.unit_state.specs.declared.state.State.{State}
 use Rattle.unit_state.specs.State.{KeepsRules}
@@ -71,6 +72,11 @@ pub record IsCurrent (now : Trace) (start : State) (journal : JournalView) (entr
   pub settled : IsSettled now journal
   pub shows : Shows now.now.image (restarted (after start entries))
 
+-- outside its banks the image is the one that the opening left, and its plan has the octets that were read
+pub record IsAsOpened (read opened now : List ℕ) (journal : JournalView) : Type 0 where
+  pub beside : KeepsBeside journal.layout opened now
+  pub same_plan : (held now).plan ≡ (held read).plan
+
 -- What holds of a book between its calls.
 pub record IsKept (told : Bool) (book : BookView) : Type 0 where
   pub later : book.opened.faults ≤ book.site.faults
@@ -87,6 +93,14 @@ pub record IsKept (told : Bool) (book : BookView) : Type 0 where
   pub history : IsTrue told → IsHistory book.opened.trace book.site.trace book.start book.log book.standing
   pub current : IsTrue told → ¬ Rose book.opened.faults book.site.faults
       → IsCurrent book.site.trace book.start book.journal (entries_of book.log)
+  pub outside : IsTrue told → ¬ Rose book.opened.faults book.site.faults
+      → IsAsOpened book.image book.opened.trace.now.image book.site.trace.now.image book.journal
+
+-- In whatever a crash leaves, each octet of all banks is stated: they hold the state, with no records. So is each octet
+-- of the image, if the one that the opening left had a plan alone outside its banks.
+pub record LeavesStateAlone (book : BookView) : Type 0 where
+  pub banks : LeavesRest book.site.trace book.journal book.state
+  pub whole : LeavesRestImage book.opened.trace.now.image book.site.trace book.journal book.state
 
 -- The site has not failed since the opening, and there is room for an entry.
 abbrev pub CanEnter : BookView → Type 0

@@ -8,9 +8,9 @@ use Rattle.unit_state.specs.Laws.{KeepsPlaces}
 use Rattle.unit_book.specs.declared.fault.BookFault.{BookFault}
 use Rattle.unit_book.specs.declared.fault.BookFault.TheVariants.{SiteFault, Stopped, SessionFull, NoMemory}
 use Rattle.run_promise.specs.Log.{entries_of}
-use Rattle.unit_image.specs.Storing.{Destroys, LeavesRest}
+use Rattle.unit_image.specs.Storing.{Destroys}
 use Rattle.unit_book.specs.Marks.{HasNoRelease, KeepsMarks, is_release}
-use Rattle.unit_book.specs.Book.{BookView, Enters, IsKept, IsUnstored}
+use Rattle.unit_book.specs.Book.{BookView, Enters, IsKept, IsUnstored, LeavesStateAlone}
 
 -- The opening stands: what was read, its plan and state, and the site as it was then. The log goes on by the lines
 -- that the call added. Neither the count of faults nor that of changes falls; once the first had risen, no entry
@@ -47,7 +47,7 @@ pub record MakesEntry (told : Bool) (entry : Entry) (result : Result ℕ BookFau
   pub kept : IsKept told new
   pub made : MatchResult result (Enters entry old new) (IsUnstored entry old new)
   -- once a change has taken away the octets of keys, no image that a crash may leave holds them
-  pub gone : IsTrue told → OnOk result (Destroys entry.change → LeavesRest new.site.trace new.journal new.state)
+  pub gone : IsTrue told → OnOk result (Destroys entry.change → LeavesStateAlone new)
   pub goes_on : GoesOn old new
   pub marks : is_release entry ≡ false → KeepsMarks old.state new.state
   pub risen : IfErr result (TellsRise new)

@@ -7,11 +7,11 @@ use Rattle.sdls_base.specs.declared.entry.Seen.{Seen}
 use Rattle.frame_checks.specs.declared.open_reply.OpenReply.{OpenReply}
 use Rattle.frame_checks.specs.OpeningFrames.{IsOpenReply}
 use Rattle.ep_core.specs.declared.reply.Reply.{Reply}
-use Rattle.unit_image.specs.Storing.{Destroys, LeavesRest}
+use Rattle.unit_image.specs.Storing.{Destroys}
 use Rattle.run_promise.specs.Entries.{frame_entry, record_entry, IsStepOf}
 use Rattle.unit_book.specs.declared.fault.BookFault.{BookFault}
 use Rattle.unit_book.specs.declared.fault.BookFault.TheVariants as faults
-use Rattle.unit_book.specs.Book.{BookView, CanEnter, IsBarred, IsUnstored, Made}
+use Rattle.unit_book.specs.Book.{BookView, CanEnter, IsBarred, IsUnstored, LeavesStateAlone, Made}
 
 -- the frame was opened with this reply, as the checks answer in the state before, and made its entry
 pub record OpensWithEntry (index link : ℕ) (frame field : List ℕ) (old new : BookView) (reply : OpenReply)
@@ -43,7 +43,8 @@ RefusesMessage index octets seen old new fault = (IsBarred old fault × (new ≡
     × IsUnstored (record_entry index seen step.0) old new fault))
 
 -- Where the entry that was made takes away the octets of keys, each octet of all banks of each image that a crash may
--- leave is stated: the banks hold the new state, with no records.
+-- leave is stated: the banks hold the new state, with no records. Of an image that had a plan alone outside them, each
+-- octet is.
 abbrev pub LeavesNoOctets : BookView → BookView → Type 0
 LeavesNoOctets old new = (entry : Entry) → new.log ≡ old.log ++ logged.Entry entry ∷ [] → Destroys entry.change
-    → LeavesRest new.site.trace new.journal new.state
+    → LeavesStateAlone new

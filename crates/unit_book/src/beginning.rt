@@ -1,7 +1,7 @@
 // The beginning of a book, and its end.
 ghost use Rattle.std.specs.Prelude.{◌≡◌, ◌≤◌, IsTrue, [], vec_capacity, vec_len};
 ghost use Rattle.sdls_base.specs.declared.version.TheConstants.{CONTENT_LENGTH_TWO};
-ghost use Rattle.unit_image.specs.Image.{IsOfTwo, IsSettled};
+ghost use Rattle.unit_image.specs.Image.{held, IsOfTwo, IsSettled};
 ghost use Rattle.unit_state.specs.State.{KeepsRules};
 ghost use Rattle.unit_state.specs.Restart.{restarted};
 ghost use Rattle.unit_image.specs.Shows.{Shows};
@@ -29,6 +29,8 @@ impl<O: Site> Book<O> {
         requires rules { KeepsRules found.state }
         requires settled { IsTrue O.told → IsSettled (O.trace site) found.journal }
         requires shows { IsTrue O.told → Shows (O.trace site).now.image (restarted found.state) }
+        requires same_plan { IsTrue O.told → (held (O.trace site).now.image).plan
+            ≡ (held (O.trace taken.value).now.image).plan }
         requires entries { (entries.items ≡ []) × (MOST_ENTRIES ≤ vec_capacity entries) }
         requires room { vec_len room ≡ CONTENT_LENGTH_TWO }
         requires version { IsOfTwo found.journal }

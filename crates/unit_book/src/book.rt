@@ -22,7 +22,7 @@ use sdls_base::Entry;
 use sdls_outside::{Failed, Site};
 use std::marker::Model;
 use std::snapshot::Snapshot;
-use unit_image::{Journal, SiteFault, store};
+use unit_image::{Journal, SiteFault, rest_stays_whole, store};
 use unit_plan::Plan;
 use unit_state::State;
 
@@ -154,6 +154,7 @@ impl<O: Site> Book<O> {
         requires marks { is_release entry ≡ false → KeepsMarks self.old.state (applied self.old.state entry.change) }
         ensures { MakesEntry O.told entry result self.old self.new }
     {
+        rest_stays_whole();
         match store(
             &mut self.journal,
             &mut self.site,

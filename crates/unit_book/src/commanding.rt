@@ -92,7 +92,8 @@ impl<O: Site> Book<O> {
         ensures made { MatchResult result
             (λ answer. Handles index pdu.now seen self.old self.new answer.0 answer.1)
             (RefusesMessage index pdu.now seen self.old self.new) }
-        // After a Destroy the keys' octets are gone: no image that a crash may leave holds them any more.
+        // After a Destroy the keys' octets are gone: no image that a crash may leave holds them any more, in its banks
+        // or, if the opening left nothing but a plan outside these, anywhere.
         ensures gone { IsTrue O.told → IfOk result (λ _. LeavesNoOctets self.old self.new) }
         ensures goes_on { GoesOn self.old self.new }
         ensures marks { KeepsMarks self.old.state self.new.state }

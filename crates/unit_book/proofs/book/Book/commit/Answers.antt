@@ -1,9 +1,9 @@
 use Rattle.std.proofs.Common.{◌≡◌, ◌≤◌, IsTrue, Ok, Err, sym, ap, subst, arith, ◌∙◌}
-use Rattle.unit_image.specs.Storing.{LeavesRest}
 use Rattle.run_promise.specs.Stored.{IsStored}
 use Rattle.unit_book.specs.declared.fault.BookFault.TheVariants.{SiteFault}
-use Rattle.unit_book.specs.Book.{BookView, Enters, IsKept, IsUnstored}
-use Rattle.unit_book.proofs.Keeping.{Ready, ready_of, kept_stored, kept_failed, enters, kept_left_out, left_out_is}
+use Rattle.unit_book.specs.Book.{BookView, Enters, IsKept, IsUnstored, LeavesStateAlone}
+use Rattle.unit_book.proofs.Keeping.{Ready, ready_of, alone_stored, kept_stored, kept_failed, enters, kept_left_out}
+use Rattle.unit_book.proofs.Keeping.{left_out_is}
 use Rattle.unit_book.proofs.GoingOn.{goes_entered, goes_unstored, calm_entered, calm_unstored, marks_committed}
 use Rattle.unit_book.proofs.GoingOn.{unstored_tells}
 use Rattle.unit_book.proofs.book.Book.commit.Goals as goal
@@ -24,11 +24,13 @@ returns-in-Ok g c =
     let stood : new.site.faults ≡ old.site.faults = (let same = c.in-Ok.ensures.stood in omega arith) in
     record {
       kept = subst (IsKept told) (sym c.enter.ensures)
-          (kept_stored told _ c.args.entry ready _ _ c.store.ensures.later c.in-Ok.ensures.stores.stores);
+          (kept_stored told _ c.args.entry ready _ _ c.store.ensures.later c.in-Ok.ensures.stores.stores
+          c.in-Ok.ensures.stores.beside c.in-Ok.ensures.stores.places);
       made = made;
-      gone = λ is_told destroys. subst (λ (b : BookView). LeavesRest b.site.trace b.journal b.state)
-          (sym c.enter.ensures)
-          (c.in-Ok.ensures.stores.gone is_told destroys);
+      gone = λ is_told destroys. subst LeavesStateAlone (sym c.enter.ensures)
+          (alone_stored told _ c.args.entry ready c.rest_stays_whole.ensures _ _ is_told
+          (c.in-Ok.ensures.stores.stores is_told) (c.in-Ok.ensures.stores.beside is_told) c.in-Ok.ensures.stores.places
+          (c.in-Ok.ensures.stores.gone is_told destroys));
       goes_on = goes_entered c.args.entry old new c.count.result c.requires.marks c.requires.can later made;
       marks = marks_committed c.args.entry old new (Ok c.count.result) c.requires.marks made;
       risen = tt;

@@ -10,4 +10,4 @@ returns-clause-kept g c =
     c.args.found.plan
     c.args.found.state c.of-2.result.value c.args.found.journal (ap seen c.of.ensures) c.of-2.ensures c.requires.rules
     c.requires.settled
-    c.requires.shows
+    c.requires.shows c.requires.same_plan
