@@ -1,6 +1,5 @@
 mod Lacking
 mod Lists
-mod Joined
 mod Fields
 mod RowsRead
 mod Highs

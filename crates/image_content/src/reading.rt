@@ -10,10 +10,10 @@ ghost use Rattle.image_content.specs.Reading.{IsContent};
 
 use crate::layout::{KEYS_AT, associations_at, counts_end};
 use crate::making::state_of_rows;
-use crate::reading_rows::{are_zeros, read_keys, sa_rows};
+use crate::reading_rows::{read_keys, sa_rows};
 use crate::rows_fault::RowsFault;
 use book_record::{KEY_ROW_LENGTH, SA_ROW_LENGTH};
-use sdls_base::{ChannelList, Version};
+use sdls_base::{ChannelList, Version, are_zeros};
 use std::alloc::Global;
 use unit_state::State;
 

@@ -1,6 +1,6 @@
 //! The rows of a content, read.
 
-ghost use Rattle.std.specs.Prelude.{◌≡◌, ◌↔◌, ◌*◌, ℕ, List, IsTrue, length, replicate, IfOk, IfErr};
+ghost use Rattle.std.specs.Prelude.{◌≡◌, ◌*◌, ℕ, List, length, IfOk, IfErr};
 ghost use Rattle.std.specs.Option.{option_map_or};
 ghost use Rattle.key_book.specs.declared.key_row.KeyRow.{KeyRow};
 ghost use Rattle.key_book.specs.KeyBook.{IsKeyBook, row_of};
@@ -23,13 +23,6 @@ use replay_window::Window;
 use sa_book::SaRow;
 use sdls_base::{Direction, KeyId, NewSa};
 use std::alloc::Global;
-
-/// Whether all octets are 0. None decides whether the next is looked at, so many are joined at a time.
-pub(crate) fn are_zeros(octets: &[u8]) -> bool
-    ensures { IsTrue result ↔ (octets.now ≡ replicate (length octets.now) 0) }
-{
-    octets.iter().fold(0, |all, octet| all | *octet) == 0
-}
 
 fn key_row_of(parts: &KeyParts) -> KeyRow
     requires { IsRowKeyLength (length parts.now.bytes) }
