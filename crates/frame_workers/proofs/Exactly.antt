@@ -11,13 +11,13 @@ use Rattle.sdls_base.specs.declared.entry.Logged.{Logged}
 use Rattle.run_promise.specs.Log.{entries_of}
 use Rattle.record_io.specs.declared.records.Record.{Record}
 use Rattle.record_io.specs.declared.answers.Answer.{Answer}
-use Rattle.run_promise.specs.Begin.{Begin}
+use Rattle.run_promise.specs.Call.{Begin}
 use Rattle.law_workers.specs.Views.{KnowsMore, entries_in, keeping, log_of, starting, meeting}
 use Rattle.run_promise.specs.Deed.{Deed, deed_of}
 use Rattle.law_workers.specs.Deeds.{Does, deeds_of}
 use Rattle.law_workers.specs.Lanes.{giving_shares}
 use Rattle.law_workers.proofs.Joining.{top_both}
-use Rattle.run_promise.specs.Machine.{Move}
+use Rattle.run_promise.specs.Words.{Move}
 use Rattle.law_workers.specs.Exact.{words_in}
 use Rattle.law_workers.specs.InTurn.{IsLeftBehind, IsLevel, ServedBetween, stood_in}
 use Rattle.law_workers.specs.Alone.{MovedInTurn, ServedAlone}

@@ -6,8 +6,8 @@ use Rattle.counter_table.specs.declared.view.View.{View}
 use Rattle.sdls_outside.specs.Faults.{Rose}
 use Rattle.record_io.specs.declared.records.Record.{Record}
 use Rattle.run_promise.specs.declared.limits.TheConstants.{MOST_ENTRIES}
-use Rattle.run_promise.specs.Begin.{Begin}
-use Rattle.run_promise.specs.Counts.{is_of_record, count_at}
+use Rattle.run_promise.specs.Call.{Begin}
+use Rattle.law_workers.specs.Counts.{is_of_record, count_at}
 use Rattle.law_workers.specs.Views.{KnowsMore, keeping, starting, meeting, Meets, log_of, entries_in}
 use Rattle.law_workers.specs.Work.{indexed}
 use Rattle.law_workers.specs.Deeds.{Does}

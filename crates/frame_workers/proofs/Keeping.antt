@@ -14,7 +14,7 @@ use Rattle.shared_unit.proofs.Opening.{open_stays}
 use Rattle.shared_unit.proofs.Trust.{permit_stays}
 use Rattle.frame_workers.specs.declared.permits.Permits.{Permits}
 use Rattle.frame_workers.specs.Permits.{AreTrueFor}
-use Rattle.run_promise.specs.Begin.{Begin}
+use Rattle.run_promise.specs.Call.{Begin}
 use Rattle.law_workers.specs.Began.{BeganWith}
 
 -- a run that began with the opening

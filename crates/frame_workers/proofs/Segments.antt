@@ -14,8 +14,8 @@ use Rattle.counter_table.specs.Numbers.{amount}
 use Rattle.record_io.specs.declared.records.Record.{Record}
 use Rattle.record_io.specs.declared.answers.Answer.{Answer}
 use Rattle.record_io.specs.declared.kinds.TheConstants.{LANES}
-use Rattle.run_promise.specs.Begin.{Begin}
-use Rattle.run_promise.specs.Counts.{is_of_record, count_at}
+use Rattle.run_promise.specs.Call.{Begin}
+use Rattle.law_workers.specs.Counts.{is_of_record, count_at}
 use Rattle.law_workers.specs.Views.{KnowsMore, keeping, starting, meeting, Meets, log_of}
 use Rattle.law_workers.specs.Work.{indexed}
 use Rattle.law_workers.specs.Deeds.{deeds_of, Ascend}

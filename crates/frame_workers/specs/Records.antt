@@ -7,7 +7,7 @@ use Rattle.record_io.specs.declared.answers.Answer.{Answer}
 use Rattle.record_io.specs.declared.records.Record.{Record}
 use Rattle.unit_plan.specs.PlanLines.{PlanLines}
 use Rattle.shared_unit.specs.Turn.{IsReady, KnowsMoreOfBook}
-use Rattle.run_promise.specs.Begin.{Begin}
+use Rattle.run_promise.specs.Call.{Begin}
 use Rattle.law_workers.specs.Began.{BeganWith}
 use Rattle.law_workers.specs.Order.{Layout}
 use Rattle.law_calls.specs.Answering.{Answered, AnsweredExactly}

@@ -13,12 +13,13 @@ use Rattle.record_io.specs.Places.{records_of}
 use Rattle.record_io.specs.declared.kinds.RecordKind.{RecordKind}
 use Rattle.record_io.specs.declared.kinds.RecordKind.TheVariants.{Protect, Open, Command, Monitor}
 use Rattle.run_promise.specs.Answers.{Uses, Accepts, any_codes, codes_of}
-use Rattle.run_promise.specs.Run.{NearWord}
+use Rattle.run_promise.specs.History.{NearWord}
 use Rattle.law_history.proofs.Codes.{fits_code}
 use Rattle.run_promise.specs.Fits.{Course, Fits}
 use Rattle.run_promise.specs.Deed.{Deed}
 use Rattle.run_promise.specs.Sound.{deeds_octets}
-use Rattle.run_promise.specs.Life.{AreEnd, Given, LifeRun, IsRun, FollowFrom, IsLife, OnceInLife, AreApart, answers_begun, given_of, given_in}
+use Rattle.run_promise.specs.Life.{AreEnd, Given, LifeRun, IsRun, FollowFrom, IsLife, OnceInLife, AreApart}
+use Rattle.run_promise.specs.Life.{answers_begun, given_of, given_in}
 use Rattle.pair_audit.specs.Counted.{CountsAnswers, TellsAlike, TellAlike, counted_of}
 use Rattle.record_io.specs.AnswerReading.{IsAnswerCode}
 use Rattle.pair_audit.specs.Recording.{RunCounts, RunsCount, ReadsRuns, recording, recording_beginning, runs_octets}

@@ -16,8 +16,9 @@ use Rattle.unit_state.specs.Applied.{applied}
 use Rattle.unit_state.specs.History.{after}
 use Rattle.counter_table.specs.Turn.{places, stands}
 use Rattle.run_promise.specs.Log.{entries_of}
-use Rattle.run_promise.specs.Legal.{IsLegal, IsLegalAt}
-use Rattle.run_promise.specs.Counts.{count_at}
+use Rattle.run_promise.specs.History.{IsLegal}
+use Rattle.law_history.specs.Entries.{IsLegalAt}
+use Rattle.law_workers.specs.Counts.{count_at}
 use Rattle.law_workers.specs.Deeds.{IsLastAt}
 use Rattle.law_workers.specs.Order.{is_line, is_piece}
 use Rattle.law_workers.proofs.Logs.{more_stands}

@@ -24,13 +24,11 @@ use Rattle.unit_state.specs.History.{after}
 use Rattle.unit_state.specs.Restart.{still}
 use Rattle.counter_table.specs.declared.view.View.{View}
 use Rattle.run_promise.specs.Answers.{replied_told, Uses}
-use Rattle.run_promise.specs.Counts.{drawers}
-use Rattle.run_promise.specs.Entries.{record_entry, IsNeedOf, IsStepOf}
+use Rattle.run_promise.specs.History.{drawers, record_entry, IsNeedOf, IsStepOf, needed_key, KeyOf, SeesFor, SeenNear}
+use Rattle.run_promise.specs.History.{IsLegal}
 use Rattle.run_promise.specs.Fits.{CanAppend, CanChange, CanDraw, MayAppend, state_after}
-use Rattle.run_promise.specs.Legal.{needed_key, KeyOf, SeesFor, SeenNear, IsLegal}
-use Rattle.run_promise.specs.Log.{entries_of}
+use Rattle.run_promise.specs.Log.{entries_of, IsStored}
 use Rattle.run_promise.specs.Numbers.{reserve_of}
-use Rattle.run_promise.specs.Stored.{IsStored}
 use Rattle.law_history.proofs.StoredEntries.{stored_changes}
 use Rattle.law_history.proofs.Used.{used_needed}
 use Rattle.unit_book.specs.declared.fault.BookFault.{BookFault}
@@ -44,7 +42,7 @@ use Rattle.shared_unit.specs.Told.{known_of_book, entry_count}
 use Rattle.shared_unit.specs.Turn.{Visits}
 use Rattle.shared_unit.proofs.Places.{place_there}
 use Rattle.shared_unit.proofs.Reserved.{reserves_place}
-use Rattle.run_promise.specs.Begin.{Begin}
+use Rattle.run_promise.specs.Call.{Begin}
 use Rattle.law_workers.specs.Views.{IsBetween, IsRow, entries_in}
 use Rattle.law_workers.specs.Work.{IsAsked}
 use Rattle.law_workers.specs.Deeds.{course_in}

@@ -27,9 +27,8 @@ use Rattle.counter_table.specs.Known.{Earlier}
 use Rattle.counter_table.specs.declared.view.Numbers.{Numbers}
 use Rattle.counter_table.specs.Numbers.{top, arming}
 use Rattle.counter_table.specs.Turn.{places}
-use Rattle.run_promise.specs.Counts.{draws}
+use Rattle.run_promise.specs.History.{draws, record_entry, IsNeedOf, IsStepOf}
 use Rattle.run_promise.specs.Answers.{replied_told}
-use Rattle.run_promise.specs.Entries.{record_entry, IsNeedOf, IsStepOf}
 use Rattle.run_promise.specs.Log.{entries_of}
 use Rattle.run_promise.specs.Numbers.{mark_of, reserve_of}
 use Rattle.unit_book.specs.declared.fault.BookFault.{BookFault}
@@ -44,15 +43,15 @@ use Rattle.shared_unit.specs.Numbers.{Draws}
 use Rattle.shared_unit.specs.Told.{known_of_book}
 use Rattle.shared_unit.specs.Turn.{FindsCovered, Visits}
 use Rattle.shared_unit.proofs.Steps.{earlier_again}
-use Rattle.run_promise.specs.Begin.{Begin}
+use Rattle.run_promise.specs.Call.{Begin}
 use Rattle.law_workers.specs.Views.{entries_in, log_of}
 use Rattle.law_workers.specs.Deeds.{course_in}
 use Rattle.run_promise.specs.Deed.{deed_of}
 use Rattle.law_workers.specs.Order.{Layout}
-use Rattle.run_promise.specs.Machine.{Move, Kept, Found, Drew, Raised, Overdrew}
-use Rattle.run_promise.specs.Serving as machine
+use Rattle.run_promise.specs.Words.{Move, Kept, Found, Drew, Raised, Overdrew, TellsSeen, TellsCommand, TellsKind}
+use Rattle.run_promise.specs.Words.{Tells}
+use Rattle.run_promise.specs.OneLane as machine
 use Rattle.law_workers.specs.InTurn.{IsClean, AllStand}
-use Rattle.run_promise.specs.Moves.{TellsSeen, TellsCommand, TellsKind, Tells}
 use Rattle.law_workers.specs.Exact.{IsOfMoves}
 use Rattle.law_workers.specs.Began.{BeganWith}
 use Rattle.law_calls.specs.Answering.{answer_of, fault_answer, commanded_answer, AnsweredExactly}

@@ -7,10 +7,10 @@ use Rattle.record_io.specs.declared.records.Record.{Record}
 use Rattle.counter_table.specs.declared.view.Numbers.{Numbers}
 use Rattle.counter_table.specs.declared.view.View.{View}
 use Rattle.counter_table.specs.Numbers.{count_of, top, arming, raising}
-use Rattle.run_promise.specs.Counts.{drawers}
+use Rattle.run_promise.specs.History.{drawers}
 use Rattle.shared_unit.specs.Numbers.{Draws, ComesBack, RunsOut, UsesNumber}
 use Rattle.shared_unit.proofs.Tops.{top-append, top_here}
-use Rattle.run_promise.specs.Begin.{Begin}
+use Rattle.run_promise.specs.Call.{Begin}
 use Rattle.law_workers.specs.Views.{entries_in}
 use Rattle.law_workers.specs.Work.{IsAsked}
 use Rattle.law_calls.proofs.OneRecord.{Counted, one_all, none_all}

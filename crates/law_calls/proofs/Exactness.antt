@@ -15,17 +15,16 @@ use Rattle.record_io.specs.declared.kinds.RecordKind.TheVariants.{Protect, Open,
 use Rattle.record_io.specs.declared.records.Record.{Record}
 use Rattle.counter_table.specs.declared.view.View.{View}
 use Rattle.counter_table.specs.Turn.{places, stands}
-use Rattle.run_promise.specs.Counts.{draws}
+use Rattle.run_promise.specs.History.{draws}
 use Rattle.run_promise.specs.Answers.{counting}
 use Rattle.unit_book.specs.declared.fault.BookFault.{BookFault}
 use Rattle.unit_book.specs.declared.fault.BookFault.TheVariants as refusals
-use Rattle.run_promise.specs.Begin.{Begin}
+use Rattle.run_promise.specs.Call.{Begin}
 use Rattle.law_workers.specs.Views.{log_of, entries_in}
 use Rattle.run_promise.specs.Deed.{deed_of}
 use Rattle.law_workers.proofs.Logs.{more_stands}
-use Rattle.run_promise.specs.Machine.{Move, Kept, LiesBetween}
+use Rattle.run_promise.specs.Words.{Move, Kept, LiesBetween, Tells, TellsKind}
 use Rattle.law_workers.specs.Exact.{IsOfMoves, words_in}
-use Rattle.run_promise.specs.Moves.{Tells, TellsKind}
 use Rattle.law_workers.specs.InTurn.{IsClean, IsLevel, AllStand, IsBacked, ServedInTurn}
 use Rattle.law_workers.proofs.Machines.{exact_move, move_moves}
 use Rattle.law_calls.specs.Answering.{answer_of, unserved_answer, fault_answer, AnsweredExactly}

@@ -17,8 +17,9 @@ use Rattle.record_io.specs.declared.kinds.RecordKind.{RecordKind}
 use Rattle.record_io.specs.declared.kinds.RecordKind.TheVariants.{Protect, Open, Command, Monitor}
 use Rattle.record_io.specs.declared.code.TheConstants.{SITE_FAULT, STOPPED}
 use Rattle.run_promise.specs.Answers.{counting, opened_told, replied_told}
-use Rattle.run_promise.specs.Entries.{frame_entry, record_entry, IsStepOf}
-use Rattle.run_promise.specs.Fits.{Course, Fits, FitsAny, FitsKind, MayAppendOnce, TellsRisenCount, IsWanting, state_after}
+use Rattle.run_promise.specs.History.{frame_entry, record_entry, IsStepOf}
+use Rattle.run_promise.specs.Fits.{Course, Fits, FitsAny, FitsKind, MayAppendOnce, TellsRisenCount, IsWanting}
+use Rattle.run_promise.specs.Fits.{state_after}
 use Rattle.law_calls.specs.Answering.{answer_of, unserved_answer}
 
 pub after_front : (start : State) (es rest : List Entry) → after_first start (es ++ rest) (length es) ≡ after start es

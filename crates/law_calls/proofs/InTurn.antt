@@ -25,15 +25,15 @@ use Rattle.run_promise.specs.Numbers.{mark_of, mark_at}
 use Rattle.unit_book.specs.Book.{BookView, Enters}
 use Rattle.shared_unit.specs.Told.{known_of_book}
 use Rattle.shared_unit.specs.Turn.{FindsCovered, taking_once, Visits}
-use Rattle.run_promise.specs.Begin.{Begin}
+use Rattle.run_promise.specs.Call.{Begin}
 use Rattle.law_workers.specs.Views.{log_of, entries_in}
 use Rattle.run_promise.specs.Deed.{deed_of, is_monitored, tells_count}
 use Rattle.record_io.specs.declared.kinds.RecordKind.{RecordKind}
 use Rattle.record_io.specs.declared.kinds.RecordKind.TheVariants.{Protect, Open, Command, Monitor}
 use Rattle.std.proofs.lemmas.Bool.Decides.{nat_tests}
 use Rattle.law_workers.proofs.Rows.{mark_known}
-use Rattle.run_promise.specs.Machine.{Move}
-use Rattle.run_promise.specs.Serving.{AloneServes, has_failed}
+use Rattle.run_promise.specs.Words.{Move}
+use Rattle.run_promise.specs.OneLane.{AloneServes, has_failed}
 use Rattle.law_workers.specs.InTurn.{MadeAllLines, IsClean, IsLevel, AllStand, stood_in, AreOf, IsBacked, ServedInTurn}
 use Rattle.law_workers.proofs.Turns.{all_stood, level_on, backed_on, stood_is, stood_more, stood_on}
 use Rattle.law_workers.specs.Began.{BeganWith}

@@ -9,8 +9,8 @@ use Rattle.counter_table.specs.Numbers.{amount, top, raising}
 use Rattle.record_io.specs.declared.records.Record.{Record}
 use Rattle.shared_unit.specs.Numbers.{Draws}
 use Rattle.shared_unit.proofs.Tops.{top-append}
-use Rattle.run_promise.specs.Begin.{Begin}
-use Rattle.run_promise.specs.Machine.{Move, Kept, Found, Drew, Raised, Overdrew, adds, IsAt, LiesBetween}
+use Rattle.run_promise.specs.Call.{Begin}
+use Rattle.run_promise.specs.Words.{Move, Kept, Found, Drew, Raised, Overdrew, adds, IsAt, LiesBetween}
 use Rattle.law_workers.specs.Exact.{words_in}
 use Rattle.law_workers.proofs.Machines.{drew_alone, found_alone, raised_alone}
 use Rattle.law_calls.proofs.Counting.{Shows}

@@ -17,10 +17,11 @@ use Rattle.counter_table.specs.Numbers.{count_of, top}
 use Rattle.counter_table.specs.Turn.{places, epoch_seen}
 use Rattle.run_promise.specs.Log.{entries_of}
 use Rattle.run_promise.specs.Answers.{IsUnmade}
-use Rattle.run_promise.specs.Legal.{IsLegalAt}
-use Rattle.run_promise.specs.Counts.{is_of_record, is_of_none, count_at, drawers}
+use Rattle.law_history.specs.Entries.{IsLegalAt}
+use Rattle.law_workers.specs.Counts.{is_of_record, is_of_none, count_at}
+use Rattle.run_promise.specs.History.{drawers}
 use Rattle.run_promise.specs.Fits.{Fits}
-use Rattle.run_promise.specs.Begin.{Begin}
+use Rattle.run_promise.specs.Call.{Begin}
 use Rattle.law_workers.specs.Views.{Gains, Gained, KnowsMore, IsBetween, log_of, entries_in}
 use Rattle.law_workers.specs.Work.{indexed, IsAsked, Works}
 use Rattle.run_promise.specs.Deed.{Deed, deed_of}

@@ -14,13 +14,11 @@ use Rattle.unit_state.specs.declared.state.State.{State}
 use Rattle.unit_state.specs.History.{after}
 use Rattle.counter_table.specs.declared.view.View.{View}
 use Rattle.run_promise.specs.Answers.{opened_told, Uses}
-use Rattle.run_promise.specs.Counts.{is_of_record}
-use Rattle.run_promise.specs.Entries.{frame_entry}
+use Rattle.law_workers.specs.Counts.{is_of_record}
+use Rattle.run_promise.specs.History.{frame_entry, IsLegal}
 use Rattle.run_promise.specs.Fits.{CanAppend, CanRaiseFloor, MayAppend, state_after}
-use Rattle.run_promise.specs.Legal.{IsLegal}
-use Rattle.run_promise.specs.Log.{entries_of}
+use Rattle.run_promise.specs.Log.{entries_of, IsStored}
 use Rattle.run_promise.specs.Numbers.{floor_of}
-use Rattle.run_promise.specs.Stored.{IsStored}
 use Rattle.law_history.proofs.StoredEntries.{stored_raises}
 use Rattle.unit_book.specs.declared.fault.BookFault.{BookFault}
 use Rattle.unit_book.specs.Book.{BookView, CanEnter}
@@ -28,7 +26,7 @@ use Rattle.unit_book.specs.Records.{OpensWithEntry, RefusesFrame}
 use Rattle.shared_unit.specs.Calls.{WithPosition}
 use Rattle.shared_unit.specs.Told.{known_of_book}
 use Rattle.shared_unit.specs.Turn.{Visits}
-use Rattle.run_promise.specs.Begin.{Begin}
+use Rattle.run_promise.specs.Call.{Begin}
 use Rattle.law_workers.specs.Views.{IsBetween}
 use Rattle.law_workers.specs.Work.{indexed}
 use Rattle.law_workers.specs.Deeds.{course_in}

@@ -15,7 +15,7 @@ use Rattle.counter_table.specs.declared.view.Numbers.{Numbers}
 use Rattle.counter_table.specs.declared.view.View.{View}
 use Rattle.counter_table.specs.Turn.{places}
 use Rattle.run_promise.specs.Answers.{opened_told}
-use Rattle.run_promise.specs.Entries.{frame_entry}
+use Rattle.run_promise.specs.History.{frame_entry}
 use Rattle.run_promise.specs.Log.{entries_of}
 use Rattle.unit_book.specs.declared.fault.BookFault.{BookFault}
 use Rattle.unit_book.specs.declared.fault.BookFault.TheVariants as refusals
@@ -24,13 +24,12 @@ use Rattle.unit_book.specs.Records.{OpensWithEntry, RefusesFrame}
 use Rattle.shared_unit.specs.Calls.{WithPosition}
 use Rattle.shared_unit.specs.Told.{known_of_book}
 use Rattle.shared_unit.specs.Turn.{FindsCovered, Visits}
-use Rattle.run_promise.specs.Begin.{Begin}
+use Rattle.run_promise.specs.Call.{Begin}
 use Rattle.law_workers.specs.Views.{entries_in, log_of}
 use Rattle.run_promise.specs.Deed.{deed_of}
-use Rattle.run_promise.specs.Machine.{Kept}
-use Rattle.run_promise.specs.Serving.{now, AloneOpened, ServesKind, AloneServes}
+use Rattle.run_promise.specs.Words.{Kept, Tells, TellsKind}
+use Rattle.run_promise.specs.OneLane.{now, AloneOpened, ServesKind, AloneServes}
 use Rattle.law_workers.specs.InTurn.{IsClean, AllStand}
-use Rattle.run_promise.specs.Moves.{Tells, TellsKind}
 use Rattle.law_workers.specs.Began.{BeganWith}
 use Rattle.law_calls.specs.Answering.{answer_of, fault_answer, opened_answer, AnsweredExactly}
 use Rattle.law_calls.proofs.Behind.{lines_of, lines_entries}

@@ -22,7 +22,7 @@ use Rattle.frame_shield.specs.ShieldFault.{fault_number}
 use Rattle.frame_checks.specs.Header.{lacks_header, is_clear, channel_of}
 use Rattle.frame_checks.specs.Binding.{binding_of}
 use Rattle.frame_checks.specs.ProtectingFrames.{Answer, answer_on, channel_check, channel_on, protect_check, has_channel, tells_channel}
-use Rattle.run_promise.specs.ProtectingFrames.{layout_check, protect_reply}
+use Rattle.run_promise.specs.Fits.{layout_check, protect_reply}
 use Rattle.law_history.proofs.Epochs.{begins}
 use Rattle.law_workers.proofs.Histories.{row_kept_first}
 

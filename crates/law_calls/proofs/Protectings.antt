@@ -22,10 +22,10 @@ use Rattle.counter_table.specs.declared.view.View.{View}
 use Rattle.counter_table.specs.Numbers.{top}
 use Rattle.counter_table.specs.Turn.{epoch_seen, seeing}
 use Rattle.run_promise.specs.Answers.{Told, plain, numbered, fault_told, unbound_told, Uses}
-use Rattle.run_promise.specs.Counts.{drawers}
+use Rattle.run_promise.specs.History.{drawers}
 use Rattle.run_promise.specs.Fits.{Fits, FitsKind, IsBound, CanAppend, CanReserve, IsUnmarked, MayAppend, state_after}
+use Rattle.run_promise.specs.Fits.{protect_reply}
 use Rattle.run_promise.specs.Log.{entries_of}
-use Rattle.run_promise.specs.ProtectingFrames.{protect_reply}
 use Rattle.unit_book.specs.declared.fault.BookFault.{BookFault}
 use Rattle.unit_book.specs.Book.{BookView}
 use Rattle.unit_book.specs.Epoch.{binding_on}
@@ -39,7 +39,7 @@ use Rattle.shared_unit.specs.Protecting.{FailsAt, Funds, IsDrawnAndProtected, Is
 use Rattle.shared_unit.specs.Told.{entry_count}
 use Rattle.shared_unit.proofs.Checks.{bound_check}
 use Rattle.shared_unit.proofs.Passing.{reserves_changes}
-use Rattle.run_promise.specs.Begin.{Begin}
+use Rattle.run_promise.specs.Call.{Begin}
 use Rattle.law_workers.specs.Views.{IsBetween, IsRow, entries_in}
 use Rattle.run_promise.specs.Deed.{deed_of, is_entered, is_protected, epoch_told}
 use Rattle.law_workers.specs.Deeds.{course_in, StandsWithin}

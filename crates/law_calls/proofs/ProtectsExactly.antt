@@ -27,11 +27,11 @@ use Rattle.counter_table.specs.Numbers.{top, arming}
 use Rattle.counter_table.specs.Turn.{epoch_seen, places, seeing}
 use Rattle.frame_shield.specs.Binding.{clear_fault}
 use Rattle.frame_checks.specs.ProtectingFrames.{channel_check}
-use Rattle.run_promise.specs.Counts.{draws}
+use Rattle.run_promise.specs.History.{draws}
 use Rattle.run_promise.specs.Answers.{Told, plain, numbered, fault_told, unbound_told}
 use Rattle.run_promise.specs.Log.{entries_of}
 use Rattle.run_promise.specs.Numbers.{mark_of, reserve_of}
-use Rattle.run_promise.specs.ProtectingFrames.{protect_reply}
+use Rattle.run_promise.specs.Fits.{protect_reply}
 use Rattle.unit_book.specs.declared.fault.BookFault.{BookFault}
 use Rattle.unit_book.specs.declared.fault.BookFault.TheVariants as refusals
 use Rattle.unit_book.specs.Book.{BookView, IsBarred, IsUnstored, Made}
@@ -44,15 +44,14 @@ use Rattle.shared_unit.specs.Numbers.{Draws, ComesBack}
 use Rattle.shared_unit.specs.Protecting.{CoversIfTaken, Funds, IsDrawnAndProtected, IsProtectStep, IsRefusedAt, IsUsed, Looks, MayTakeTurn, Rests, RunsOutUnder, TakesTurn}
 use Rattle.shared_unit.specs.Told.{known_of_book}
 use Rattle.shared_unit.proofs.Steps.{earlier_again}
-use Rattle.run_promise.specs.Begin.{Begin}
+use Rattle.run_promise.specs.Call.{Begin}
 use Rattle.law_workers.specs.Views.{entries_in, log_of}
 use Rattle.run_promise.specs.Deed.{deed_of, tells_count}
 use Rattle.law_workers.specs.Order.{Layout}
-use Rattle.run_promise.specs.Machine.{Move, Kept, Found, Drew, Overdrew}
-use Rattle.run_promise.specs.Serving as machine
+use Rattle.run_promise.specs.Words.{Move, Kept, Found, Drew, Overdrew, TellsProtect, TellsKind, Tells}
+use Rattle.run_promise.specs.OneLane as machine
 use Rattle.law_workers.specs.InTurn.{IsClean, IsLevel, AllStand, stood_in, IsBacked}
 use Rattle.law_workers.proofs.Turns.{all_stood, stood_on}
-use Rattle.run_promise.specs.Moves.{TellsProtect, TellsKind, Tells}
 use Rattle.law_workers.specs.Began.{BeganWith}
 use Rattle.law_calls.specs.Answering.{answer_of, fault_answer, protected_answer, AnsweredExactly}
 use Rattle.law_calls.proofs.Behind.{lines_of}

@@ -27,7 +27,7 @@ use Rattle.shared_unit.specs.Calls.{IsPut}
 use Rattle.shared_unit.specs.Told.{known_of_book}
 use Rattle.shared_unit.specs.Turn.{taking_once}
 use Rattle.shared_unit.proofs.Steps.{earlier_again}
-use Rattle.run_promise.specs.Begin.{Begin}
+use Rattle.run_promise.specs.Call.{Begin}
 use Rattle.law_workers.specs.Views.{Gains, log_of, entries_in, KnowsMore, Gained}
 use Rattle.law_workers.specs.Work.{Worked}
 use Rattle.law_workers.specs.Settles.{SettlesAt}

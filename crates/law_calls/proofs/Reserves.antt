@@ -10,9 +10,8 @@ use Rattle.unit_state.specs.History.{after}
 use Rattle.unit_state.specs.Restart.{still}
 use Rattle.unit_state.proofs.StateLaws.{light_still}
 use Rattle.record_io.specs.declared.kinds.RecordKind.TheVariants.{Monitor}
-use Rattle.run_promise.specs.Counts.{drawers}
+use Rattle.run_promise.specs.History.{drawers, IsLegal}
 use Rattle.run_promise.specs.Fits.{MayAppend, IsUnmarked, state_after}
-use Rattle.run_promise.specs.Legal.{IsLegal}
 use Rattle.run_promise.specs.Log.{entries_of}
 use Rattle.run_promise.specs.Numbers.{mark_of, reserve_of}
 use Rattle.unit_book.specs.declared.fault.BookFault.{BookFault}

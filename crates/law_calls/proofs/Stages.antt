@@ -21,20 +21,18 @@ use Rattle.counter_table.specs.declared.view.Opening.{Opening}
 use Rattle.counter_table.specs.declared.view.Turn.{Turn}
 use Rattle.counter_table.specs.declared.view.View.{View}
 use Rattle.counter_table.specs.Turn.{epoch_seen, places}
-use Rattle.run_promise.specs.Site.{SiteSeen}
+use Rattle.run_promise.specs.Call.{SiteSeen, Begin}
 use Rattle.run_promise.specs.Answers.{Told, counting, plain, Uses, IsUnmade}
-use Rattle.run_promise.specs.Counts.{is_index, is_of_record, is_of_none, count_at, drawers}
+use Rattle.law_workers.specs.Counts.{is_index, is_of_record, is_of_none, count_at}
+use Rattle.run_promise.specs.History.{drawers, IsLegal}
 use Rattle.run_promise.specs.Fits.{Course, Fits, MayAppend, state_after}
-use Rattle.run_promise.specs.Legal.{IsLegal}
-use Rattle.run_promise.specs.Log.{entries_of}
-use Rattle.run_promise.specs.Stored.{IsStored}
+use Rattle.run_promise.specs.Log.{entries_of, IsStored}
 use Rattle.unit_book.specs.declared.fault.BookFault.{BookFault}
 use Rattle.unit_book.specs.declared.fault.BookFault.TheVariants as refusals
 use Rattle.run_promise.specs.declared.limits.TheConstants.{MOST_ENTRIES}
 use Rattle.unit_book.specs.Book.{BookView, CanEnter, Enters, IsBarred, IsUnstored}
 use Rattle.shared_unit.specs.Told.{known_of_book, entry_count}
 use Rattle.shared_unit.specs.Turn.{Visits}
-use Rattle.run_promise.specs.Begin.{Begin}
 use Rattle.law_workers.specs.Views.{Gains, IsBetween, IsRow, log_of, entries_in}
 use Rattle.law_workers.specs.Work.{indexed}
 use Rattle.run_promise.specs.Deed.{deed_of, is_entered, is_monitored, is_protected, epoch_told}

@@ -3,7 +3,7 @@ use Rattle.std.proofs.Common.{ℕ, [], Some, refl, sym, append-nil, arith}
 use Rattle.record_io.specs.declared.records.Record.{Record}
 use Rattle.record_io.specs.declared.code.TheConstants.{NO_MEMORY}
 use Rattle.counter_table.specs.declared.view.View.{View}
-use Rattle.run_promise.specs.Begin.{Begin}
+use Rattle.run_promise.specs.Call.{Begin}
 use Rattle.law_workers.specs.Views.{IsBetween}
 use Rattle.law_workers.specs.Deeds.{course_in}
 use Rattle.law_workers.specs.Order.{Layout}
@@ -11,7 +11,7 @@ use Rattle.law_calls.specs.Answering.{Answered, AnsweredExactly, unserved_answer
 use Rattle.law_calls.proofs.Counting.{counted_none}
 use Rattle.law_calls.proofs.Fitted.{wanting_fits}
 use Rattle.law_calls.proofs.OneRecord.{Turned, handled_answered}
-use Rattle.run_promise.specs.Machine.{Kept}
+use Rattle.run_promise.specs.Words.{Kept}
 use Rattle.law_calls.proofs.Moving.{moves_none}
 use Rattle.law_calls.proofs.Exactness.{wanting_exactly}
 use Rattle.law_calls.proofs.InTurn.{looks_pass}

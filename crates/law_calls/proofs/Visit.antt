@@ -21,7 +21,7 @@ use Rattle.unit_book.proofs.KeptLaws.{kept_whole, bounds_of}
 use Rattle.shared_unit.specs.Told.{known_of_book}
 use Rattle.shared_unit.specs.Turn.{taking_once, Visits}
 use Rattle.shared_unit.proofs.Steps.{earlier_again, sparing_again}
-use Rattle.run_promise.specs.Begin.{Begin}
+use Rattle.run_promise.specs.Call.{Begin}
 use Rattle.law_workers.proofs.Histories.{row_kept_first, entries_both as both}
 use Rattle.law_workers.specs.Began.{BeganWith}
 use Rattle.law_calls.proofs.Behind.{lines_of, lines_entries, lines_length}

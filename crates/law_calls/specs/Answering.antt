@@ -19,7 +19,7 @@ use Rattle.shared_unit.specs.Calls.{WithPosition}
 use Rattle.shared_unit.specs.Commanding.{IsCommanded}
 use Rattle.shared_unit.specs.Told.{known_of_book}
 use Rattle.shared_unit.specs.Turn.{Visits}
-use Rattle.run_promise.specs.Begin.{Begin}
+use Rattle.run_promise.specs.Call.{Begin}
 use Rattle.run_promise.specs.Deed.{deed_of}
 use Rattle.law_workers.specs.Order.{Layout, Handled}
 use Rattle.law_workers.specs.Ends.{IsFullFor}

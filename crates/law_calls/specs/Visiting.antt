@@ -3,7 +3,7 @@ use Rattle.std.specs.Prelude.{◌≡◌, Bool, false}
 use Rattle.counter_table.specs.declared.view.View.{View}
 use Rattle.unit_book.specs.Book.{BookView}
 use Rattle.shared_unit.specs.Turn.{Visits}
-use Rattle.run_promise.specs.Begin.{Begin}
+use Rattle.run_promise.specs.Call.{Begin}
 use Rattle.law_workers.specs.Began.{BeganWith}
 
 -- A worker of the run, which had not the turn, took it once, with the one book found and the other given back, and left

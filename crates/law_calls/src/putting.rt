@@ -8,7 +8,7 @@ ghost use Rattle.unit_book.specs.declared.fault.BookFault.{BookFault};
 ghost use Rattle.unit_book.specs.Book.{BookView};
 ghost use Rattle.shared_unit.specs.Calls.{IsPut};
 ghost use Rattle.shared_unit.specs.Told.{known_of_book};
-ghost use Rattle.run_promise.specs.Begin.{Begin};
+ghost use Rattle.run_promise.specs.Call.{Begin};
 ghost use Rattle.law_workers.specs.Work.{Worked};
 ghost use Rattle.law_workers.specs.Settles.{SettlesAt};
 ghost use Rattle.law_calls.specs.Visiting.{Visited};

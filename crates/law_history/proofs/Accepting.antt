@@ -45,9 +45,10 @@ use Rattle.frame_checks.specs.declared.open_reply.OpenReply.TheVariants as opens
 use Rattle.frame_checks.specs.OpeningFrames.{IsOpenReply}
 use Rattle.frame_checks.proofs.Replies.{any_reply_may}
 use Rattle.record_io.specs.declared.records.Record.{Record}
-use Rattle.run_promise.specs.Numbers.{floor_of, released_floor}
-use Rattle.run_promise.specs.Legal.{IsLegal, IsRelease, IsEntry}
-use Rattle.run_promise.specs.Taken.{kept_floor, IsTaken}
+use Rattle.run_promise.specs.Numbers.{floor_of, released_floor, kept_floor}
+use Rattle.run_promise.specs.History.{IsLegal, IsRelease}
+use Rattle.law_history.specs.Entries.{IsEntry}
+use Rattle.law_history.specs.Taken.{IsTaken}
 use Rattle.law_history.proofs.Legal.{of_step, command_marks, frame_marks, legal_allowed}
 use Rattle.law_history.proofs.Marks.{row_named, floor_is, release_entry}
 use Rattle.law_history.proofs.Highs.{IsKeptBy, Holds, Covers, receiver, receives, one_receiver, taken_unmarked}

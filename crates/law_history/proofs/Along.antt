@@ -18,10 +18,10 @@ use Rattle.unit_state.specs.Restart.{restarted}
 use Rattle.unit_state.proofs.RulesKept.{rules_kept}
 use Rattle.record_io.specs.declared.records.Record.{Record}
 use Rattle.record_io.specs.Places.{Place, records_of}
-use Rattle.run_promise.specs.Numbers.{mark_of, floor_of, released_floor}
-use Rattle.run_promise.specs.Legal.{IsLegal, IsRelease, IsEntry}
-use Rattle.run_promise.specs.Run.{AcceptsAt, NearWord, TurnIn, LegalRun, IsLegalHistory}
-use Rattle.run_promise.specs.Taken.{kept_floor, IsTaken}
+use Rattle.run_promise.specs.Numbers.{mark_of, floor_of, released_floor, kept_floor}
+use Rattle.run_promise.specs.History.{IsLegal, IsRelease, AcceptsAt, NearWord, TurnIn, LegalRun, IsLegalHistory}
+use Rattle.law_history.specs.Entries.{IsEntry}
+use Rattle.law_history.specs.Taken.{IsTaken}
 use Rattle.law_history.specs.Laws.{IsBelowReleases, NumbersRise}
 use Rattle.law_history.proofs.Legal.{legal_allowed, release_is_allowed}
 use Rattle.law_history.proofs.Marks.{mark_from_one, numbers_up, legal_up, release_entry, release_marks}

@@ -12,10 +12,9 @@ use Rattle.record_io.specs.declared.kinds.RecordKind.{RecordKind}
 use Rattle.record_io.specs.declared.kinds.RecordKind.TheVariants.{Open, Command}
 use Rattle.record_io.specs.declared.records.Record.{Record}
 use Rattle.record_io.specs.Places.{Place, records_of}
-use Rattle.run_promise.specs.Entries.{record_entry}
+use Rattle.run_promise.specs.History.{record_entry, SeesFor, NearWord, IsLegalHistory}
 use Rattle.run_promise.specs.Numbers.{mark_of}
-use Rattle.run_promise.specs.Legal.{SeesFor, IsEntry}
-use Rattle.run_promise.specs.Run.{NearWord, IsLegalHistory, IsOneOf}
+use Rattle.law_history.specs.Entries.{IsEntry, IsOneOf}
 use Rattle.run_promise.specs.Answers.{Told, told_by, replied_told, IsCodeOf, Uses}
 use Rattle.run_promise.specs.Fits.{Course, state_before, IsCommandAnswer, FitsKind, Fits}
 use Rattle.law_history.proofs.Along.{is_entry}

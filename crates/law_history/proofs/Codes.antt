@@ -17,12 +17,10 @@ use Rattle.record_io.specs.declared.kinds.RecordKind.{RecordKind}
 use Rattle.record_io.specs.declared.kinds.RecordKind.TheVariants.{Protect, Open, Command, Monitor}
 use Rattle.record_io.specs.declared.records.Record.{Record}
 use Rattle.record_io.specs.Places.{Place, records_of}
-use Rattle.run_promise.specs.Entries.{frame_entry, raised_floor}
-use Rattle.run_promise.specs.ProtectingFrames.{protect_reply}
+use Rattle.run_promise.specs.History.{frame_entry, raised_floor, AcceptsAt, TurnIn, IsLegalHistory}
+use Rattle.run_promise.specs.Fits.{protect_reply, Course, state_in, state_before, IsOpenAnswer, FitsAny, FitsKind, Fits}
 use Rattle.run_promise.specs.Answers.{Told, told_by, opened_told, replied_told, unbound_told, monitored_told, IsCodeOf}
 use Rattle.run_promise.specs.Answers.{Accepts}
-use Rattle.run_promise.specs.Fits.{Course, state_in, state_before, IsOpenAnswer, FitsAny, FitsKind, Fits}
-use Rattle.run_promise.specs.Run.{AcceptsAt, TurnIn, IsLegalHistory}
 use Rattle.law_history.proofs.Along.{of_places, accepted_twice}
 
 -- ---- codes

@@ -11,9 +11,7 @@ use Rattle.unit_state.specs.declared.state.State.{State}
 use Rattle.unit_state.specs.Applied.{applied}
 use Rattle.unit_state.specs.History.{after, after_first}
 use Rattle.record_io.specs.declared.records.Record.{Record}
-use Rattle.run_promise.specs.Legal.{IsLegal, IsRelease}
-use Rattle.run_promise.specs.Counts.{drawers, reserves_of}
-use Rattle.run_promise.specs.Run.{NearWord, LegalRun}
+use Rattle.run_promise.specs.History.{IsLegal, IsRelease, drawers, reserves_of, NearWord, LegalRun}
 use Rattle.law_history.proofs.Legal.{legal_wider, release_wider}
 use Rattle.law_history.proofs.Marks.{release_entry}
 use Rattle.law_history.proofs.GoingOn.{get_front, first_stays, near_more}

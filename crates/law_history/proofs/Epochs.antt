@@ -8,7 +8,7 @@ use Rattle.unit_state.specs.Applied.{applied}
 use Rattle.unit_state.specs.Restart.{counts}
 use Rattle.unit_state.specs.History.{after, after_first, at_epoch, epoch_after}
 use Rattle.unit_state.proofs.Histories.{at_epoch_more}
-use Rattle.run_promise.specs.Taken.{IsLoadedWith}
+use Rattle.law_history.specs.Taken.{IsLoadedWith}
 use Rattle.law_history.specs.Laws.{BeginsAt}
 use Rattle.law_history.proofs.Along.{along_to}
 use Rattle.law_history.proofs.Loaded.{loaded_step}

@@ -22,16 +22,14 @@ use Rattle.record_io.specs.declared.kinds.RecordKind.{RecordKind}
 use Rattle.record_io.specs.declared.kinds.RecordKind.TheVariants.{Protect, Open, Command, Monitor}
 use Rattle.record_io.specs.declared.records.Record.{Record}
 use Rattle.run_promise.specs.Numbers.{floor_of}
-use Rattle.run_promise.specs.Entries.{IsNeedOf, IsStepOf, frame_entry, record_entry}
+use Rattle.run_promise.specs.History.{IsNeedOf, IsStepOf, frame_entry, record_entry, KeyOf, SeesFor, AsksFor, IsLegal}
+use Rattle.run_promise.specs.History.{drawers, IsAskedFor, NearWord}
 use Rattle.run_promise.specs.Log.{entries_of}
-use Rattle.run_promise.specs.Legal.{KeyOf, SeesFor, AsksFor, IsLegal, IsLegalAt}
-use Rattle.run_promise.specs.Counts.{drawers}
-use Rattle.run_promise.specs.Run.{IsAskedFor, NearWord}
-use Rattle.run_promise.specs.ProtectingFrames.{protect_reply}
+use Rattle.law_history.specs.Entries.{IsLegalAt, grown}
+use Rattle.run_promise.specs.Fits.{protect_reply, Course, IsUnmarked, CanReserve, CanRaiseFloor, CanChange, CanDraw}
+use Rattle.run_promise.specs.Fits.{CanAppend, MayAppendOnce, IsBound, StandsAt, state_before, TellsRisenCount, FitsAny}
+use Rattle.run_promise.specs.Fits.{FitsKind, Fits}
 use Rattle.run_promise.specs.Answers.{told_by, unbound_told}
-use Rattle.run_promise.specs.Fits.{Course, grown, IsUnmarked, CanReserve, CanRaiseFloor, CanChange, CanDraw, CanAppend}
-use Rattle.run_promise.specs.Fits.{MayAppendOnce, IsBound, StandsAt, state_before, TellsRisenCount, FitsAny, FitsKind}
-use Rattle.run_promise.specs.Fits.{Fits}
 use Rattle.law_history.proofs.Legal.{seen_wider, legal_wider}
 
 -- ---- lists

@@ -30,8 +30,8 @@ use Rattle.ep_core.specs.Refusals.{refusal_of}
 use Rattle.ep_core.specs.Step.{IsDone, refused}
 use Rattle.ep_core.proofs.Allowed.{change_allowed}
 use Rattle.record_io.specs.declared.records.Record.{Record}
-use Rattle.run_promise.specs.Entries.{frame_change, IsStepOf}
-use Rattle.run_promise.specs.Legal.{SeesFor, SeenNear, anywhere, IsLegal, IsRelease}
+use Rattle.run_promise.specs.History.{frame_change, IsStepOf, SeesFor, SeenNear, IsLegal, IsRelease}
+use Rattle.law_history.specs.Entries.{anywhere}
 use Rattle.law_history.specs.Laws.{IsOfCommand}
 use Rattle.run_promise.proofs.Marking.{reserve_allowed, release_of_allowed}
 use Rattle.run_promise.proofs.Accepted.{accept_allowed}

@@ -28,7 +28,7 @@ use Rattle.unit_state.proofs.Found.{held_rules}
 use Rattle.unit_state.proofs.Held.{row_of_changed}
 use Rattle.unit_state.proofs.KeyRules.{stands, row_of_moved}
 use Rattle.unit_state.proofs.RulesKept.{there}
-use Rattle.run_promise.specs.Taken.{IsLoadedWith}
+use Rattle.law_history.specs.Taken.{IsLoadedWith}
 use Rattle.law_history.proofs.Marks.{row_named}
 
 -- ---- digests stay

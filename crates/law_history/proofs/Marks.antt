@@ -20,8 +20,7 @@ use Rattle.unit_state.proofs.KeyRules.{equal_number}
 use Rattle.unit_state.proofs.StateLaws.{rises, fall_only_to}
 use Rattle.record_io.specs.declared.records.Record.{Record}
 use Rattle.run_promise.specs.Numbers.{mark_of, floor_of, reserve_of, released_floor, is_released, release_of}
-use Rattle.run_promise.specs.Entries.{frame_change}
-use Rattle.run_promise.specs.Legal.{IsLegal, IsRelease}
+use Rattle.run_promise.specs.History.{frame_change, IsLegal, IsRelease}
 use Rattle.law_history.specs.Laws.{NumbersRise}
 use Rattle.law_history.proofs.Legal.{of_step, command_marks, frame_marks}
 

@@ -20,7 +20,7 @@ use Rattle.frame_checks.specs.declared.open_reply.OpenReply.{OpenReply}
 use Rattle.frame_checks.specs.declared.open_reply.OpenReply.TheVariants as opens
 use Rattle.frame_checks.specs.OpeningFrames.{IsOpenReply, IsReplyOn, IsReplyUnder, IsOpenedUnder, IsJudged, IsToldOr}
 use Rattle.frame_checks.specs.OpeningFrames.{frame_checks, association_checks, number_of_fault}
-use Rattle.run_promise.specs.Entries.{frame_change}
+use Rattle.run_promise.specs.History.{frame_change}
 use Rattle.run_promise.specs.Answers.{opened_told}
 
 -- ---- openings

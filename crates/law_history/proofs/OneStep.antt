@@ -19,7 +19,7 @@ use Rattle.ep_core.specs.declared.refusal.Refusal.TheVariants.{PduFault}
 use Rattle.ep_core.specs.declared.reply.Reply.{Reply}
 use Rattle.ep_core.specs.Refusals.{refusal_of}
 use Rattle.ep_core.specs.Step.{IsStep, IsDone, telling, refused}
-use Rattle.run_promise.specs.Entries.{IsStepOf}
+use Rattle.run_promise.specs.History.{IsStepOf}
 use Rattle.law_history.proofs.OneInventory.{inventory_one}
 
 some_one : {X : Type 0} (o : Option X) (f : X → Change × Reply) (step other : Change × Reply)

@@ -15,7 +15,8 @@ use Rattle.unit_state.specs.History.{after_first}
 use Rattle.unit_state.proofs.KeyRules.{equal_number, number_test}
 use Rattle.unit_state.proofs.RulesKept.{rules_kept}
 use Rattle.run_promise.specs.Numbers.{released_floor, release_of, release_at, releases}
-use Rattle.run_promise.specs.Legal.{IsRelease, AreNear}
+use Rattle.run_promise.specs.History.{IsRelease}
+use Rattle.law_history.specs.Entries.{AreNear}
 use Rattle.law_history.proofs.Legal.{release_is_allowed}
 use Rattle.law_history.proofs.Marks.{release_entry}
 use Rattle.law_history.proofs.GoingOn.{get_front, first_stays}

@@ -17,8 +17,8 @@ use Rattle.unit_state.proofs.KeyRules.{number_test}
 use Rattle.frame_checks.specs.declared.open_reply.OpenReply.{OpenReply}
 use Rattle.frame_checks.specs.declared.open_reply.OpenReply.TheVariants as opens
 use Rattle.run_promise.specs.Numbers.{floor_of}
-use Rattle.run_promise.specs.Entries.{frame_entry, raised_floor}
-use Rattle.run_promise.specs.Stored.{IsStored}
+use Rattle.run_promise.specs.History.{frame_entry, raised_floor}
+use Rattle.run_promise.specs.Log.{IsStored}
 use Rattle.law_history.specs.Laws.{RaisesFloor}
 use Rattle.law_history.proofs.Marks.{floor_is}
 

@@ -33,8 +33,7 @@ use Rattle.ep_core.specs.Step.{IsDone, refused, using_number}
 use Rattle.ep_core.proofs.ComposeFacts.{none_append}
 use Rattle.ep_core.proofs.SealedFacts.{passed_both}
 use Rattle.run_promise.specs.Numbers.{mark_of}
-use Rattle.run_promise.specs.Entries.{IsNeedOf, IsStepOf}
-use Rattle.run_promise.specs.Legal.{SeesFor, IsReserve}
+use Rattle.run_promise.specs.History.{IsNeedOf, IsStepOf, SeesFor, IsReserve}
 use Rattle.law_history.proofs.Marks.{mark_is}
 use Rattle.run_promise.proofs.Marking.{mark_above}
 

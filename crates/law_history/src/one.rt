@@ -10,7 +10,7 @@ ghost use Rattle.frame_checks.specs.declared.open_reply.OpenReply.{OpenReply};
 ghost use Rattle.frame_checks.specs.OpeningFrames.{IsOpenReply};
 ghost use Rattle.ep_core.specs.declared.need.Need.{Need};
 ghost use Rattle.ep_core.specs.declared.reply.Reply.{Reply};
-ghost use Rattle.run_promise.specs.Entries.{frame_change, IsNeedOf, IsStepOf};
+ghost use Rattle.run_promise.specs.History.{frame_change, IsNeedOf, IsStepOf};
 ghost use Rattle.run_promise.specs.Answers.{opened_told};
 
 use frame_shield::opens_once;

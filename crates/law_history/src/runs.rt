@@ -7,7 +7,7 @@ ghost use Rattle.unit_state.specs.declared.state.State.{State};
 ghost use Rattle.unit_state.specs.State.{KeepsRules};
 ghost use Rattle.unit_state.specs.History.{after_first};
 ghost use Rattle.record_io.specs.Places.{Place};
-ghost use Rattle.run_promise.specs.Run.{IsLegalHistory};
+ghost use Rattle.run_promise.specs.History.{IsLegalHistory};
 
 /// Law: each state of a legal history keeps the rules.
 pub fn rules_stay_along()

@@ -8,7 +8,7 @@ use Rattle.frame_shield.specs.Opens.{Opens}
 use Rattle.frame_shield.specs.Protects.{Protects}
 use Rattle.record_io.specs.Places.{records_of}
 use Rattle.run_promise.specs.Deed.{Deed}
-use Rattle.run_promise.specs.Run.{NearWord, TurnIn}
+use Rattle.run_promise.specs.History.{NearWord, TurnIn}
 use Rattle.run_promise.specs.Life.{Given, AcceptsOctets, AreApart, OnceInLife, IsLife, IsRun, FollowFrom, LifeRun}
 use Rattle.run_promise.specs.Life.{answers_begun, given_of, given_in}
 use Rattle.law_history.proofs.Along.{of_places, rules_along}

@@ -34,8 +34,7 @@ use Rattle.unit_plan.specs.PlanLines.{PlanLines, link_of}
 use Rattle.unit_state.specs.declared.state.State.{State}
 use Rattle.unit_state.specs.State.{KeepsRules, key_row}
 use Rattle.run_promise.specs.Answers.{Told, told_by, opened_told, unbound_told, IsCodeOf}
-use Rattle.run_promise.specs.ProtectingFrames.{protect_reply}
-use Rattle.run_promise.specs.Fits.{Course, FitsKind, Fits, IsProtected, state_in, state_before}
+use Rattle.run_promise.specs.Fits.{protect_reply, Course, FitsKind, Fits, IsProtected, state_in, state_before}
 use Rattle.law_history.proofs.Codes.{accepting_opening, fits_code}
 use Rattle.run_promise.specs.Life.{Given, AcceptsOctets}
 use Rattle.law_links.specs.Carried.{IsReceivedUnder, IsSentUnder}

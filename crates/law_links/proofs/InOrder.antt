@@ -10,7 +10,7 @@ use Rattle.unit_state.specs.Allows.{Allows, AllowsAccepted}
 use Rattle.unit_state.specs.History.{after_first}
 use Rattle.unit_state.proofs.RulesKept.{there}
 use Rattle.run_promise.specs.Fits.{Course, Fits}
-use Rattle.run_promise.specs.Run.{AcceptsAt, NearWord, TurnIn, IsLegalHistory}
+use Rattle.run_promise.specs.History.{AcceptsAt, NearWord, TurnIn, IsLegalHistory}
 use Rattle.law_history.proofs.Accepting.{reached}
 use Rattle.law_history.proofs.Along.{OfRun, of_places, accepted_taken, allowed_along}
 use Rattle.law_history.proofs.Codes.{accepting_opening, accepts_at}

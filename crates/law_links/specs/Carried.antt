@@ -12,8 +12,7 @@ use Rattle.frame_checks.specs.Header.{HasRoom}
 use Rattle.frame_checks.specs.OpeningFrames.{association_in}
 use Rattle.record_io.specs.declared.code.TheConstants.{ACCEPTED}
 use Rattle.unit_plan.specs.PlanLines.{link_of}
-use Rattle.run_promise.specs.ProtectingFrames.{protect_reply}
-use Rattle.run_promise.specs.Fits.{state_in, state_before}
+use Rattle.run_promise.specs.Fits.{protect_reply, state_in, state_before}
 use Rattle.run_promise.specs.Life.{Given}
 
 -- both have the same key octets, suite, layout and mask

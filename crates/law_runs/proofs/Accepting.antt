@@ -5,7 +5,7 @@ use Rattle.std.specs.List.{All, AllPairs, slice_index_or}
 use Rattle.record_io.specs.Places.{Place, records_of}
 use Rattle.unit_state.specs.Restart.{restarted}
 use Rattle.run_promise.specs.Numbers.{floor_of}
-use Rattle.run_promise.specs.Run.{IsLegalHistory, TurnIn}
+use Rattle.run_promise.specs.History.{IsLegalHistory, TurnIn}
 use Rattle.run_promise.specs.Answers.{Accepts}
 use Rattle.run_promise.specs.Fits.{Course, Fits}
 use Rattle.law_history.proofs.Along.{accepted_above, accepted_late, of_places}

@@ -26,21 +26,20 @@ use Rattle.unit_state.specs.History.{after, after_first}
 use Rattle.run_promise.specs.Answers.{SaysSiteFailed, codes_of}
 use Rattle.run_promise.specs.Fits.{Course, Fits}
 use Rattle.run_promise.specs.Numbers.{releases, mark_at}
-use Rattle.run_promise.specs.Run.{IsLegalHistory, NearWord}
+use Rattle.run_promise.specs.History.{IsLegalHistory, NearWord}
 use Rattle.law_history.proofs.Codes.{fits_code}
 use Rattle.run_promise.specs.declared.limits.TheConstants.{MOST_ENTRIES}
-use Rattle.run_promise.specs.Begin.{Begin}
+use Rattle.run_promise.specs.Call.{Begin, CallSeen, ShowsAtEntry, image_at_entry}
 use Rattle.run_promise.specs.Deed.{Deed}
-use Rattle.run_promise.specs.Machine.{Move, Runs, adds_all}
+use Rattle.run_promise.specs.Words.{Move, Runs, adds_all}
 use Rattle.fsr_log.specs.Noted.{Noted}
-use Rattle.run_promise.specs.Reports.{AreReported}
-use Rattle.run_promise.specs.Serving.{AreServed, SameTasks, ServesAll}
-use Rattle.run_promise.specs.Alone.{OneLane, IsExact}
+use Rattle.run_promise.specs.Sound.{AreReported}
+use Rattle.law_workers.specs.Served.{AreServed, SameTasks}
+use Rattle.run_promise.specs.OneLane.{ServesAll, OneLane, IsExact}
 use Rattle.run_promise.specs.declared.end.RunEnd.{RunEnd}
 use Rattle.run_promise.specs.declared.end.RunEnd.TheVariants.{Ended, SiteFault}
-use Rattle.run_promise.specs.Call.{CallSeen, ShowsAtEntry, image_at_entry}
-use Rattle.run_promise.specs.Account.{Account, begin_of, course_of, deeds_from, deeds_in, due_octets, end_answer, end_octets, end_status}
-use Rattle.run_promise.specs.Causes.{TellsEnd}
+use Rattle.run_promise.specs.Account.{Account, begin_of, course_of, deeds_from, deeds_in, due_octets, end_answer}
+use Rattle.run_promise.specs.Account.{end_octets, end_status, TellsEnd}
 use Rattle.run_promise.specs.Ends.{IsReleased, IsSoundCall, RunEnds, due_releases}
 use Rattle.law_runs.specs.Says.{IsUnfailed, NoneFails, NoneWants}
 

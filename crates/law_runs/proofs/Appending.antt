@@ -9,7 +9,7 @@ use Rattle.record_io.specs.declared.records.Record.{Record}
 use Rattle.unit_plan.specs.PlanLines.{PlanLines}
 use Rattle.unit_state.specs.declared.state.State.{State}
 use Rattle.run_promise.specs.Fits.{Course, CanAppend, IsUnmarked, MayAppend}
-use Rattle.run_promise.specs.Legal.{SeenNear}
+use Rattle.run_promise.specs.History.{SeenNear}
 
 seen_near : (near far : ℕ → ℕ → Type 0) → ((k n : ℕ) → near k n → far k n) → (k : ℕ) (seen : Seen) → SeenNear near k seen → SeenNear far k seen
 seen_near near far more k seens.Nothing h = h

@@ -13,11 +13,10 @@ use Rattle.unit_plan.specs.PlanRules.{IsPlan}
 use Rattle.unit_state.specs.State.{KeepsRules}
 use Rattle.unit_state.specs.Restart.{restarted}
 use Rattle.unit_state.specs.History.{after, epoch_after}
-use Rattle.run_promise.specs.Counts.{drawers}
-use Rattle.run_promise.specs.Run.{NearWord, IsLegalHistory, TurnIn}
+use Rattle.run_promise.specs.History.{drawers, NearWord, IsLegalHistory, TurnIn}
 use Rattle.run_promise.specs.Fits.{Course, Fits}
 use Rattle.law_history.proofs.Along.{of_places}
-use Rattle.run_promise.specs.Begin.{Begin}
+use Rattle.run_promise.specs.Call.{Begin}
 use Rattle.law_workers.specs.Views.{log_of, entries_in}
 use Rattle.law_workers.specs.Work.{indexed}
 use Rattle.run_promise.specs.Deed.{Deed, StandsBehind}
@@ -26,8 +25,7 @@ use Rattle.law_workers.specs.Order.{Lined}
 use Rattle.law_workers.proofs.Logs.{told_kept}
 use Rattle.law_workers.specs.Opened.{IsJustOpened}
 use Rattle.law_runs.specs.Release.{AreReleases}
-use Rattle.run_promise.specs.Reports.{AreReported}
-use Rattle.run_promise.specs.Sound.{IsSound}
+use Rattle.run_promise.specs.Sound.{AreReported, IsSound}
 use Rattle.law_runs.specs.AtEnd.{StaysCovered}
 use Rattle.law_workers.proofs.WholeRun.{rules_at_end, pairs, pairs_above, one_fault, order, none_made, answers_fit}
 use Rattle.law_runs.proofs.Released.{legal_run, none_of_lanes, below_releases, fits_ended}

@@ -11,8 +11,8 @@ use Rattle.counter_table.specs.Whole.{IsWhole, RowStands}
 use Rattle.record_io.specs.declared.answers.Answer.{Answer}
 use Rattle.record_io.specs.declared.records.Record.{Record}
 use Rattle.record_io.specs.Places.{Place, records_of}
-use Rattle.run_promise.specs.Run.{IsLegalHistory, TurnIn}
-use Rattle.run_promise.specs.Begin.{Begin}
+use Rattle.run_promise.specs.History.{IsLegalHistory, TurnIn}
+use Rattle.run_promise.specs.Call.{Begin}
 use Rattle.law_workers.specs.Views.{log_of, entries_in}
 use Rattle.run_promise.specs.Deed.{Deed}
 use Rattle.law_workers.specs.Deeds.{Does}

@@ -23,10 +23,10 @@ use Rattle.unit_book.specs.Log.{sunk_between}
 use Rattle.law_workers.proofs.Histories.{entries_both}
 use Rattle.run_promise.specs.declared.end.RunEnd.{RunEnd}
 use Rattle.run_promise.specs.declared.end.RunEnd.TheVariants as ends
-use Rattle.run_promise.specs.Call.{CallSeen, ShowsAtEntry, sunk_since}
-use Rattle.run_promise.specs.Site.{SiteSeen}
-use Rattle.run_promise.specs.Account.{Account, answers_of_first, course_of, deeds_from, due_octets, end_answer, end_octets, end_status}
-use Rattle.run_promise.specs.Causes.{CameBy, EndsWithRelease, IsToldFirst, PutsDue, PutsFront, StoodUntilRelease, TellsEnd}
+use Rattle.run_promise.specs.Call.{CallSeen, ShowsAtEntry, sunk_since, SiteSeen, Begin}
+use Rattle.run_promise.specs.Account.{Account, answers_of_first, course_of, deeds_from, due_octets, end_answer}
+use Rattle.run_promise.specs.Account.{end_octets, end_status, CameBy, EndsWithRelease, IsToldFirst, PutsDue, PutsFront}
+use Rattle.run_promise.specs.Account.{StoodUntilRelease, TellsEnd}
 use Rattle.law_runs.specs.Doing.{IsFounded, octets_put}
 use Rattle.law_runs.specs.Coming.{HasBroken, HasPut, StopsAtFullHistory, PutsBy, EndsReading}
 use Rattle.law_runs.specs.Ending.{Finishes, IsEndPut}
@@ -40,10 +40,10 @@ use Rattle.law_runs.proofs.Placed.{IsBefore, answers_all, places_ascend}
 use Rattle.law_runs.specs.AtEnd.{EndsRun, course_at_end, StaysCovered}
 use Rattle.law_runs.specs.Release.{AreReleases}
 use Rattle.law_runs.specs.Settled.{AreSettled}
-use Rattle.run_promise.specs.Answers.{IsUnmade, SaysSiteFailed}
+use Rattle.run_promise.specs.Answers.{IsUnmade, SaysSiteFailed, Uses}
 use Rattle.run_promise.specs.Sound.{IsNearBehind, IsSound, deeds_octets}
 use Rattle.law_runs.proofs.Stepping.{octets_of}
-use Rattle.run_promise.specs.Alone.{OneLane, IsExact}
+use Rattle.run_promise.specs.OneLane.{OneLane, IsExact}
 use Rattle.law_runs.proofs.Exacting.{exact_call}
 use Rattle.law_runs.proofs.Standing.{kept_stands}
 use Rattle.law_runs.proofs.Words.{moved_call}
@@ -55,24 +55,21 @@ use Rattle.unit_image.specs.Shows.{Shows, ShowsNone}
 use Rattle.unit_plan.specs.declared.plan_error.PlanFault.{PlanFault}
 use Rattle.unit_plan.specs.PlanLines.{PlanLines}
 use Rattle.run_promise.specs.Fits.{MayAppend, Course, Fits}
-use Rattle.run_promise.specs.Deed.{is_entered}
+use Rattle.run_promise.specs.Deed.{is_entered, Deed, InTurn, StandsBehind, tells_count}
 use Rattle.law_runs.proofs.Assembled.{sound_run, covered_run}
 use Rattle.law_runs.proofs.Released.{legal_run, used_below, word_near}
 use Rattle.unit_state.specs.declared.state.State.{State}
 use Rattle.unit_state.specs.State.{KeepsRules}
 use Rattle.unit_state.specs.History.{after_first}
 use Rattle.unit_state.specs.History as histories
-use Rattle.run_promise.specs.Run.{LegalRun, NearWord, TurnIn, HasNoEntry}
+use Rattle.run_promise.specs.History.{LegalRun, NearWord, TurnIn, HasNoEntry}
 use Rattle.std.specs.List.{All, AllPairs, Contains, slice_index}
 use Rattle.key_book.specs.KeyBook.{place_of}
-use Rattle.run_promise.specs.Answers.{Uses}
 use Rattle.std.proofs.lemmas.Option.{slice_get_within, get_or_from_slice_get}
 use Rattle.std.proofs.lemmas.Bool.{cases_lt}
 use Rattle.record_io.specs.declared.answers.Answer.{Answer}
 use Rattle.run_promise.specs.Numbers.{releases}
-use Rattle.run_promise.specs.Begin.{Begin}
 use Rattle.law_workers.specs.Views.{IsBetween, entries_in, log_of}
-use Rattle.run_promise.specs.Deed.{Deed, InTurn, StandsBehind, tells_count}
 use Rattle.law_workers.specs.Deeds.{course_in}
 use Rattle.sdls_outside.proofs.Moments.{between-old}
 use Rattle.law_workers.proofs.Counting.{pieces_both}

@@ -23,27 +23,25 @@ use Rattle.std.proofs.Common.{◌≢◌}
 use Rattle.record_io.specs.declared.kinds.RecordKind.TheVariants.{Monitor}
 use Rattle.record_io.specs.declared.records.Record.{Record}
 use Rattle.record_io.specs.Places.{Place, records_of}
-use Rattle.run_promise.specs.Counts.{count_at, is_none_index, is_of_none}
-use Rattle.run_promise.specs.Begin.{Begin}
+use Rattle.law_workers.specs.Counts.{count_at, is_of_none}
+use Rattle.run_promise.specs.History.{is_none_index}
+use Rattle.run_promise.specs.Call.{Begin, CallSeen}
 use Rattle.law_workers.specs.Views.{entries_in, KnowsMore, log_of}
 use Rattle.run_promise.specs.Deed.{Deed}
 use Rattle.law_workers.specs.Deeds.{Does, deeds_of}
 use Rattle.law_workers.proofs.Histories.{get_front, place_of_entry}
 use Rattle.law_workers.proofs.Joining.{grows_further}
 use Rattle.law_workers.proofs.Logs.{count_one, stands_both, times_both}
-use Rattle.run_promise.specs.Machine.{Move, Runs}
-use Rattle.run_promise.specs.Serving.{ServesAll, failed_after}
+use Rattle.run_promise.specs.Words.{Move, Runs, TellAll}
+use Rattle.run_promise.specs.OneLane.{ServesAll, failed_after, OneLane, IsExact}
 use Rattle.law_workers.specs.InTurn.{MadeAllLines, IsClean, IsLeftBehind, IsLevel, AllStand, stood_in, IsBacked}
 use Rattle.law_workers.specs.Exact.{words_in, Exact, IsOfMoves}
-use Rattle.run_promise.specs.Moves.{TellAll}
 use Rattle.law_workers.specs.Alone.{MovedExactly, ServedAlone}
-use Rattle.run_promise.specs.Alone.{OneLane, IsExact}
 use Rattle.law_workers.proofs.Alone.{below_log, exact_seen, seen_moves}
 use Rattle.law_workers.proofs.Machines.{alone, exact_nothing, exact_then, nothing_moves, runs_same, tell_more, then_moves}
 use Rattle.law_workers.proofs.Turns.{all_on, failed_both, level_on, log_low, made_first, made_rest, serves_both, stood_is, stood_on}
 use Rattle.law_workers.specs.Opened.{IsJustOpened}
 use Rattle.law_workers.specs.Settles.{SettlesAt}
-use Rattle.run_promise.specs.Call.{CallSeen}
 use Rattle.run_promise.specs.Account.{Account, begin_of, deeds_from, deeds_in}
 use Rattle.law_runs.proofs.Placed.{deeds_both, deeds_of_segment, records_length}
 use Rattle.law_runs.specs.Doing.{MovedAlone, PutsPieces, RunAlone}

@@ -13,17 +13,16 @@ use Rattle.unit_state.specs.declared.state.State.{State}
 use Rattle.unit_state.specs.State.{KeepsRules}
 use Rattle.unit_state.specs.History.{after, after_first}
 use Rattle.run_promise.specs.Numbers.{mark_at}
-use Rattle.run_promise.specs.Run.{IsLegalHistory, NearWord}
-use Rattle.run_promise.specs.Begin.{Begin}
+use Rattle.run_promise.specs.History.{IsLegalHistory, NearWord}
+use Rattle.run_promise.specs.Call.{Begin, CallSeen, ShowsAtEntry, image_at_entry}
 use Rattle.run_promise.specs.Deed.{Deed}
-use Rattle.run_promise.specs.Machine.{Move, Runs, word_after}
+use Rattle.run_promise.specs.Words.{Move, Runs, word_after}
 use Rattle.fsr_log.specs.Noted.{Noted}
-use Rattle.run_promise.specs.Reports.{AreReported, noted_of}
-use Rattle.run_promise.specs.Serving.{AreServed, SameTasks, ServesAll, has_failed}
-use Rattle.run_promise.specs.Alone.{OneLane, IsExact}
+use Rattle.run_promise.specs.Sound.{AreReported, noted_of}
+use Rattle.law_workers.specs.Served.{AreServed, SameTasks}
+use Rattle.run_promise.specs.OneLane.{ServesAll, has_failed, OneLane, IsExact}
 use Rattle.run_promise.specs.declared.end.RunEnd.{RunEnd}
 use Rattle.run_promise.specs.declared.end.RunEnd.TheVariants as ends
-use Rattle.run_promise.specs.Call.{CallSeen, ShowsAtEntry, image_at_entry}
 use Rattle.run_promise.specs.Account.{Account, AreAnswered, begin_of, course_of, deeds_from, deeds_in, due_octets}
 use Rattle.run_promise.specs.Ends.{IsSoundCall, RunEnds}
 use Rattle.law_runs.specs.Says.{AnswersAlike, FrontsAlike, IsUnfailed, NoneFails}

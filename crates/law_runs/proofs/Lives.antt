@@ -24,12 +24,12 @@ use Rattle.unit_state.specs.History.{after, after_first, at_epoch, epoch_after}
 use Rattle.unit_state.proofs.Histories.{after_more, at_epoch_more}
 use Rattle.unit_state.proofs.StateLaws.{restarted_twice}
 use Rattle.unit_image.specs.Shows.{Shows}
-use Rattle.run_promise.specs.Numbers.{mark_of, floor_of, released_floor}
+use Rattle.run_promise.specs.Numbers.{mark_of, floor_of, released_floor, kept_floor}
 use Rattle.run_promise.specs.Answers.{Uses, Accepts, Told, told_by, unbound_told, IsCodeOf}
-use Rattle.run_promise.specs.Fits.{Course, Fits, FitsKind, state_in}
+use Rattle.run_promise.specs.Fits.{Course, Fits, FitsKind, state_in, protect_reply, layout_check}
 use Rattle.law_history.specs.Laws.{IsBelowReleases}
-use Rattle.run_promise.specs.Run.{NearWord, TurnIn}
-use Rattle.run_promise.specs.Taken.{kept_floor, IsLoadedWith}
+use Rattle.run_promise.specs.History.{NearWord, TurnIn}
+use Rattle.law_history.specs.Taken.{IsLoadedWith}
 use Rattle.law_history.proofs.Codes.{fits_code}
 use Rattle.law_history.proofs.Accepting.{taken_kept, kept_low as floor_kept_low, taken_restarted}
 use Rattle.law_history.proofs.Along.{OfRun, rules_along, kept_along, below_along, of_places}
@@ -50,10 +50,10 @@ use Rattle.frame_checks.specs.ProtectingFrames.{protect_check, answer_on, channe
 use Rattle.frame_checks.specs.ProtectingFrames as protecting
 use Rattle.record_io.specs.declared.code.TheConstants.{PROTECTED, DONE}
 use Rattle.unit_plan.specs.PlanLines.{PlanLines, link_of}
-use Rattle.run_promise.specs.ProtectingFrames.{protect_reply, layout_check}
 use Rattle.run_promise.specs.Deed.{is_protected, Deed, is_ordered, tells_entry, Differ}
 use Rattle.run_promise.specs.Sound.{EachBegun, IsCoveredBy}
-use Rattle.run_promise.specs.Life.{LifeRun, IsRun, IsBeginning, FollowFrom, IsLife, left_by, Given, answers_begun, given_of, given_in, state_told, UsesOctets, AcceptsOctets, AreApart, OnceInLife}
+use Rattle.run_promise.specs.Life.{LifeRun, IsRun, IsBeginning, FollowFrom, IsLife, left_by, Given, answers_begun}
+use Rattle.run_promise.specs.Life.{given_of, given_in, state_told, UsesOctets, AcceptsOctets, AreApart, OnceInLife}
 use Rattle.law_runs.specs.Known.{Knows, LeavesKnowing}
 
 all_cons : {X : Type 0} (P : X → Type 0) (x : X) (xs : List X) → P x → All P xs → All P (x ∷ xs)

@@ -8,14 +8,13 @@ use Rattle.unit_plan.specs.PlanLines.{PlanLines}
 use Rattle.unit_state.specs.declared.state.State.{State}
 use Rattle.unit_image.specs.Shows.{Shows}
 use Rattle.run_promise.specs.Sound.{IsSound, SoundMoment}
-use Rattle.run_promise.specs.Life.{AreEnd, LifeRun, IsRun, IsLife, FollowFrom, left_by, OnceInLife}
+use Rattle.run_promise.specs.Life.{AreEnd, LifeRun, IsRun, IsLife, FollowFrom, left_by, OnceInLife, run_of, LivesOn}
+use Rattle.run_promise.specs.Life.{KeepsLives, KeepsLivesReading, no_account, given_in}
 use Rattle.run_promise.specs.Call.{CallSeen, ShowsAtEntry, image_at_entry, sunk_since}
 use Rattle.run_promise.specs.Account.{Account, course_of, deeds_in, end_answer, end_octets}
 use Rattle.run_promise.specs.Ends.{IsEarly, IsServed, IsSoundCall}
-use Rattle.run_promise.specs.Lives.{run_of, LivesOn, KeepsLives, KeepsLivesReading, no_account}
 use Rattle.law_runs.specs.Known.{LeavesKnowing}
 use Rattle.law_runs.specs.Reads.{ReadsSoundly}
-use Rattle.run_promise.specs.Life.{given_in}
 
 follow_append : (image : List ℕ) (runs : List LifeRun) (run : LifeRun) → FollowFrom image runs → run.start ≡ left_by image runs → IsRun run
     → FollowFrom image (runs ++ run ∷ [])

@@ -22,13 +22,13 @@ use Rattle.record_io.specs.Input.{Item, IsItem, LacksNext, beginning}
 use Rattle.record_io.specs.Places.{Place, Count, counted, first_count, places_at, places_from, places_of, records_of}
 use Rattle.record_io.specs.Reading.{SourceSeen, Standing, IsReading, Loses, ReadsMore, ReadsMonitor, ReadsLast, HasTaken, first_standing}
 use Rattle.record_io.proofs.Placing.{places-append, counted-append}
-use Rattle.run_promise.specs.Counts.{is_of_record, count_at}
-use Rattle.run_promise.specs.Run.{HasNoEntry}
+use Rattle.law_workers.specs.Counts.{is_of_record, count_at}
+use Rattle.run_promise.specs.History.{HasNoEntry}
 use Rattle.run_promise.specs.Deed.{Deed, is_entered}
-use Rattle.run_promise.specs.Reports.{AreReported, noted_of}
+use Rattle.run_promise.specs.Sound.{AreReported, noted_of}
 use Rattle.run_promise.specs.Fits.{MayAppend}
 use Rattle.run_promise.specs.declared.limits.TheConstants.{MOST_ENTRIES}
-use Rattle.run_promise.specs.Begin.{Begin}
+use Rattle.run_promise.specs.Call.{Begin}
 use Rattle.law_workers.specs.Views.{IsBetween, entries_in, log_of}
 use Rattle.law_workers.specs.Deeds.{Ascend, course_in, deeds_of}
 use Rattle.law_workers.specs.Order.{Layout, LiesIn, Handled, Lined, TakeTurns}
@@ -36,7 +36,7 @@ use Rattle.law_workers.proofs.Counting.{pieces_both}
 use Rattle.law_workers.proofs.Joining.{does_nothing}
 use Rattle.law_workers.proofs.Counted.{counted_nothing}
 use Rattle.law_workers.specs.Words.{MovesCounted}
-use Rattle.run_promise.specs.Alone.{OneLane}
+use Rattle.run_promise.specs.OneLane.{OneLane}
 use Rattle.law_workers.specs.Alone.{ServedAlone}
 use Rattle.run_promise.specs.Log.{pieces_of}
 use Rattle.run_promise.specs.declared.end.RunEnd.{RunEnd}

@@ -10,11 +10,9 @@ use Rattle.unit_plan.specs.PlanLines.{PlanLines}
 use Rattle.unit_state.specs.declared.state.State.{State}
 use Rattle.unit_state.specs.History.{after, after_first, epoch_after}
 use Rattle.run_promise.specs.Fits.{Course}
-use Rattle.run_promise.specs.Legal.{IsLegal, IsRelease}
+use Rattle.run_promise.specs.History.{IsLegal, IsRelease, LegalRun, NearWord, drawers, reserves_of}
 use Rattle.run_promise.specs.Log.{entries_of}
-use Rattle.run_promise.specs.Run.{LegalRun, NearWord}
-use Rattle.run_promise.specs.Counts.{drawers, reserves_of}
-use Rattle.run_promise.specs.Begin.{Begin}
+use Rattle.run_promise.specs.Call.{Begin}
 use Rattle.run_promise.specs.Deed.{Deed, epoch_told, is_ordered}
 use Rattle.law_workers.proofs.Histories.{entries_both}
 use Rattle.law_workers.proofs.Logs.{entries_low, told_kept}

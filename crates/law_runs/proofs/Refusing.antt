@@ -36,21 +36,19 @@ use Rattle.unit_image.specs.declared.fault.OpenFault.TheVariants as openings
 use Rattle.unit_image.specs.OpeningImage.{IsOpenCause}
 use Rattle.unit_image.specs.Shows.{Shows, ShowsNone}
 use Rattle.unit_image.proofs.OpenFaults.{same_image}
-use Rattle.run_promise.specs.Site.{SiteSeen}
-use Rattle.run_promise.specs.Numbers.{release_at, release_of, released_floor, releases, mark_at, mark_of}
-use Rattle.run_promise.specs.Taken.{kept_floor}
+use Rattle.run_promise.specs.Call.{SiteSeen, CallSeen, sunk_since}
+use Rattle.run_promise.specs.Numbers.{release_at, release_of, released_floor, releases, mark_at, mark_of, kept_floor}
 use Rattle.law_history.proofs.Accepting.{kept_restarted}
-use Rattle.run_promise.specs.Alone.{IsExact}
-use Rattle.run_promise.specs.Machine.{Kept}
+use Rattle.run_promise.specs.OneLane.{IsExact}
+use Rattle.run_promise.specs.Words.{Kept}
 use Rattle.run_promise.specs.Sound.{IsSound}
 use Rattle.law_workers.proofs.Rows.{mark_known, row_named, row_placed}
 use Rattle.sdls_base.specs.declared.states.KeyState.TheVariants.{PreActive}
 use Rattle.run_promise.specs.declared.end.RunEnd.TheVariants as ends
-use Rattle.run_promise.specs.Call.{CallSeen, sunk_since}
-use Rattle.run_promise.specs.Account.{Account, AreAnswered, course_of, end_answer, end_octets, end_status}
-use Rattle.run_promise.specs.Causes.{CameBy, PutsDue, PutsFront, TellsEnd}
+use Rattle.run_promise.specs.Account.{Account, AreAnswered, course_of, end_answer, end_octets, end_status, CameBy}
+use Rattle.run_promise.specs.Account.{PutsDue, PutsFront, TellsEnd}
 use Rattle.run_promise.specs.Ends.{IsEarly, IsOpenRefusal, IsRefused, IsReleased, IsServed, IsSoundCall, RunEnds}
-use Rattle.run_promise.specs.Exit.{IsUnopened, StandsAtExit}
+use Rattle.run_promise.specs.Ends.{IsUnopened, StandsAtExit}
 use Rattle.law_runs.specs.Refused.{Refused, refused_end}
 use Rattle.law_runs.proofs.Ended.{failed_put, same_count}
 use Rattle.law_runs.proofs.Resting.{no_records}

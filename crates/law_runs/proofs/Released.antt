@@ -19,14 +19,12 @@ use Rattle.unit_state.specs.declared.state.State.{State}
 use Rattle.unit_state.specs.State.{KeepsRules}
 use Rattle.unit_state.specs.History.{after, after_first}
 use Rattle.run_promise.specs.Numbers.{release_of, is_released, released_floor}
-use Rattle.run_promise.specs.Legal.{AsksFor, IsLegal, IsRelease}
-use Rattle.run_promise.specs.Run.{NearWord, LegalRun, HasNoEntry}
-use Rattle.run_promise.specs.Counts.{drawers, reserves_of}
+use Rattle.run_promise.specs.History.{AsksFor, IsLegal, IsRelease, NearWord, LegalRun, HasNoEntry, drawers, reserves_of}
 use Rattle.run_promise.specs.Answers.{Uses}
 use Rattle.run_promise.specs.Fits.{Course, Fits}
 use Rattle.law_history.specs.Laws.{IsBelowReleases}
 use Rattle.law_history.proofs.Marks.{release_entry}
-use Rattle.run_promise.specs.Begin.{Begin}
+use Rattle.run_promise.specs.Call.{Begin}
 use Rattle.law_workers.specs.Views.{log_of, entries_in}
 use Rattle.law_workers.specs.Work.{indexed}
 use Rattle.run_promise.specs.Deed.{Deed}

@@ -18,10 +18,10 @@ use Rattle.unit_state.specs.State.{KeepsRules, key_row}
 use Rattle.unit_state.proofs.Histories.{after_more}
 use Rattle.unit_state.specs.Applied.{applied}
 use Rattle.unit_state.specs.History.{after, after_first}
-use Rattle.run_promise.specs.Legal.{AreNear}
+use Rattle.law_history.specs.Entries.{AreNear}
 use Rattle.run_promise.specs.Log.{entries_of, pieces_of}
 use Rattle.run_promise.specs.Numbers.{release_of, releases}
-use Rattle.run_promise.specs.Causes.{EndsWithRelease}
+use Rattle.run_promise.specs.Account.{EndsWithRelease}
 use Rattle.law_history.proofs.Marks.{release_entry}
 use Rattle.law_history.proofs.Releasing.{made_release}
 use Rattle.law_workers.proofs.Histories.{entries_both}

@@ -17,7 +17,7 @@ use Rattle.run_promise.specs.Fits.{Course}
 use Rattle.run_promise.specs.Sound.{IsSound, SoundMoment}
 use Rattle.run_promise.specs.Call.{CallSeen, ShowsAtEntry, image_at_entry}
 use Rattle.run_promise.specs.Account.{course_of}
-use Rattle.run_promise.specs.Lives.{no_account}
+use Rattle.run_promise.specs.Life.{no_account}
 use Rattle.law_runs.specs.Reads.{ReadsSoundly, IsRead, ReadsAlone, StillShows}
 
 none_sound : (course : Course) → IsPlan course.begin.plan → KeepsRules course.begin.start

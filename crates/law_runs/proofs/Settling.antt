@@ -11,9 +11,9 @@ use Rattle.record_io.specs.Answers.{answer_octets}
 use Rattle.unit_state.specs.History.{after, after_first, epoch_after}
 use Rattle.run_promise.specs.Log.{entries_of, pieces_of}
 use Rattle.run_promise.specs.Answers.{Accepts}
-use Rattle.run_promise.specs.Taken.{kept_floor}
+use Rattle.run_promise.specs.Numbers.{kept_floor}
 use Rattle.run_promise.specs.Fits.{Course}
-use Rattle.run_promise.specs.Begin.{Begin}
+use Rattle.run_promise.specs.Call.{Begin}
 use Rattle.law_workers.specs.Views.{log_of, entries_in, KnowsMore}
 use Rattle.run_promise.specs.Deed.{Deed, tells_entry, epoch_told}
 use Rattle.law_workers.specs.Deeds.{Does, course_in}

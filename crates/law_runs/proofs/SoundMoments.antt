@@ -11,8 +11,7 @@ use Rattle.run_promise.specs.Fits.{Course}
 use Rattle.unit_book.specs.Book.{Serves}
 use Rattle.run_promise.specs.Deed.{Deed}
 use Rattle.law_workers.proofs.Logs.{entries_low}
-use Rattle.run_promise.specs.ShowsAfter.{ShowsAfter}
-use Rattle.run_promise.specs.Sound.{deeds_octets, EachBegun, IsCoveredBy, SoundMoment}
+use Rattle.run_promise.specs.Sound.{ShowsAfter, deeds_octets, EachBegun, IsCoveredBy, SoundMoment}
 use Rattle.law_runs.specs.AtEnd.{StaysCovered}
 use Rattle.law_runs.specs.Settled.{AnswerIsSettled, AreSettled}
 

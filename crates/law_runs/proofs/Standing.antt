@@ -12,12 +12,11 @@ use Rattle.unit_state.specs.declared.state.State.{State}
 use Rattle.unit_state.specs.Restart.{restarted}
 use Rattle.unit_state.specs.History.{after}
 use Rattle.unit_book.specs.Book.{BookView, IsKept}
-use Rattle.run_promise.specs.Site.{SiteSeen}
+use Rattle.run_promise.specs.Call.{SiteSeen, CallSeen}
 use Rattle.run_promise.specs.Log.{entries_of}
-use Rattle.run_promise.specs.ShowsAfter.{ShowsAfter}
-use Rattle.run_promise.specs.Call.{CallSeen}
+use Rattle.run_promise.specs.Sound.{ShowsAfter}
 use Rattle.run_promise.specs.Account.{Account}
-use Rattle.run_promise.specs.Exit.{StandsAtExit}
+use Rattle.run_promise.specs.Ends.{StandsAtExit}
 
 -- the book is kept at the exit, over the site that the call leaves
 pub kept_stands : (told : Bool) (call : CallSeen) (account : Account) (start : State) (last : BookView) → IsTrue told

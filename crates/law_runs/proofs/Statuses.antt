@@ -17,14 +17,14 @@ use Rattle.unit_state.specs.Applied.{applied}
 use Rattle.unit_state.specs.History.{after_first}
 use Rattle.unit_image.specs.Shows.{Shows, ShowsNone}
 use Rattle.run_promise.specs.Numbers.{releases, release_at}
-use Rattle.run_promise.specs.Counts.{drawers, draws}
+use Rattle.run_promise.specs.History.{drawers, draws}
 use Rattle.run_promise.specs.declared.limits.TheConstants.{MOST_ENTRIES}
 use Rattle.run_promise.specs.declared.end.RunEnd.{RunEnd}
 use Rattle.run_promise.specs.declared.end.RunEnd.TheVariants.{Ended, Malformed, SourceFault, SiteFault, NoMemory, NoState, SessionFull, PutFailed}
 use Rattle.run_promise.specs.Call.{CallSeen, ShowsAtEntry, image_at_entry}
-use Rattle.run_promise.specs.Account.{Account, end_status, AreAnswered, HandledRead, due_octets, of_first}
+use Rattle.run_promise.specs.Account.{Account, end_status, AreAnswered, HandledRead, due_octets, of_first, CameBy}
+use Rattle.run_promise.specs.Account.{TellsEnd, IsToldFirst}
 use Rattle.run_promise.specs.Answers.{SaysSiteFailed}
-use Rattle.run_promise.specs.Causes.{CameBy, TellsEnd, IsToldFirst}
 use Rattle.run_promise.specs.Ends.{RunEnds, IsRefused, due_releases}
 use Rattle.law_runs.specs.Says.{DidAll, GoesToItsEnd, EndsWithFullHistory, IsLeftRefused, IsUnhindered}
 

@@ -20,14 +20,14 @@ use Rattle.record_io.specs.Places.{Place, records_of}
 use Rattle.record_io.specs.declared.code.TheConstants.{ACCEPTED, NUMBER}
 use Rattle.unit_state.specs.History.{after_first}
 use Rattle.run_promise.specs.Answers.{Accepts, IsCodeOf}
-use Rattle.run_promise.specs.Counts.{count_at, drawers, is_index, is_of_record}
+use Rattle.law_workers.specs.Counts.{count_at, is_index, is_of_record}
+use Rattle.run_promise.specs.History.{drawers, AcceptsAt, HasNoEntry, IsLegalHistory, TurnIn}
 use Rattle.run_promise.specs.Log.{entries_of}
-use Rattle.run_promise.specs.Run.{AcceptsAt, HasNoEntry, IsLegalHistory, TurnIn}
-use Rattle.run_promise.specs.Taken.{kept_floor}
+use Rattle.run_promise.specs.Numbers.{kept_floor}
 use Rattle.law_history.proofs.Accepting.{taken_kept}
 use Rattle.law_history.proofs.Along.{of_places, accepted_taken}
 use Rattle.law_history.proofs.Codes.{accepting_opening, accepts_at, fits_code}
-use Rattle.run_promise.specs.Begin.{Begin}
+use Rattle.run_promise.specs.Call.{Begin}
 use Rattle.law_workers.specs.Views.{log_of, entries_in, KnowsMore, IsBetween}
 use Rattle.law_workers.specs.Work.{indexed}
 use Rattle.run_promise.specs.Deed.{Deed, is_entered, tells_entry}

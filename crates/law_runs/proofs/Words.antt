@@ -11,13 +11,10 @@ use Rattle.counter_table.specs.Whole.{RowStands, IsWhole}
 use Rattle.record_io.specs.declared.answers.Answer.{Answer}
 use Rattle.record_io.specs.declared.records.Record.{Record}
 use Rattle.record_io.specs.Places.{Place, records_of}
-use Rattle.run_promise.specs.Begin.{Begin}
-use Rattle.run_promise.specs.Machine.{LiesBetween, Move, Drew}
-use Rattle.run_promise.specs.Moves.{Tells}
+use Rattle.run_promise.specs.Call.{Begin, CallSeen}
+use Rattle.run_promise.specs.Words.{LiesBetween, Move, Drew, Tells, CountsEntry, MovedWords}
 use Rattle.run_promise.specs.Numbers.{mark_at}
-use Rattle.run_promise.specs.Call.{CallSeen}
 use Rattle.run_promise.specs.Account.{Account, deeds_from, deeds_in}
-use Rattle.run_promise.specs.Words.{CountsEntry, MovedWords}
 use Rattle.run_promise.specs.Log.{entries_of}
 use Rattle.law_workers.specs.Views.{entries_in, log_of}
 use Rattle.law_workers.specs.Work.{indexed}

@@ -10,10 +10,9 @@ use Rattle.record_io.specs.Places.{Place, records_of}
 use Rattle.unit_plan.specs.PlanRules.{IsPlan}
 use Rattle.unit_state.specs.State.{KeepsRules}
 use Rattle.unit_state.specs.Restart.{restarted}
-use Rattle.run_promise.specs.Counts.{drawers}
-use Rattle.run_promise.specs.Run.{TurnIn}
+use Rattle.run_promise.specs.History.{drawers, TurnIn}
 use Rattle.run_promise.specs.Fits.{Course}
-use Rattle.run_promise.specs.Begin.{Begin}
+use Rattle.run_promise.specs.Call.{Begin}
 use Rattle.law_workers.specs.Views.{log_of, entries_in}
 use Rattle.law_workers.specs.Work.{indexed}
 use Rattle.run_promise.specs.Deed.{Deed}

@@ -11,12 +11,12 @@ use Rattle.record_io.specs.Input.{Item, IsInput, Whole, MalformedAt}
 use Rattle.record_io.specs.Places.{Place, places_of, records_of}
 use Rattle.record_io.specs.Reading.{SourceSeen, Standing, IsReading, HasTaken}
 use Rattle.run_promise.specs.declared.limits.TheConstants.{MOST_ENTRIES}
-use Rattle.run_promise.specs.Run.{HasNoEntry}
+use Rattle.run_promise.specs.History.{HasNoEntry}
 use Rattle.fsr_log.specs.Noted.{Noted}
 use Rattle.run_promise.specs.Deed.{is_entered}
-use Rattle.run_promise.specs.Reports.{AreReported, noted_of}
+use Rattle.run_promise.specs.Sound.{AreReported, noted_of}
 use Rattle.run_promise.specs.Fits.{MayAppend}
-use Rattle.run_promise.specs.Begin.{Begin}
+use Rattle.run_promise.specs.Call.{Begin}
 use Rattle.law_workers.specs.Views.{IsBetween, entries_in}
 use Rattle.law_workers.specs.Deeds.{course_in}
 use Rattle.law_workers.specs.Words.{MovesCounted}

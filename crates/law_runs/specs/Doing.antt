@@ -9,17 +9,16 @@ use Rattle.record_io.specs.Places.{Place, records_of}
 use Rattle.unit_plan.specs.PlanRules.{IsPlan}
 use Rattle.unit_state.specs.State.{KeepsRules}
 use Rattle.unit_state.specs.Restart.{restarted}
-use Rattle.run_promise.specs.Counts.{drawers}
+use Rattle.run_promise.specs.History.{drawers}
 use Rattle.run_promise.specs.Log.{pieces_of}
-use Rattle.run_promise.specs.Begin.{Begin}
+use Rattle.run_promise.specs.Call.{Begin}
 use Rattle.law_workers.specs.Views.{entries_in, log_of}
 use Rattle.run_promise.specs.Deed.{Deed, tells_entry}
 use Rattle.law_workers.specs.Deeds.{Does, course_in}
 use Rattle.law_workers.specs.Order.{Layout, TakeTurns, Lined}
-use Rattle.run_promise.specs.Serving.{ServesAll, failed_after}
+use Rattle.run_promise.specs.OneLane.{ServesAll, failed_after, OneLane}
 use Rattle.law_workers.specs.InTurn.{AllStand, MadeAllLines, IsLeftBehind, IsLevel, stood_in}
 use Rattle.law_workers.specs.Alone.{MovedExactly}
-use Rattle.run_promise.specs.Alone.{OneLane}
 use Rattle.law_workers.specs.Opened.{IsJustOpened}
 use Rattle.law_runs.specs.Settled.{AreSettled}
 use Rattle.law_workers.specs.Settles.{SettlesAt}

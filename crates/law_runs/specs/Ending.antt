@@ -5,7 +5,7 @@ use Rattle.sdls_outside.specs.Faults.{Rose}
 use Rattle.sdls_outside.specs.Site as sites
 use Rattle.record_io.specs.declared.status.TheConstants.{SITE_FAULT}
 use Rattle.record_io.specs.Answers.{IsAnswer, answer_octets}
-use Rattle.run_promise.specs.Site.{SiteSeen}
+use Rattle.run_promise.specs.Call.{SiteSeen}
 use Rattle.unit_book.specs.declared.fault.BookFault.{BookFault}
 use Rattle.unit_book.specs.declared.fault.BookFault.TheVariants as faults
 use Rattle.unit_book.specs.Book.{BookView, IsKept, with_put}

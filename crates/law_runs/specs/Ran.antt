@@ -11,9 +11,8 @@ use Rattle.unit_plan.specs.PlanLines.{PlanLines}
 use Rattle.unit_state.specs.declared.state.State.{State}
 use Rattle.unit_image.specs.OpeningImage.{Opening}
 use Rattle.unit_image.specs.Shows.{Shows}
-use Rattle.run_promise.specs.Site.{SiteSeen}
+use Rattle.run_promise.specs.Call.{SiteSeen, Begin}
 use Rattle.unit_book.specs.Book.{BookView, IsKept}
-use Rattle.run_promise.specs.Begin.{Begin}
 use Rattle.law_workers.specs.Views.{log_of}
 use Rattle.run_promise.specs.declared.end.RunEnd.{RunEnd}
 use Rattle.law_runs.specs.Doing.{IsFounded}

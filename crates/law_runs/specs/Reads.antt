@@ -11,7 +11,7 @@ use Rattle.run_promise.specs.Call.{CallSeen, image_at_entry}
 use Rattle.unit_plan.specs.PlanLines.{PlanLines}
 use Rattle.run_promise.specs.Sound.{SoundMoment}
 use Rattle.run_promise.specs.Account.{course_of}
-use Rattle.run_promise.specs.Lives.{no_account}
+use Rattle.run_promise.specs.Life.{no_account}
 
 -- the image shows what a restart leaves of a state that the image at the entry shows, and has no opened form
 abbrev pub StillShows : CallSeen → List ℕ → Type 0

@@ -11,7 +11,7 @@ use Rattle.unit_image.specs.declared.fault.OpenFault.{OpenFault}
 use Rattle.unit_image.specs.declared.fault.OpenFault.TheVariants as faults
 use Rattle.unit_image.specs.OpeningImage.{IsOpenCause, LeavesShown, Opening}
 use Rattle.unit_image.specs.Shows.{ShowsNone}
-use Rattle.run_promise.specs.Site.{SiteSeen}
+use Rattle.run_promise.specs.Call.{SiteSeen}
 use Rattle.run_promise.specs.declared.end.RunEnd.{RunEnd}
 use Rattle.run_promise.specs.declared.end.RunEnd.TheVariants as ends
 use Rattle.run_promise.specs.Account.{end_answer, end_status}

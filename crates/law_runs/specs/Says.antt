@@ -12,8 +12,8 @@ use Rattle.run_promise.specs.declared.end.RunEnd.TheVariants.{Ended, Malformed, 
 use Rattle.run_promise.specs.Call.{CallSeen, ShowsAtEntry, image_at_entry}
 use Rattle.run_promise.specs.Answers.{SaysSiteFailed}
 use Rattle.run_promise.specs.Account.{AnsweredEach, HandledAll, begin_of, deeds_in, due_octets, Account}
-use Rattle.run_promise.specs.Machine.{Move}
-use Rattle.run_promise.specs.Serving.{ServesAll}
+use Rattle.run_promise.specs.Words.{Move}
+use Rattle.run_promise.specs.OneLane.{ServesAll}
 use Rattle.sdls_base.specs.declared.entry.Entry.{Entry}
 use Rattle.run_promise.specs.Ends.{RunEnds}
 use Rattle.std.specs.List.{All}

@@ -9,14 +9,14 @@ use Rattle.record_io.specs.declared.answers.Answer.{Answer}
 use Rattle.record_io.specs.declared.records.Record.{Record}
 use Rattle.record_io.specs.Answers.{IsAnswer, answers_octets}
 use Rattle.run_promise.specs.declared.limits.TheConstants.{MOST_ENTRIES}
-use Rattle.run_promise.specs.Counts.{is_of_record, count_at}
+use Rattle.law_workers.specs.Counts.{is_of_record, count_at}
 use Rattle.run_promise.specs.Deed.{is_entered}
 use Rattle.run_promise.specs.Fits.{MayAppend}
-use Rattle.run_promise.specs.Begin.{Begin}
+use Rattle.run_promise.specs.Call.{Begin}
 use Rattle.law_workers.specs.Views.{IsBetween, log_of, entries_in}
 use Rattle.law_workers.specs.Deeds.{course_in, deeds_of}
 use Rattle.law_workers.specs.Order.{Layout, LiesIn, Handled}
-use Rattle.run_promise.specs.Alone.{OneLane}
+use Rattle.run_promise.specs.OneLane.{OneLane}
 use Rattle.law_workers.specs.Alone.{ServedAlone}
 use Rattle.law_workers.specs.Words.{MovesCounted}
 use Rattle.law_runs.specs.Doing.{AreSettledInside, PutsPieces, SettlesWork, octets_put}

@@ -4,8 +4,8 @@ ghost use Rattle.std.specs.List.{All};
 ghost use Rattle.unit_state.specs.declared.state.State.{State};
 ghost use Rattle.unit_image.specs.Image.{IsAtRest};
 ghost use Rattle.unit_image.specs.Shows.{Shows};
-ghost use Rattle.run_promise.specs.Life.{given_in, IsBeginning, IsInitial, IsLife, left_by, LifeRun};
-ghost use Rattle.run_promise.specs.Life.{OnceInLife};
+ghost use Rattle.run_promise.specs.Life.{given_in, IsBeginning, IsInitial, IsLife, left_by, LifeRun, OnceInLife};
+ghost use Rattle.run_promise.specs.Life.{KeepsLives, KeepsLivesReading, no_account};
 ghost use Rattle.run_promise.specs.Answers.{Accepts, Uses};
 ghost use Rattle.law_runs.specs.Known.{IsBelowMarks, IsShown, IsWithinFloors, Knows, LeavesKnowing};
 ghost use Rattle.run_promise.specs.Sound.{IsSound};
@@ -13,7 +13,6 @@ ghost use Rattle.unit_plan.specs.PlanLines.{PlanLines};
 ghost use Rattle.run_promise.specs.Call.{CallSeen, ShowsAtEntry};
 ghost use Rattle.run_promise.specs.Account.{Account, begin_of, course_of};
 ghost use Rattle.run_promise.specs.Ends.{IsSoundCall};
-ghost use Rattle.run_promise.specs.Lives.{KeepsLives, KeepsLivesReading, no_account};
 ghost use Rattle.law_runs.specs.Reads.{ReadsSoundly};
 
 use unit_image::shows_one;

@@ -4,7 +4,7 @@ ghost use Rattle.record_io.specs.Places.{records_of};
 ghost use Rattle.unit_state.specs.declared.state.State.{State};
 ghost use Rattle.record_io.specs.declared.status.TheConstants.{DONE, MALFORMED};
 ghost use Rattle.unit_plan.specs.PlanLines.{PlanLines};
-ghost use Rattle.run_promise.specs.Alone.{OneLane};
+ghost use Rattle.run_promise.specs.OneLane.{OneLane};
 ghost use Rattle.law_runs.specs.Says.{AnswersAlike, EndAlike, FrontsAlike, NoneFails, NoneWants};
 ghost use Rattle.law_runs.specs.Says.{RunsAlike};
 ghost use Rattle.run_promise.specs.Call.{CallSeen, image_at_entry, ShowsAtEntry};

@@ -7,12 +7,12 @@ use Rattle.counter_table.specs.declared.view.View.{View}
 use Rattle.counter_table.specs.Numbers.{amount}
 use Rattle.counter_table.specs.Turn.{stands}
 use Rattle.record_io.specs.declared.records.Record.{Record}
-use Rattle.run_promise.specs.Begin.{Begin}
+use Rattle.run_promise.specs.Call.{Begin}
 use Rattle.law_workers.specs.Views.{KnowsMore, log_of}
 use Rattle.run_promise.specs.Deed.{Deed}
 use Rattle.law_workers.specs.Deeds.{Does}
 use Rattle.law_workers.proofs.Histories.{get_front}
-use Rattle.run_promise.specs.Machine.{Move}
+use Rattle.run_promise.specs.Words.{Move}
 use Rattle.law_workers.specs.Exact.{words_in, IsOfMoves, Exact}
 use Rattle.law_workers.specs.InTurn.{ServedInTurn}
 use Rattle.law_workers.specs.Alone.{MovedExactly, MovedInTurn}

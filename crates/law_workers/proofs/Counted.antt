@@ -10,12 +10,11 @@ use Rattle.record_io.specs.declared.records.Record.{Record}
 use Rattle.counter_table.specs.declared.view.View.{View}
 use Rattle.counter_table.specs.Numbers.{amount}
 use Rattle.counter_table.specs.Turn.{stands}
-use Rattle.run_promise.specs.Begin.{Begin}
-use Rattle.run_promise.specs.Counts.{is_index, is_of_record}
+use Rattle.run_promise.specs.Call.{Begin}
+use Rattle.law_workers.specs.Counts.{is_index, is_of_record}
 use Rattle.run_promise.specs.Deed.{Deed, tells_count}
 use Rattle.run_promise.specs.Log.{entries_of}
-use Rattle.run_promise.specs.Machine.{Move, Drew}
-use Rattle.run_promise.specs.Words.{CountsEntry}
+use Rattle.run_promise.specs.Words.{Move, Drew, CountsEntry}
 use Rattle.law_workers.specs.Views.{KnowsMore, entries_in, log_of}
 use Rattle.law_workers.specs.Work.{indexed}
 use Rattle.law_workers.specs.Deeds.{Does}

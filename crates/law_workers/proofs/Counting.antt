@@ -14,8 +14,9 @@ use Rattle.counter_table.specs.Turn.{stands, places}
 use Rattle.counter_table.specs.Whole.{IsWhole}
 use Rattle.record_io.specs.declared.records.Record.{Record}
 use Rattle.run_promise.specs.Log.{entries_of, pieces_of}
-use Rattle.run_promise.specs.Counts.{count_at, is_of_record, is_of_none, is_index, reserves_of, drawers}
-use Rattle.run_promise.specs.Begin.{Begin}
+use Rattle.law_workers.specs.Counts.{count_at, is_of_record, is_of_none, is_index}
+use Rattle.run_promise.specs.History.{reserves_of, drawers}
+use Rattle.run_promise.specs.Call.{Begin}
 use Rattle.law_workers.specs.Views.{log_of, entries_in}
 use Rattle.run_promise.specs.Deed.{Deed}
 use Rattle.law_workers.specs.Deeds.{Does}

@@ -14,9 +14,10 @@ use Rattle.record_io.specs.declared.code.TheConstants.{SITE_FAULT, STOPPED}
 use Rattle.record_io.specs.declared.kinds.RecordKind.{RecordKind}
 use Rattle.record_io.specs.declared.kinds.RecordKind.TheVariants.{Protect, Open, Command, Monitor}
 use Rattle.record_io.specs.declared.records.Record.{Record}
-use Rattle.run_promise.specs.Answers.{SaysSiteFailed, Told, monitored_told, told_by, opened_told, replied_told, unbound_told}
-use Rattle.run_promise.specs.ProtectingFrames.{protect_reply}
-use Rattle.run_promise.specs.Fits.{Course, Fits, FitsAny, FitsKind, TellsRisenCount as TellsCount, state_in}
+use Rattle.run_promise.specs.Answers.{SaysSiteFailed, Told, monitored_told, told_by, opened_told, replied_told}
+use Rattle.run_promise.specs.Answers.{unbound_told}
+use Rattle.run_promise.specs.Fits.{protect_reply, Course, Fits, FitsAny, FitsKind, TellsRisenCount as TellsCount}
+use Rattle.run_promise.specs.Fits.{state_in}
 
 abbrev is_other : ℕ → Bool
 is_other code = nat_lt code SITE_FAULT || nat_lt STOPPED code

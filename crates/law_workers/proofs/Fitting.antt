@@ -13,10 +13,10 @@ use Rattle.record_io.specs.declared.kinds.RecordKind.TheVariants.{Protect, Open,
 use Rattle.unit_state.specs.declared.state.State.{State}
 use Rattle.unit_state.specs.History.{after, after_first, at_epoch, epoch_after}
 use Rattle.unit_state.proofs.Histories.{at_epoch_more, epochs_more}
-use Rattle.run_promise.specs.Begin.{Begin}
-use Rattle.run_promise.specs.Entries.{frame_entry}
-use Rattle.run_promise.specs.Legal.{SeenNear}
-use Rattle.run_promise.specs.Fits.{Course, CanReserve, CanRaiseFloor, CanChange, CanDraw, IsUnmarked, CanAppend, MayAppendOnce, TellsRisenCount, FitsAny, FitsKind, Fits, StandsAt, IsBound}
+use Rattle.run_promise.specs.Call.{Begin}
+use Rattle.run_promise.specs.History.{frame_entry, SeenNear}
+use Rattle.run_promise.specs.Fits.{Course, CanReserve, CanRaiseFloor, CanChange, CanDraw, IsUnmarked, CanAppend}
+use Rattle.run_promise.specs.Fits.{MayAppendOnce, TellsRisenCount, FitsAny, FitsKind, Fits, StandsAt, IsBound}
 use Rattle.law_workers.proofs.Histories.{get_front}
 
 pub seen_nearer : (near far : ℕ → ℕ → Type 0) → ((k n : ℕ) → near k n → far k n) → (k : ℕ) (seen : Seen) → SeenNear near k seen → SeenNear far k seen

@@ -8,8 +8,9 @@ use Rattle.sdls_base.specs.declared.entry.Logged.{Logged}
 use Rattle.counter_table.specs.declared.view.View.{View}
 use Rattle.counter_table.specs.Turn.{stands}
 use Rattle.record_io.specs.declared.records.Record.{Record}
-use Rattle.run_promise.specs.Counts.{is_of_record, count_at, drawers}
-use Rattle.run_promise.specs.Begin.{Begin}
+use Rattle.law_workers.specs.Counts.{is_of_record, count_at}
+use Rattle.run_promise.specs.History.{drawers}
+use Rattle.run_promise.specs.Call.{Begin}
 use Rattle.law_workers.specs.Views.{Gains, keeping, starting, meeting, Meets, log_of}
 use Rattle.law_workers.specs.Work.{indexed}
 use Rattle.run_promise.specs.Deed.{Deed}

@@ -16,7 +16,7 @@ use Rattle.record_io.specs.declared.records.Record.{Record}
 use Rattle.run_promise.specs.Log.{entries_of}
 use Rattle.run_promise.specs.Answers.{Uses}
 use Rattle.run_promise.specs.Fits.{Fits}
-use Rattle.run_promise.specs.Begin.{Begin}
+use Rattle.run_promise.specs.Call.{Begin}
 use Rattle.law_workers.specs.Views.{Gains, no_gains, both_gains, log_of, entries_in, IsBetween, IsRow, KnowsMore, Gained, keeping, starting, meeting, Meets}
 use Rattle.law_workers.specs.Work.{Works, Worked}
 use Rattle.run_promise.specs.Deed.{Deed, StandsBehind, InTurn, is_protected, tells_entry, tells_epoch}

@@ -6,8 +6,8 @@ use Rattle.std.proofs.lemmas.List.Elements.{All-nil, All-cons, All-append, All-f
 use Rattle.counter_table.specs.declared.view.View.{View}
 use Rattle.record_io.specs.declared.records.Record.{Record}
 use Rattle.record_io.specs.declared.answers.Answer.{Answer}
-use Rattle.run_promise.specs.Counts.{draws, drawers}
-use Rattle.run_promise.specs.Begin.{Begin}
+use Rattle.run_promise.specs.History.{draws, drawers}
+use Rattle.run_promise.specs.Call.{Begin}
 use Rattle.law_workers.specs.Views.{Gains, KnowsMore, IsBetween, starting, keeping, meeting, Meets}
 use Rattle.law_workers.specs.Work.{Works, indexed}
 use Rattle.run_promise.specs.Deed.{Deed, deed_of}

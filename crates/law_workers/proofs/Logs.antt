@@ -18,8 +18,9 @@ use Rattle.unit_plan.specs.PlanLines.{PlanLines}
 use Rattle.unit_state.specs.declared.state.State.{State}
 use Rattle.unit_state.specs.History.{after, epoch_after}
 use Rattle.run_promise.specs.Log.{entries_of}
-use Rattle.run_promise.specs.Legal.{IsLegal, IsLegalAt}
-use Rattle.run_promise.specs.Counts.{count_at, drawers}
+use Rattle.run_promise.specs.History.{IsLegal, drawers}
+use Rattle.law_history.specs.Entries.{IsLegalAt}
+use Rattle.law_workers.specs.Counts.{count_at}
 use Rattle.law_workers.specs.Work.{indexed}
 use Rattle.run_promise.specs.Deed.{is_entered, is_protected}
 use Rattle.law_workers.specs.Deeds.{IsLastAt}

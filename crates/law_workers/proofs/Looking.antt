@@ -13,14 +13,14 @@ use Rattle.counter_table.specs.declared.view.Numbers.{Numbers}
 use Rattle.counter_table.specs.declared.view.View.{View}
 use Rattle.counter_table.specs.Numbers.{amount, top}
 use Rattle.run_promise.specs.Answers.{Told, monitored_told, told_by, IsUnmade, Uses}
-use Rattle.run_promise.specs.Counts.{count_at, drawers, is_of_record}
+use Rattle.law_workers.specs.Counts.{count_at, is_of_record}
+use Rattle.run_promise.specs.History.{drawers}
 use Rattle.run_promise.specs.Fits.{Fits, FitsKind}
-use Rattle.run_promise.specs.Begin.{Begin}
+use Rattle.run_promise.specs.Call.{Begin}
 use Rattle.run_promise.specs.Deed.{Deed, deed_of, is_entered, tells_count, tells_entry, is_ordered}
 use Rattle.run_promise.specs.Log.{entries_of}
-use Rattle.run_promise.specs.Machine.{Move, Kept, LiesBetween}
-use Rattle.run_promise.specs.Moves.{Tells, TellsKind}
-use Rattle.run_promise.specs.Serving.{AloneServes, CountsAll, ServesKind, has_failed}
+use Rattle.run_promise.specs.Words.{Move, Kept, LiesBetween, Tells, TellsKind}
+use Rattle.run_promise.specs.OneLane.{AloneServes, CountsAll, ServesKind, has_failed}
 use Rattle.law_workers.specs.Views.{Gains, IsBetween, entries_in, log_of}
 use Rattle.law_workers.specs.Work.{indexed}
 use Rattle.law_workers.specs.Deeds.{Agree, Answers, IsSpent, IsWithoutEntry, MadeLast, StandsWithin, course_in}

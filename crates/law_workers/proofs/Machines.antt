@@ -21,15 +21,16 @@ use Rattle.counter_table.specs.Turn.{stands}
 use Rattle.counter_table.specs.Whole.{IsWhole}
 use Rattle.ep_core.specs.declared.need.Need.{Need}
 use Rattle.ep_core.specs.declared.need.Need.TheVariants as needs
-use Rattle.run_promise.specs.Begin.{Begin}
+use Rattle.run_promise.specs.Call.{Begin}
 use Rattle.law_workers.specs.Views.{KnowsMore, log_of, entries_in}
 use Rattle.run_promise.specs.Deed.{Deed}
 use Rattle.law_workers.proofs.Histories.{get_front, row_kept}
 use Rattle.law_workers.proofs.Logs.{stands_both}
 use Rattle.law_workers.proofs.Working.{grown_entries}
-use Rattle.run_promise.specs.Machine.{Move, Kept, Found, Drew, Raised, Overdrew, adds, adds_all, IsAt, LiesBetween, word_after, Runs}
+use Rattle.run_promise.specs.Words.{Move, Kept, Found, Drew, Raised, Overdrew, adds, adds_all, IsAt, LiesBetween}
+use Rattle.run_promise.specs.Words.{word_after, Runs, Shown, TellsSeen, TellsProtect, TellsCommand, TellsKind, Tells}
+use Rattle.run_promise.specs.Words.{TellAll}
 use Rattle.law_workers.specs.Exact.{words_in, IsOfMoves, Exact}
-use Rattle.run_promise.specs.Moves.{Shown, TellsSeen, TellsProtect, TellsCommand, TellsKind, Tells, TellAll}
 
 after_both : (state : State) (es more : List Entry) → after state (es ++ more) ≡ after (after state es) more
 after_both state [] more = refl

@@ -24,17 +24,20 @@ use Rattle.unit_plan.specs.PlanLines.{PlanLines}
 use Rattle.unit_state.specs.declared.state.State.{State}
 use Rattle.unit_state.specs.State.{KeepsRules}
 use Rattle.run_promise.specs.Answers.{Told, told_by, numbered, opened_told, replied_told, unbound_told}
-use Rattle.run_promise.specs.Entries.{frame_change, record_entry, IsNeedOf, IsStepOf}
-use Rattle.run_promise.specs.Begin.{Begin}
+use Rattle.run_promise.specs.History.{frame_change, record_entry, IsNeedOf, IsStepOf}
+use Rattle.run_promise.specs.Call.{Begin}
 use Rattle.run_promise.specs.Deed.{Deed}
-use Rattle.run_promise.specs.Machine.{Move, Found, Drew, Raised, Overdrew, IsAt, word_after, Runs}
+use Rattle.run_promise.specs.Words.{Move, Found, Drew, Raised, Overdrew, IsAt, word_after, Runs}
 use Rattle.fsr_log.specs.declared.messages.Monitoring.{Monitoring}
 use Rattle.fsr_log.specs.Message.{IsMonitoring}
 use Rattle.fsr_log.specs.Noted.{Noted}
-use Rattle.run_promise.specs.Reports.{AreReported, noted_of}
+use Rattle.run_promise.specs.Sound.{AreReported, noted_of}
 use Rattle.law_workers.proofs.Reported.{counted_clean, report_once, same_noted, told_count}
 use Rattle.std.proofs.lemmas.Bool.Decides.{nat_tests}
-use Rattle.run_promise.specs.Serving.{CountsAll, has_failed, now, Funds, AloneUnbound, AloneBound, AloneProtected, AloneExhausted, AloneOpened, AloneShows, AloneShown, AloneHandled, ServesKind, AloneServes, ServesAll, SameTasks, AreServed}
+use Rattle.run_promise.specs.OneLane.{CountsAll, has_failed, now, Funds, AloneUnbound, AloneBound, AloneProtected}
+use Rattle.run_promise.specs.OneLane.{AloneExhausted, AloneOpened, AloneShows, AloneShown, AloneHandled, ServesKind}
+use Rattle.run_promise.specs.OneLane.{AloneServes, ServesAll}
+use Rattle.law_workers.specs.Served.{SameTasks, AreServed}
 
 same_answer : (a b : Answer) → told_by a ≡ told_by b → a.position ≡ b.position → a ≡ b
 same_answer a b told place =

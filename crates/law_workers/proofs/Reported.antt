@@ -4,7 +4,7 @@ use Rattle.std.proofs.lemmas.Bool.Decides.{nat_tests}
 use Rattle.sdls_base.specs.declared.entry.Entry.{Entry}
 use Rattle.record_io.specs.declared.kinds.RecordKind.{RecordKind}
 use Rattle.record_io.specs.declared.kinds.RecordKind.TheVariants.{Monitor}
-use Rattle.run_promise.specs.Serving.{CountsAll}
+use Rattle.run_promise.specs.OneLane.{CountsAll}
 use Rattle.std.specs.Prelude.{Result}
 use Rattle.std.proofs.lemmas.Option.{none-some, same_Some}
 use Rattle.fsr_log.specs.declared.messages.Monitoring.{Monitoring}
@@ -18,7 +18,7 @@ use Rattle.record_io.specs.declared.code.TheConstants.{SITE_FAULT}
 use Rattle.record_io.specs.declared.records.Record.{Record}
 use Rattle.run_promise.specs.Answers.{Told, monitored_told, told_by}
 use Rattle.run_promise.specs.Deed.{Deed, is_monitored, tells_count}
-use Rattle.run_promise.specs.Reports.{IsReported, noted_of}
+use Rattle.run_promise.specs.Sound.{IsReported, noted_of}
 
 pub same_noted : (d e : Deed) → d.task ≡ e.task → d.answer ≡ e.answer → noted_of d ≡ noted_of e
 same_noted d e task answer =

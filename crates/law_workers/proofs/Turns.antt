@@ -11,15 +11,15 @@ use Rattle.counter_table.specs.Known.{Earlier}
 use Rattle.counter_table.specs.Turn.{epoch_seen, stands}
 use Rattle.unit_state.specs.History.{after, epoch_after}
 use Rattle.unit_state.proofs.Histories.{after_more}
-use Rattle.run_promise.specs.Begin.{Begin}
+use Rattle.run_promise.specs.Call.{Begin}
 use Rattle.run_promise.specs.Numbers.{mark_of}
 use Rattle.law_workers.specs.Views.{KnowsMore, IsRow, log_of, entries_in}
 use Rattle.run_promise.specs.Deed.{Deed}
 use Rattle.law_workers.proofs.Histories.{row_kept}
 use Rattle.law_workers.proofs.Logs.{stands_both, times_both}
 use Rattle.law_workers.proofs.Working.{grown_entries}
-use Rattle.run_promise.specs.Machine.{Move}
-use Rattle.run_promise.specs.Serving.{ServesAll, failed_after, has_failed}
+use Rattle.run_promise.specs.Words.{Move}
+use Rattle.run_promise.specs.OneLane.{ServesAll, failed_after, has_failed}
 use Rattle.law_workers.specs.InTurn.{MadeAllLines, IsClean, IsLevel, AllStand, stood_in, AreOf, IsBacked, ServedBetween, ServedInTurn}
 
 either : (a b : ℕ) → 0 < a + b → (0 < a) ⊎ (0 < b)

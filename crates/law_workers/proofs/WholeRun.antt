@@ -18,12 +18,11 @@ use Rattle.unit_state.specs.State.{KeepsRules}
 use Rattle.unit_state.specs.History.{after, after_first}
 use Rattle.run_promise.specs.Log.{entries_of}
 use Rattle.run_promise.specs.Numbers.{mark_of, mark_at}
-use Rattle.run_promise.specs.Legal.{AsksFor, IsLegal}
-use Rattle.run_promise.specs.Run.{IsAskedFor, NearWord, HasNoEntry}
-use Rattle.run_promise.specs.Counts.{is_index, is_of_record}
+use Rattle.run_promise.specs.History.{AsksFor, IsLegal, IsAskedFor, NearWord, HasNoEntry}
+use Rattle.law_workers.specs.Counts.{is_index, is_of_record}
 use Rattle.run_promise.specs.Answers.{Uses, IsUnmade}
 use Rattle.run_promise.specs.Fits.{Course, Fits}
-use Rattle.run_promise.specs.Begin.{Begin}
+use Rattle.run_promise.specs.Call.{Begin}
 use Rattle.law_workers.specs.Views.{log_of, entries_in, IsRow, IsBetween}
 use Rattle.law_workers.specs.Work.{IsAsked, indexed}
 use Rattle.run_promise.specs.Deed.{Deed, InTurn, StandsBehind, Differ}

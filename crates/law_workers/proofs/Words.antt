@@ -13,12 +13,11 @@ use Rattle.unit_state.specs.declared.state.State.{State}
 use Rattle.counter_table.specs.declared.view.View.{View}
 use Rattle.counter_table.specs.Numbers.{amount}
 use Rattle.counter_table.specs.Turn.{stands}
-use Rattle.run_promise.specs.Begin.{Begin}
+use Rattle.run_promise.specs.Call.{Begin}
 use Rattle.run_promise.specs.Deed.{Deed, deed_of}
-use Rattle.run_promise.specs.Counts.{is_none_index, is_of_none}
-use Rattle.run_promise.specs.Machine.{Move, Kept, Drew, LiesBetween, adds, adds_all}
-use Rattle.run_promise.specs.Moves.{TellAll}
-use Rattle.run_promise.specs.Words.{adds_each}
+use Rattle.run_promise.specs.History.{is_none_index}
+use Rattle.law_workers.specs.Counts.{is_of_none}
+use Rattle.run_promise.specs.Words.{Move, Kept, Drew, LiesBetween, adds, adds_all, TellAll, adds_each}
 use Rattle.law_workers.specs.Views.{KnowsMore, entries_in, log_of, meeting, starting}
 use Rattle.law_workers.specs.Work.{indexed}
 use Rattle.law_workers.specs.Deeds.{Does, deeds_of}

@@ -16,11 +16,11 @@ use Rattle.record_io.specs.declared.code.TheConstants.{SITE_FAULT}
 use Rattle.unit_state.specs.History.{after, after_first, epoch_after}
 use Rattle.unit_state.proofs.Histories.{after_more}
 use Rattle.run_promise.specs.Log.{entries_of}
-use Rattle.run_promise.specs.Legal.{IsLegalAt}
+use Rattle.law_history.specs.Entries.{IsLegalAt}
 use Rattle.run_promise.specs.Answers.{IsUnmade}
-use Rattle.run_promise.specs.Counts.{is_of_record, is_of_none}
+use Rattle.law_workers.specs.Counts.{is_of_record, is_of_none}
 use Rattle.run_promise.specs.Fits.{Course, Fits, MayAppend}
-use Rattle.run_promise.specs.Begin.{Begin}
+use Rattle.run_promise.specs.Call.{Begin}
 use Rattle.law_workers.specs.Views.{Gains, both_gains, log_of, entries_in, IsRow, IsBetween, KnowsMore}
 use Rattle.law_workers.specs.Work.{IsAsked, Works, indexed}
 use Rattle.run_promise.specs.Deed.{Deed, is_ordered, epoch_told, StandsBehind, tells_entry}

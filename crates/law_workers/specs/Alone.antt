@@ -1,9 +1,9 @@
 -- Records of one lane, which one worker handles, one after the other (profile).
 use Rattle.std.specs.Prelude.{◌≡◌, ℕ, ◌≤◌, List, [], ◌++◌, length}
 use Rattle.counter_table.specs.declared.view.View.{View}
-use Rattle.run_promise.specs.Begin.{Begin}
+use Rattle.run_promise.specs.Call.{Begin}
 use Rattle.run_promise.specs.Deed.{Deed}
-use Rattle.run_promise.specs.Machine.{Move}
+use Rattle.run_promise.specs.Words.{Move}
 use Rattle.law_workers.specs.Exact.{Exact}
 use Rattle.law_workers.specs.InTurn.{ServedBetween, ServedInTurn}
 

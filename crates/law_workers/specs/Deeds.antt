@@ -15,13 +15,13 @@ use Rattle.counter_table.specs.Turn.{stands, epoch_seen}
 use Rattle.unit_state.specs.History.{epoch_after}
 use Rattle.run_promise.specs.Log.{entries_of}
 use Rattle.run_promise.specs.Answers.{Uses, IsUnmade}
-use Rattle.run_promise.specs.Counts.{is_of_record, count_at}
+use Rattle.law_workers.specs.Counts.{is_of_record, count_at}
 use Rattle.run_promise.specs.Fits.{Course, Fits}
-use Rattle.run_promise.specs.Begin.{Begin}
+use Rattle.run_promise.specs.Call.{Begin}
 use Rattle.law_workers.specs.Views.{Gains, Gained, KnowsMore, IsBetween, IsRow, log_of, entries_in}
 use Rattle.law_workers.specs.Work.{Works, indexed}
-use Rattle.run_promise.specs.Deed.{Deed, is_protected, tells_count, tells_entry, epoch_told, is_ordered, StandsBehind, InTurn}
-use Rattle.run_promise.specs.Deed.{deed_of}
+use Rattle.run_promise.specs.Deed.{Deed, is_protected, tells_count, tells_entry, epoch_told, is_ordered, StandsBehind}
+use Rattle.run_promise.specs.Deed.{InTurn, deed_of}
 
 -- what the answers of a run speak of, as the view knows it
 abbrev pub course_in : Begin → View → Course

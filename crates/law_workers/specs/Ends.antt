@@ -3,10 +3,10 @@ use Rattle.std.specs.Prelude.{◌≡◌, ℕ, Bool, true, false, List, ◌++◌,
 use Rattle.counter_table.specs.declared.view.View.{View}
 use Rattle.record_io.specs.declared.records.Record.{Record}
 use Rattle.record_io.specs.declared.answers.Answer.{Answer}
-use Rattle.run_promise.specs.Begin.{Begin}
+use Rattle.run_promise.specs.Call.{Begin}
 use Rattle.record_io.specs.declared.kinds.RecordKind.TheVariants.{Protect}
 use Rattle.sdls_outside.specs.Faults.{Rose}
-use Rattle.run_promise.specs.Counts.{is_of_record, count_at}
+use Rattle.law_workers.specs.Counts.{is_of_record, count_at}
 use Rattle.run_promise.specs.Fits.{MayAppend}
 use Rattle.run_promise.specs.declared.limits.TheConstants.{MOST_ENTRIES}
 use Rattle.law_workers.specs.Views.{IsBetween, log_of, entries_in}

@@ -8,11 +8,10 @@ use Rattle.std.specs.List.{All}
 use Rattle.counter_table.specs.declared.view.View.{View}
 use Rattle.counter_table.specs.Numbers.{amount, top}
 use Rattle.counter_table.specs.Turn.{stands}
-use Rattle.run_promise.specs.Begin.{Begin}
+use Rattle.run_promise.specs.Call.{Begin}
 use Rattle.law_workers.specs.Views.{log_of, entries_in}
 use Rattle.run_promise.specs.Deed.{Deed}
-use Rattle.run_promise.specs.Machine.{Move, Drew, adds_all, LiesBetween, Runs}
-use Rattle.run_promise.specs.Moves.{TellAll}
+use Rattle.run_promise.specs.Words.{Move, Drew, adds_all, LiesBetween, Runs, TellAll}
 
 -- the words that a view knew last
 abbrev pub words_in : View → ℕ → ℕ

@@ -7,11 +7,11 @@ use Rattle.sdls_outside.specs.Faults.{Rose}
 use Rattle.counter_table.specs.Turn.{stands, epoch_seen}
 use Rattle.unit_state.specs.History.{after, epoch_after}
 use Rattle.run_promise.specs.Numbers.{mark_of}
-use Rattle.run_promise.specs.Begin.{Begin}
+use Rattle.run_promise.specs.Call.{Begin}
 use Rattle.law_workers.specs.Views.{IsRow, log_of, entries_in}
 use Rattle.run_promise.specs.Deed.{Deed}
-use Rattle.run_promise.specs.Machine.{Move}
-use Rattle.run_promise.specs.Serving.{ServesAll, failed_after}
+use Rattle.run_promise.specs.Words.{Move}
+use Rattle.run_promise.specs.OneLane.{ServesAll, failed_after}
 
 -- all lines of the new log behind those of the old one stand at these places
 abbrev pub MadeAllLines : View → View → List ℕ → Type 0

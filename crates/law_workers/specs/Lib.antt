@@ -1,3 +1,5 @@
+pub mod Counts
+pub mod Served
 pub mod Began
 pub mod Views
 pub mod Work

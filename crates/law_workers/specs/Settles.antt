@@ -7,7 +7,7 @@ use Rattle.counter_table.specs.Turn.{epoch_seen}
 use Rattle.unit_state.specs.History.{after_first, epoch_after}
 use Rattle.run_promise.specs.Log.{entries_of}
 use Rattle.run_promise.specs.Numbers.{mark_of}
-use Rattle.run_promise.specs.Begin.{Begin}
+use Rattle.run_promise.specs.Call.{Begin}
 use Rattle.law_workers.specs.Views.{log_of, entries_in, IsRow}
 
 -- What the first put behind a segment tells of the book that it found: so many lines and entries stood there, so many

@@ -10,7 +10,7 @@ use Rattle.counter_table.specs.Known.{Earlier}
 use Rattle.counter_table.specs.Numbers.{top, keeper, newcomer, joined}
 use Rattle.counter_table.specs.Turn.{stands, epoch_seen, beginner, merged}
 use Rattle.run_promise.specs.Log.{entries_of}
-use Rattle.run_promise.specs.Begin.{Begin}
+use Rattle.run_promise.specs.Call.{Begin}
 
 abbrev pub log_of : View → List Logged
 log_of view = view.turn.known.log

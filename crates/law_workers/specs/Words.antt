@@ -12,12 +12,10 @@ use Rattle.unit_state.specs.declared.state.State.{State}
 use Rattle.counter_table.specs.declared.view.View.{View}
 use Rattle.counter_table.specs.Numbers.{amount}
 use Rattle.counter_table.specs.Turn.{stands}
-use Rattle.run_promise.specs.Begin.{Begin}
+use Rattle.run_promise.specs.Call.{Begin}
 use Rattle.run_promise.specs.Deed.{Deed}
 use Rattle.run_promise.specs.Log.{entries_of}
-use Rattle.run_promise.specs.Machine.{Move, Drew, adds, LiesBetween}
-use Rattle.run_promise.specs.Moves.{Tells}
-use Rattle.run_promise.specs.Words.{CountsEntry}
+use Rattle.run_promise.specs.Words.{Move, Drew, adds, LiesBetween, Tells, CountsEntry}
 use Rattle.law_workers.specs.Views.{entries_in, log_of}
 use Rattle.law_workers.specs.Work.{indexed}
 use Rattle.law_workers.specs.Exact.{words_in}

@@ -11,9 +11,10 @@ use Rattle.counter_table.specs.declared.view.View.{View}
 use Rattle.counter_table.specs.Known.{IsSparing}
 use Rattle.counter_table.specs.Numbers.{count_of, top}
 use Rattle.counter_table.specs.Turn.{stands}
-use Rattle.run_promise.specs.Legal.{AsksFor, IsLegalAt}
-use Rattle.run_promise.specs.Counts.{is_of_record, is_of_none, count_at, drawers}
-use Rattle.run_promise.specs.Begin.{Begin}
+use Rattle.run_promise.specs.History.{AsksFor, drawers}
+use Rattle.law_history.specs.Entries.{IsLegalAt}
+use Rattle.law_workers.specs.Counts.{is_of_record, is_of_none, count_at}
+use Rattle.run_promise.specs.Call.{Begin}
 use Rattle.law_workers.specs.Views.{Gains, Gained, KnowsMore, IsBetween, log_of, entries_in}
 
 -- how many of the records have this index

@@ -1,13 +1,14 @@
 //! Laws of what one lane did alone.
 ghost use Rattle.std.specs.Prelude.{false, ◌≡◌, ℕ, ◌+◌, List, ◌++◌, map};
-ghost use Rattle.run_promise.specs.Begin.{Begin};
+ghost use Rattle.run_promise.specs.Call.{Begin};
 ghost use Rattle.run_promise.specs.Deed.{Deed};
 ghost use Rattle.sdls_base.specs.declared.entry.Entry.{Entry};
 ghost use Rattle.unit_state.specs.State.{KeepsRules};
 ghost use Rattle.unit_state.specs.History.{after};
-ghost use Rattle.run_promise.specs.Machine.{Move, Runs};
-ghost use Rattle.run_promise.specs.Serving.{AreServed, SameTasks, ServesAll};
-ghost use Rattle.run_promise.specs.Reports.{AreReported};
+ghost use Rattle.run_promise.specs.Words.{Move, Runs};
+ghost use Rattle.law_workers.specs.Served.{AreServed, SameTasks};
+ghost use Rattle.run_promise.specs.OneLane.{ServesAll};
+ghost use Rattle.run_promise.specs.Sound.{AreReported};
 ghost use Rattle.fsr_log.specs.Noted.{Noted};
 
 use frame_shield::protected_once;

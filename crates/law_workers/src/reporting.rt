@@ -4,7 +4,7 @@ ghost use Rattle.counter_table.specs.declared.view.View.{View};
 ghost use Rattle.record_io.specs.declared.answers.Answer.{Answer};
 ghost use Rattle.record_io.specs.declared.kinds.RecordKind.TheVariants.{Monitor};
 ghost use Rattle.record_io.specs.declared.records.Record.{Record};
-ghost use Rattle.run_promise.specs.Begin.{Begin};
+ghost use Rattle.run_promise.specs.Call.{Begin};
 ghost use Rattle.run_promise.specs.Deed.{deed_of};
 ghost use Rattle.law_workers.specs.Alone.{ServedAlone};
 ghost use Rattle.law_workers.specs.Order.{Handled, Layout};

@@ -14,7 +14,7 @@ use Rattle.frame_checks.specs.declared.open_reply.OpenReply.{OpenReply}
 use Rattle.frame_checks.specs.declared.open_reply.OpenReply.TheVariants as opens
 use Rattle.frame_checks.specs.Accepting.{MayBeAccepted}
 use Rattle.run_promise.specs.Numbers.{floor_of}
-use Rattle.run_promise.specs.Entries.{raised_floor, frame_change}
+use Rattle.run_promise.specs.History.{raised_floor, frame_change}
 use Rattle.run_promise.proofs.Marking.{IsThere, is_there, floor_below}
 
 -- a floor that is raised covers the number, and lies below the end

@@ -24,7 +24,8 @@ use Rattle.unit_state.specs.Applied.{applied}
 use Rattle.unit_state.specs.Allows.{Allows}
 use Rattle.unit_state.proofs.Found.{found, found_passes, held_rules}
 use Rattle.unit_state.proofs.Held.{row_of_changed}
-use Rattle.run_promise.specs.Numbers.{mark_of, floor_of, reserve_of, released_floor, is_released, release_of, release_at}
+use Rattle.run_promise.specs.Numbers.{mark_of, floor_of, reserve_of, released_floor, is_released, release_of}
+use Rattle.run_promise.specs.Numbers.{release_at}
 
 equal_number : (a b : ℕ) → nat_eq a b ≡ true → a ≡ b
 equal_number a b h = grind (arith, nat_tests)

@@ -5,7 +5,7 @@ use Rattle.unit_state.specs.declared.state.State.{State}
 use Rattle.ep_codec.proofs.CommandReadings.{message_has_none, one_value}
 use Rattle.ep_core.specs.declared.need.Need.{Need}
 use Rattle.ep_core.specs.Need.{need_of}
-use Rattle.run_promise.specs.Entries.{IsNeedOf}
+use Rattle.run_promise.specs.History.{IsNeedOf}
 
 pub need_one : (state : State) (octets : List ℕ) (need other : Need) → IsNeedOf state octets need → IsNeedOf state octets other → need ≡ other
 need_one state octets need other (inl (command, spelled, is)) (inl (again, spells, also)) =

@@ -1,13 +1,37 @@
--- A call of the unit, as its caller sees it (profile).
-use Rattle.std.specs.Prelude.{◌≡◌, ℕ, Bool, List, length, drop, Ok}
+-- A call of the unit, as its caller sees it: its site, what a run began with, and what came of it (profile).
+use Rattle.std.specs.Prelude.{ℕ, Bool, ◌≡◌, List, length, drop, Ok}
 use Rattle.sdls_base.specs.declared.entry.Entry.{Entry}
-use Rattle.record_io.specs.Reading.{SourceSeen}
-use Rattle.run_promise.specs.Site.{SiteSeen}
-use Rattle.unit_image.specs.Image.{held}
-use Rattle.unit_plan.specs.Plan.{plan_of}
+use Rattle.sdls_outside.specs.Moments.{Trace}
 use Rattle.unit_plan.specs.PlanLines.{PlanLines}
+use Rattle.unit_plan.specs.Plan.{plan_of}
 use Rattle.unit_state.specs.declared.state.State.{State}
+use Rattle.unit_image.specs.Image.{held}
 use Rattle.unit_image.specs.Shows.{Shows}
+use Rattle.record_io.specs.Reading.{SourceSeen}
+
+-- ---- the site
+
+-- what it holds and held, its count of faults, and how often a put has failed
+pub record SiteSeen : Type 0 where
+  pub trace : Trace
+  pub faults : ℕ
+  pub put_faults : ℕ
+
+-- a site of some type, by what the type says of it
+abbrev pub site_seen : {O : Type 0} → (O → Trace) → (O → ℕ) → (O → ℕ) → O → SiteSeen
+site_seen trace faults puts site = record { trace = trace site; faults = faults site; put_faults = puts site }
+
+-- ---- what a run began with
+
+-- How many rows the counters have; whether the site tells what it holds; the plan of the image, and the state that it
+-- shows.
+pub record Begin : Type 0 where
+  pub rows : ℕ
+  pub told : Bool
+  pub plan : PlanLines
+  pub start : State
+
+-- ---- the call
 
 -- a call: source and site before and after it, whether the site tells what it holds, and the status and the entries that
 -- it answers

@@ -1,36 +1,62 @@
--- How a run ends, and that it is sound (profile).
-use Rattle.std.specs.Prelude.{◌≡◌, ◌≢◌, ◌⊎◌, ℕ, ◌<◌, ◌≤◌, IsTrue, List, [], length, take, drop}
-use Rattle.std.specs.Prelude.{slice_index, Some}
+-- How a run ends, that it is sound, and what then stands in the image (profile).
+use Rattle.std.specs.Prelude.{◌≡◌, ◌⊎◌, ℕ, ◌+◌, ◌≤◌, List, [], length, ◌≢◌, ◌<◌, IsTrue, take, drop, slice_index, Some}
 use Rattle.std.specs.List.{All}
-use Rattle.sdls_base.specs.declared.TheConstants.{MOST_KEYS}
 use Rattle.sdls_base.specs.declared.entry.Entry.{Entry}
+use Rattle.sdls_base.specs.declared.TheConstants.{MOST_KEYS}
 use Rattle.sdls_outside.specs.Faults.{Rose}
 use Rattle.sdls_outside.specs.Disk.{Leaves}
 use Rattle.sdls_outside.specs.Moments.{EachMoment}
+use Rattle.unit_plan.specs.PlanLines.{PlanLines}
 use Rattle.key_book.specs.KeyBook.{place_of}
-use Rattle.record_io.specs.declared.status.TheConstants as status
+use Rattle.unit_state.specs.declared.state.State.{State}
+use Rattle.unit_state.specs.Restart.{restarted}
+use Rattle.unit_state.specs.History.{after, after_first}
+use Rattle.unit_image.specs.Image.{IsSettled, JournalView}
+use Rattle.unit_image.specs.Shows.{Shows, ShowsNone}
 use Rattle.record_io.specs.Answers.{IsAnswer}
 use Rattle.record_io.specs.Places.{records_of}
 use Rattle.record_io.specs.Reading.{HasTaken}
-use Rattle.unit_plan.specs.PlanLines.{PlanLines}
-use Rattle.unit_state.specs.declared.state.State.{State}
-use Rattle.unit_state.specs.History.{after_first}
-use Rattle.unit_image.specs.Shows.{ShowsNone}
+use Rattle.record_io.specs.declared.status.TheConstants as status
+use Rattle.run_promise.specs.declared.end.RunEnd.TheVariants.{SiteFault, NoMemory, Ended, NoState, SessionFull}
+use Rattle.run_promise.specs.Call.{CallSeen, ShowsAtEntry, image_at_entry, sunk_since}
+use Rattle.run_promise.specs.Account.{Account, AreAnswered, course_of, deeds_in, end_answer, end_octets, CameBy}
+use Rattle.run_promise.specs.Account.{TellsEnd, StoodUntilRelease, PutsDue, PutsFront}
+use Rattle.run_promise.specs.Sound.{ShowsAfter, AreReported, IsSound, SoundMoment}
 use Rattle.run_promise.specs.Numbers.{releases}
 use Rattle.run_promise.specs.Answers.{SaysSiteFailed, Uses}
-use Rattle.run_promise.specs.Run.{NearWord}
+use Rattle.run_promise.specs.History.{NearWord}
 use Rattle.run_promise.specs.declared.limits.TheConstants.{MOST_ENTRIES}
-use Rattle.run_promise.specs.Reports.{AreReported}
-use Rattle.run_promise.specs.Sound.{IsSound, SoundMoment}
-use Rattle.run_promise.specs.Alone.{OneLane, IsExact}
+use Rattle.run_promise.specs.OneLane.{OneLane, IsExact}
 use Rattle.run_promise.specs.declared.end.RunEnd.{RunEnd}
-use Rattle.run_promise.specs.declared.end.RunEnd.TheVariants.{Ended, SiteFault, NoMemory, NoState, SessionFull}
-use Rattle.run_promise.specs.Call.{CallSeen, ShowsAtEntry, image_at_entry, sunk_since}
-use Rattle.run_promise.specs.Account.{Account, AreAnswered, course_of, deeds_in, end_answer, end_octets}
-use Rattle.run_promise.specs.Causes.{CameBy, TellsEnd, StoodUntilRelease, PutsDue, PutsFront}
 use Rattle.run_promise.specs.Words.{MovedWords}
 use Rattle.run_promise.specs.Deed.{tells_count}
-use Rattle.run_promise.specs.Exit.{StandsAtExit}
+
+-- ---- what stands in the image at the exit
+
+-- The opening of the image did not come to its end: the site failed in it, or memory ran out. Nothing was read, and no
+-- entry was made.
+pub record IsUnopened (call : CallSeen) (account : Account) : Type 0 where
+  pub came_is : ((count : ℕ) × (account.came ≡ SiteFault count)) ⊎ (account.came ≡ NoMemory)
+  pub source_is : call.source_after ≡ call.source
+  pub no_entries : call.entries ≡ []
+
+-- the image shows the state after all entries, or after all but the last
+abbrev pub LacksLastAtMost : State → List Entry → List ℕ → Type 0
+LacksLastAtMost start entries image = (p : ℕ) × (length entries ≤ p + 1) × ShowsAfter start entries p image
+
+-- The image showed this state at the entry. What stands in it at the exit, and what a crash there may leave.
+pub record StandsAtExit (call : CallSeen) (account : Account) (state : State) : Type 0 where
+  -- if the site did not fail, the image shows the state after all entries, the releases among them
+  pub stands : ¬ Rose call.site.faults call.site_after.faults
+      → Shows call.site_after.trace.now.image (restarted (after state call.entries))
+  -- all of it is then on the disk, its closed gates are 0, and so are the octets of the other bank and of old banks
+  pub rests : ¬ Rose call.site.faults call.site_after.faults
+      → IsUnopened call account ⊎ ((journal : JournalView) × IsSettled call.site_after.trace journal)
+  -- whatever failed, a crash leaves an image that shows all entries but the last at least
+  pub stored : IsUnopened call account
+      ⊎ ((image : List ℕ) → Leaves call.site_after.trace.now image → LacksLastAtMost state call.entries image)
+
+-- ---- the end
 
 -- An early moment: what a crash then leaves of the image, one at the entry may leave too, and nothing but End was sunk.
 pub record IsEarly (call : CallSeen) (told : RunEnd) (image sunk : List ℕ) : Type 0 where

@@ -1,35 +1,54 @@
--- When an answer fits the record that it answers (profile).
-use Rattle.std.specs.Prelude.{◌≡◌, ◌≢◌, ℕ, ◌-◌, ◌<◌, ◌≤◌, ◌⊎◌, List, [], ◌++◌, length}
-use Rattle.std.specs.Prelude.{slice_get, Some, None, Result, Ok}
+-- When an answer fits the record that it answers, down to the checks of a frame that is to be protected (CCSDS
+-- 355.0-B-2, ApplySecurity; order profile).
+use Rattle.std.specs.Prelude.{ℕ, List, Some, None, Ok, Err, ◌≡◌, ◌≢◌, ◌-◌, ◌<◌, ◌≤◌, ◌⊎◌, [], length, slice_get, Result}
+use Rattle.std.specs.Option.{option_map_or}
 use Rattle.sdls_base.specs.KeyId.{end_of}
 use Rattle.sdls_base.specs.declared.change.Change.{Change}
-use Rattle.sdls_base.specs.declared.change.Change.TheVariants as changes
 use Rattle.sdls_base.specs.declared.entry.Entry.{Entry}
 use Rattle.sdls_base.specs.declared.entry.Seen.{Seen}
+use Rattle.sdls_base.specs.declared.change.Change.TheVariants as changes
 use Rattle.sdls_outside.specs.Faults.{Rose}
-use Rattle.unit_state.specs.declared.state.State.{State}
-use Rattle.unit_state.specs.History.{after_first, at_epoch, epoch_after}
+use Rattle.frame_shield.specs.declared.protecting_frames.ShieldFault.TheVariants.{Layout}
+use Rattle.frame_shield.specs.Binding.{clear_fault}
+use Rattle.frame_shield.specs.ShieldFault.{fault_number}
 use Rattle.frame_shield.specs.declared.binding.Binding.{Binding}
 use Rattle.frame_shield.specs.Protects.{Protects}
+use Rattle.unit_plan.specs.PlanLines.{PlanLines}
+use Rattle.unit_state.specs.declared.state.State.{State}
+use Rattle.unit_state.specs.History.{after_first, at_epoch, epoch_after}
+use Rattle.frame_checks.specs.ProtectingFrames.{protect_check, channel_check}
 use Rattle.frame_checks.specs.declared.open_reply.OpenReply.{OpenReply}
 use Rattle.frame_checks.specs.declared.open_reply.OpenReply.TheVariants.{Accepted}
 use Rattle.frame_checks.specs.OpeningFrames.{IsOpenReply}
-use Rattle.frame_checks.specs.ProtectingFrames.{channel_check}
+use Rattle.frame_checks.specs.ProtectingFrames as protecting
 use Rattle.ep_core.specs.declared.need.Need.TheVariants.{Number}
 use Rattle.ep_core.specs.declared.reply.Reply.{Reply}
 use Rattle.record_io.specs.declared.answers.Answer.{Answer}
-use Rattle.record_io.specs.declared.code.TheConstants.{PROTECTED, EXHAUSTED, SITE_FAULT, STOPPED}
-use Rattle.record_io.specs.declared.code.TheConstants.{NO_MEMORY}
+use Rattle.record_io.specs.declared.code.TheConstants.{PROTECTED, EXHAUSTED, SITE_FAULT, STOPPED, NO_MEMORY}
 use Rattle.record_io.specs.declared.kinds.RecordKind.{RecordKind}
 use Rattle.record_io.specs.declared.kinds.RecordKind.TheVariants.{Protect, Open, Command, Monitor}
 use Rattle.record_io.specs.declared.records.Record.{Record}
-use Rattle.run_promise.specs.Begin.{Begin}
+use Rattle.run_promise.specs.Call.{Begin}
 use Rattle.run_promise.specs.Numbers.{mark_of, floor_of}
-use Rattle.run_promise.specs.Entries.{frame_entry, record_entry, IsNeedOf, IsStepOf}
-use Rattle.run_promise.specs.Legal.{KeyOf, SeesFor, SeenNear}
-use Rattle.run_promise.specs.ProtectingFrames.{protect_reply}
+use Rattle.run_promise.specs.History.{frame_entry, record_entry, IsNeedOf, IsStepOf, KeyOf, SeesFor, SeenNear}
 use Rattle.run_promise.specs.Answers.{told_by, plain, counting, numbered, opened_told, replied_told, unbound_told}
 use Rattle.run_promise.specs.Answers.{monitored_told}
+
+-- ---- the checks of a frame that is to be protected
+
+-- the last check, of a frame that is bound: the clear frame has its layout
+abbrev pub layout_check : List ℕ → protecting.Answer → protecting.Answer
+layout_check clear (Ok (Some binding)) =
+    option_map_or (λ fault. Err (Layout (fault_number fault))) (clear_fault binding clear) (Ok (Some binding))
+layout_check clear (Ok None) = Ok None
+layout_check clear (Err fault) = Err fault
+
+-- What is found of a frame that is to be protected: the refusal of the first check that fails, that it carries no
+-- security, or the binding under which it is protected.
+abbrev pub protect_reply : PlanLines → State → ℕ → List ℕ → protecting.Answer
+protect_reply plan state link clear = layout_check clear (protect_check plan state link clear)
+
+-- ---- answers
 
 -- What the answers of a run speak of: what it began with, the site's count of faults when the book was opened and as it
 -- is known now, and the entries known now.
@@ -45,10 +64,6 @@ state_after course p = after_first course.begin.start course.entries p
 
 abbrev pub state_in : Course → ℕ → State
 state_in course epoch = at_epoch course.begin.start course.entries epoch
-
--- more entries are known, and a later count of faults
-abbrev pub grown : Course → List Entry → ℕ → Course
-grown course more faults = record course { entries = course.entries ++ more; faults = faults }
 
 -- ---- when a record can need an append
 

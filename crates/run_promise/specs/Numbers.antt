@@ -6,9 +6,9 @@ use Rattle.sdls_base.specs.KeyId.{end_of}
 use Rattle.sdls_base.specs.declared.change.Change.TheVariants.{Marks}
 use Rattle.sdls_base.specs.declared.entry.Entry.{Entry}
 use Rattle.sdls_base.specs.declared.entry.Seen.TheVariants.{Number, Word}
+use Rattle.unit_plan.specs.PlanLines.{PlanLines}
 use Rattle.key_book.specs.declared.key_row.KeyRow.{KeyRow}
 use Rattle.sa_book.specs.SaRefusal.{receiver_with}
-use Rattle.unit_plan.specs.PlanLines.{PlanLines}
 use Rattle.unit_state.specs.declared.state.State.{State}
 use Rattle.unit_state.specs.State.{key_row}
 use Rattle.unit_state.specs.Applied.{applied}
@@ -63,3 +63,7 @@ releases state place (word ∷ words) =
     option_map_or (λ entry. entry ∷ releases (applied state entry.change) (place + 1) words)
     (release_at state place word)
     (releases state (place + 1) words)
+
+-- the floor that a release of the key leaves; 0 where the state lacks the key
+abbrev pub kept_floor : State → ℕ → ℕ
+kept_floor state key = option_map_or (released_floor state) (key_row state key) 0

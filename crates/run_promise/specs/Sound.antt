@@ -1,21 +1,58 @@
 -- When a run is sound, and what a crash at one of its moments leaves (profile).
-use Rattle.std.specs.Prelude.{◌≡◌, ◌≢◌, ◌⊎◌, ⊤, ℕ, ◌-◌, ◌<◌, ◌≤◌, IsTrue, List, [], ◌∷◌, ◌++◌, length, map, take}
+use Rattle.std.specs.Prelude.{◌≡◌, ⊤, ◌⊎◌, ℕ, List, [], ◌∷◌, ◌++◌, Result, ◌≤◌, length, ◌≢◌, ◌-◌, ◌<◌, IsTrue, map}
+use Rattle.std.specs.Prelude.{take}
 use Rattle.std.specs.List.{All, AllPairs}
 use Rattle.sdls_base.specs.declared.entry.Entry.{Entry}
 use Rattle.replay_window.specs.declared.TheConstants.{MOST_BACK}
-use Rattle.unit_image.specs.OpeningImage.{LeftByOpening}
-use Rattle.record_io.specs.Places.{Place, records_of}
-use Rattle.record_io.specs.declared.code.TheConstants.{SITE_FAULT}
-use Rattle.record_io.specs.Answers.{IsAnswer, answer_octets, answers_octets}
+use Rattle.unit_state.specs.declared.state.State.{State}
+use Rattle.unit_state.specs.Restart.{restarted}
 use Rattle.unit_state.specs.History.{after_first, epoch_after}
-use Rattle.run_promise.specs.Numbers.{mark_of, floor_of}
-use Rattle.run_promise.specs.Run.{NearWord, IsLegalHistory, HasNoEntry, AcceptsAt}
-use Rattle.run_promise.specs.Answers.{Uses, Accepts, IsUnmade}
-use Rattle.run_promise.specs.Fits.{Course, Fits}
-use Rattle.run_promise.specs.Taken.{kept_floor}
-use Rattle.run_promise.specs.ShowsAfter.{ShowsAfter}
-use Rattle.run_promise.specs.Reports.{AreReported}
+use Rattle.unit_image.specs.Image.{HasOneClosed, IsOpenedForm}
+use Rattle.unit_image.specs.Shows.{Shows}
+use Rattle.unit_image.specs.OpeningImage.{LeftByOpening}
+use Rattle.record_io.specs.declared.code.TheConstants.{NO_MEMORY, SITE_FAULT}
+use Rattle.record_io.specs.declared.kinds.RecordKind.TheVariants.{Monitor}
+use Rattle.record_io.specs.Places.{Place, records_of}
+use Rattle.record_io.specs.Answers.{IsAnswer, answer_octets, answers_octets}
+use Rattle.fsr_log.specs.Noted.{Noted}
+use Rattle.fsr_log.specs.Report.{report_of}
+use Rattle.fsr_log.specs.Reply.{Answers}
+use Rattle.run_promise.specs.Answers.{monitored_told, plain, told_by, Uses, Accepts, IsUnmade}
 use Rattle.run_promise.specs.Deed.{Deed, Differ, InTurn, StandsBehind, tells_entry, is_ordered, epoch_told}
+use Rattle.run_promise.specs.Numbers.{mark_of, floor_of, kept_floor}
+use Rattle.run_promise.specs.History.{NearWord, IsLegalHistory, HasNoEntry, AcceptsAt}
+use Rattle.run_promise.specs.Fits.{Course, Fits}
+
+-- ---- monitoring messages
+
+-- the answer, as the log takes it
+abbrev pub noted_of : Deed → Noted
+noted_of deed = record { index = deed.task.index; kind = deed.task.kind; answer = deed.answer }
+
+-- out of memory; or the reply, or the offset of the first fault, by what the log reports of the answers before
+abbrev pub IsReported : List Noted → Deed → Type 0
+IsReported before deed = (told_by deed.answer ≡ plain NO_MEMORY 0)
+    ⊎ ((said : Result (List ℕ) ℕ) × Answers (report_of before) deed.task.octets said
+    × (told_by deed.answer ≡ monitored_told said))
+
+-- each monitoring message is answered so, behind these answers and those that stand before its own
+abbrev pub AreReported : List Noted → List Deed → Type 0
+AreReported before [] = ⊤
+AreReported before (deed ∷ deeds) = (deed.task.kind ≡ Monitor → IsReported before deed)
+    × AreReported (before ++ noted_of deed ∷ []) deeds
+
+-- ---- what an image shows
+
+-- The image shows the state after the first p entries, and each of its opened forms that after these or more. One gate
+-- at most is closed.
+pub record ShowsAfter (start : State) (entries : List Entry) (p : ℕ) (image : List ℕ) : Type 0 where
+  pub within : p ≤ length entries
+  pub shows : Shows image (restarted (after_first start entries p))
+  pub forms : (form : List ℕ) → IsOpenedForm image form → (q : ℕ) × (p ≤ q) × (q ≤ length entries)
+      × Shows form (restarted (after_first start entries q))
+  pub settled : HasOneClosed image
+
+-- ---- the run and its moments
 
 -- the octets of the answers
 abbrev pub deeds_octets : List Deed → List ℕ

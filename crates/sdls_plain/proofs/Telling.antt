@@ -22,7 +22,7 @@ use Rattle.unit_image.proofs.OpenFaults.{same_image}
 use Rattle.unit_book.proofs.Opened.{shown_rests}
 use Rattle.unit_image.specs.Shows.{Shows, ShowsNone}
 use Rattle.run_promise.specs.Log.{entries_of}
-use Rattle.run_promise.specs.Site.{SiteSeen}
+use Rattle.run_promise.specs.Call.{SiteSeen}
 use Rattle.unit_book.specs.Book.{BookView, IsKept, Serves, with_put}
 use Rattle.sdls_plain.specs.declared.stat.StatEnd.{StatEnd}
 use Rattle.sdls_plain.specs.declared.stat.StatEnd.TheVariants.{Told, SiteFault, NoMemory, NoState}

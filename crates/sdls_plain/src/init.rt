@@ -7,7 +7,6 @@ ghost use Rattle.sdls_outside.specs.Intake.{TakesAtMost};
 ghost use Rattle.sdls_outside.specs.Output.{Delivers, OnlySinks};
 
 use command_words::put_text;
-use unit_image::create_image;
 use itoa::Buffer;
 use law_image::cut_beginning;
 use record_io::Outcome;
@@ -15,6 +14,7 @@ use record_io::status::{DONE, MALFORMED, NO_MEMORY, NO_STATE, SITE_FAULT, SOURCE
 use sdls_base::CONTENT_LENGTH_TWO;
 use sdls_outside::{Failed, Site, Source, collect};
 use std::alloc::{AllocError, Global};
+use unit_image::create_image;
 use unit_plan::{MOST_OCTETS, Plan, PlanCause, PlanError, PlanFault};
 use unit_state::State;
 

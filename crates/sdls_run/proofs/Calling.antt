@@ -7,8 +7,7 @@ use Rattle.unit_state.specs.declared.state.State.{State}
 use Rattle.run_promise.specs.Account.{Account, end_octets}
 use Rattle.run_promise.specs.Call.{CallSeen, ShowsAtEntry, image_at_entry, sunk_since}
 use Rattle.run_promise.specs.Ends.{IsEarly}
-use Rattle.run_promise.specs.Life.{IsBeginning, IsLife, left_by, LifeRun, OnceInLife}
-use Rattle.run_promise.specs.Lives.{LivesOn, no_account, run_of}
+use Rattle.run_promise.specs.Life.{IsBeginning, IsLife, left_by, LifeRun, OnceInLife, LivesOn, no_account, run_of}
 use Rattle.sdls_run.specs.Called.{AreLife, AreRuns, as_run, IsBeforeAnswers, IsOtherCall, IsRunCall, MayLeave, PastCall}
 
 left_append : (image : List ℕ) (runs : List LifeRun) (run : LifeRun) → left_by image (runs ++ run ∷ []) ≡ run.image

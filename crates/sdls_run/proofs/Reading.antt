@@ -8,7 +8,7 @@ use Rattle.unit_plan.specs.PlanLines.{PlanLines}
 use Rattle.unit_state.specs.declared.state.State.{State}
 use Rattle.run_promise.specs.Account.{course_of}
 use Rattle.run_promise.specs.Call.{CallSeen, ShowsAtEntry, image_at_entry}
-use Rattle.run_promise.specs.Lives.{no_account}
+use Rattle.run_promise.specs.Life.{no_account}
 use Rattle.run_promise.specs.Sound.{SoundMoment}
 use Rattle.law_runs.specs.Reads.{IsRead, ReadsAlone, ReadsSoundly}
 use Rattle.command_words.specs.declared.command.Command.{Command}

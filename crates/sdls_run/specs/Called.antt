@@ -6,8 +6,8 @@ use Rattle.unit_plan.specs.PlanLines.{PlanLines}
 use Rattle.unit_state.specs.declared.state.State.{State}
 use Rattle.run_promise.specs.Account.{Account, end_octets}
 use Rattle.run_promise.specs.Call.{CallSeen, ShowsAtEntry, image_at_entry, sunk_since}
-use Rattle.run_promise.specs.Life.{IsLife, left_by, LifeRun, OnceInLife}
-use Rattle.run_promise.specs.Lives.{EndsAndLives, KeepsLivesReading, no_account, run_of}
+use Rattle.run_promise.specs.Life.{IsLife, left_by, LifeRun, OnceInLife, EndsAndLives, KeepsLivesReading, no_account}
+use Rattle.run_promise.specs.Life.{run_of}
 
 -- A call that ended, by itself or by a crash: the octets sunk by then, its account and the octets of its End, and what
 -- of its answers and End was sunk since its entry.

@@ -7,14 +7,13 @@ ghost use Rattle.sdls_outside.specs.Output.{OnlySinks, Sinks};
 ghost use Rattle.record_io.specs.declared.answers.Answer.{Answer};
 ghost use Rattle.record_io.specs.declared.status.TheConstants.{DONE, NO_MEMORY};
 ghost use Rattle.record_io.specs.Input.{MOST_OCTETS};
-ghost use Rattle.run_promise.specs.Life.{IsBeginning, IsLife, LifeRun};
+ghost use Rattle.run_promise.specs.Life.{IsBeginning, IsLife, LifeRun, KeepsLivesReading};
 ghost use Rattle.pair_audit.specs.Audit.{acceptances_in, uses_in};
 ghost use Rattle.pair_audit.specs.Recording.{RunsCount, recording};
 ghost use Rattle.law_audit.specs.Recorded.{SankFew, sunk_by};
 ghost use Rattle.audit_run.specs.Ends.{EndsAudit};
 ghost use Rattle.audit_run.specs.Text.{clean_text};
 ghost use Rattle.run_promise.specs.Call.{CallSeen, image_at_entry};
-ghost use Rattle.run_promise.specs.Lives.{KeepsLivesReading};
 ghost use Rattle.sdls_plain.specs.Stat.{EndsStat};
 ghost use Rattle.sdls_run.specs.Called.{AreLife, MayLeave, PastCall};
 

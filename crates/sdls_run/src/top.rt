@@ -2,9 +2,8 @@
 ghost use Rattle.std.specs.Prelude.{◌≡◌, ◌≢◌, ℕ, List, []};
 ghost use Rattle.record_io.specs.declared.status.TheConstants.{SITE_FAULT, SOURCE_FAULT};
 ghost use Rattle.record_io.specs.Reading.{source_seen};
-ghost use Rattle.run_promise.specs.Call.{call_seen};
-ghost use Rattle.run_promise.specs.Lives.{EndsAndLives, KeepsLivesReading};
-ghost use Rattle.run_promise.specs.Site.{site_seen};
+ghost use Rattle.run_promise.specs.Call.{call_seen, site_seen};
+ghost use Rattle.run_promise.specs.Life.{EndsAndLives, KeepsLivesReading};
 ghost use Rattle.command_words.specs.Words.{IsUnread, command_of};
 ghost use Rattle.sdls_run.specs.Calls.{Audits, Checks, Drills, DrillsOverLink, EndsWithUsage, MakesImage, PrintsState};
 

@@ -18,7 +18,7 @@ use Rattle.frame_checks.specs.Header.{lacks_header, is_clear, channel_of}
 use Rattle.frame_checks.specs.Binding.{binding_of}
 use Rattle.frame_checks.specs.ProtectingFrames.{Answer, answer_on, channel_check, channel_on, protect_check, IsSentClear}
 use Rattle.unit_book.specs.Epoch.{binding_on}
-use Rattle.run_promise.specs.ProtectingFrames.{layout_check, protect_reply}
+use Rattle.run_promise.specs.Fits.{layout_check, protect_reply}
 use Rattle.shared_unit.specs.Permit.{LacksLayout}
 
 -- the first three checks, and all four, of what they look at

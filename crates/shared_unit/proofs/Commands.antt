@@ -17,7 +17,7 @@ use Rattle.counter_table.specs.declared.view.Turn.{Turn}
 use Rattle.counter_table.specs.Known.{MayGive}
 use Rattle.counter_table.specs.Turn.{taking, giving, learning}
 use Rattle.counter_table.specs.Play.{Follows}
-use Rattle.run_promise.specs.Entries.{IsNeedOf, record_entry}
+use Rattle.run_promise.specs.History.{IsNeedOf, record_entry}
 use Rattle.run_promise.specs.Log.{entries_of}
 use Rattle.unit_book.specs.declared.fault.BookFault.{BookFault}
 use Rattle.unit_book.specs.declared.fault.BookFault.TheVariants.{SiteFault, Stopped, SessionFull, NoMemory}

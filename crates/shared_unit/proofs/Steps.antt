@@ -14,7 +14,7 @@ use Rattle.counter_table.specs.declared.view.Turn.{Turn}
 use Rattle.counter_table.specs.Known.{Earlier, IsSparing, LowersNoMark, MayGive, pieces}
 use Rattle.counter_table.specs.Turn.{taking, giving, learning}
 use Rattle.counter_table.specs.Play.{Follows}
-use Rattle.run_promise.specs.Site.{SiteSeen}
+use Rattle.run_promise.specs.Call.{SiteSeen}
 use Rattle.run_promise.specs.Log.{entries_of}
 use Rattle.unit_book.specs.Book.{BookView, IsKept}
 use Rattle.shared_unit.specs.Told.{known_of_book}

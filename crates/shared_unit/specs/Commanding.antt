@@ -16,7 +16,7 @@ use Rattle.unit_book.specs.declared.fault.BookFault.{BookFault}
 use Rattle.unit_book.specs.declared.fault.BookFault.TheVariants as refusals
 use Rattle.unit_book.specs.Book.{BookView}
 use Rattle.unit_book.specs.Records.{Handles, RefusesMessage}
-use Rattle.run_promise.specs.Entries.{IsNeedOf}
+use Rattle.run_promise.specs.History.{IsNeedOf}
 use Rattle.run_promise.specs.Numbers.{marks_of}
 use Rattle.shared_unit.specs.Numbers.{Draws, RunsOut, UsesNumber}
 use Rattle.shared_unit.specs.Funding.{Reserves}

@@ -17,7 +17,7 @@ use Rattle.counter_table.specs.Whole.{IsWhole}
 use Rattle.counter_table.specs.Worker.{view}
 use Rattle.counter_table.specs.declared.counters.Counters.{Counters}
 use Rattle.counter_table.specs.declared.counters.Worker.{Worker}
-use Rattle.run_promise.specs.Site.{SiteSeen}
+use Rattle.run_promise.specs.Call.{SiteSeen}
 use Rattle.unit_book.specs.Book.{BookView, IsKept, begun}
 use Rattle.run_promise.specs.Numbers.{mark_at}
 use Rattle.shared_unit.specs.Told.{known_of_book}

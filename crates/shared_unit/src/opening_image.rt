@@ -5,7 +5,7 @@ ghost use Rattle.unit_image.specs.OpeningImage.{IsOpenCause, LeavesShown, Openin
 ghost use Rattle.unit_image.specs.Shows.{ShowsNone};
 ghost use Rattle.counter_table.specs.Known.{known_mark};
 ghost use Rattle.counter_table.specs.Worker.{view, IsOf};
-ghost use Rattle.run_promise.specs.Site.{site_seen};
+ghost use Rattle.run_promise.specs.Call.{site_seen};
 ghost use Rattle.unit_book.specs.Book.{BookView, IsKept};
 ghost use Rattle.shared_unit.specs.Sharing.{Begins, BookIsOpened, IsRaised};
 ghost use Rattle.shared_unit.specs.Told.{known_of_book};

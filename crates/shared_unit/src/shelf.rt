@@ -12,7 +12,7 @@ ghost use Rattle.ep_core.specs.Seen.{MeetsNeed};
 ghost use Rattle.run_promise.specs.Log.{entries_of};
 ghost use Rattle.unit_book.specs.Book.{IsKept};
 ghost use Rattle.unit_book.specs.Records.{Handles, OpensWithEntry, RefusesFrame, RefusesMessage};
-ghost use Rattle.run_promise.specs.Entries.{IsNeedOf};
+ghost use Rattle.run_promise.specs.History.{IsNeedOf};
 ghost use Rattle.shared_unit.specs.Calls.{IsPut};
 ghost use Rattle.shared_unit.specs.Funding.{Reserves};
 ghost use Rattle.shared_unit.specs.Going.{GoesUp};

@@ -29,7 +29,7 @@ use Rattle.frame_checks.specs.Binding.{binding_of}
 use Rattle.frame_checks.proofs.Alike.{checks_alike}
 use Rattle.ep_core.specs.declared.need.Need.{Need}
 use Rattle.ep_core.proofs.NeedsAlike.{same_need}
-use Rattle.run_promise.specs.Entries.{IsNeedOf}
+use Rattle.run_promise.specs.History.{IsNeedOf}
 use Rattle.unit_book.specs.Epoch.{ServesAlike}
 
 -- ---- the state at an epoch

@@ -10,7 +10,7 @@ use Rattle.unit_state.specs.declared.state.State.{State}
 use Rattle.unit_state.specs.State.{KeepsRules}
 use Rattle.unit_state.specs.Restart.{restarted}
 use Rattle.unit_image.specs.Shows.{Shows}
-use Rattle.run_promise.specs.Site.{SiteSeen}
+use Rattle.run_promise.specs.Call.{SiteSeen}
 use Rattle.unit_book.specs.Book.{ShowsFrom, Serves, IsHistory, IsKept, begun}
 use Rattle.unit_book.proofs.MarksKept.{marks_same}
 use Rattle.unit_book.proofs.Growing.{shows_from_all}

@@ -9,7 +9,7 @@ use Rattle.sdls_base.specs.declared.entry.Logged.TheVariants as logged
 use Rattle.sdls_outside.specs.Faults.{Rose}
 use Rattle.unit_state.specs.Applied.{applied}
 use Rattle.unit_state.proofs.StateLaws.{places_kept}
-use Rattle.run_promise.specs.Site.{SiteSeen}
+use Rattle.run_promise.specs.Call.{SiteSeen}
 use Rattle.unit_book.specs.declared.fault.BookFault.{BookFault}
 use Rattle.unit_book.specs.declared.fault.BookFault.TheVariants.{SiteFault, Stopped, SessionFull, NoMemory}
 use Rattle.run_promise.specs.Log.{entries_of}

@@ -9,7 +9,7 @@ use Rattle.unit_state.specs.Applied.{applied}
 use Rattle.unit_state.specs.Restart.{restarted}
 use Rattle.unit_state.specs.History.{after, after_first}
 use Rattle.unit_image.specs.Shows.{Says, Shows}
-use Rattle.run_promise.specs.ShowsAfter.{ShowsAfter}
+use Rattle.run_promise.specs.Sound.{ShowsAfter}
 use Rattle.unit_book.specs.Book.{ShowsFrom}
 
 pub after_entry : (start : State) (entries : List Entry) (entry : Entry) → after start (entries ++ entry ∷ [])

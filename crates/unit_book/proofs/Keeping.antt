@@ -20,7 +20,7 @@ use Rattle.unit_image.specs.Shows.{Says}
 use Rattle.unit_image.specs.Storing.{KeepsPlaces, LeavesRest, LeavesRestImage, Stores}
 use Rattle.unit_image.specs.declared.storing.SiteFault.{SiteFault}
 use Rattle.unit_image.proofs.Outside.{beside_then}
-use Rattle.run_promise.specs.Site.{SiteSeen}
+use Rattle.run_promise.specs.Call.{SiteSeen}
 use Rattle.run_promise.specs.declared.limits.TheConstants.{MOST_ENTRIES}
 use Rattle.run_promise.specs.Log.{entries_of}
 use Rattle.unit_book.specs.Log.{sunk_between}

@@ -38,7 +38,7 @@ use Rattle.ep_core.specs.Step.{IsDone, refused}
 use Rattle.run_promise.specs.Numbers.{mark_at, mark_of, floor_of, reserve_of, released_floor, is_released, release_of}
 use Rattle.run_promise.specs.Numbers.{release_at}
 use Rattle.unit_book.specs.Marks.{is_release, HasNoRelease, KeepsMarks}
-use Rattle.run_promise.specs.Entries.{IsStepOf}
+use Rattle.run_promise.specs.History.{IsStepOf}
 use Rattle.unit_book.proofs.Places.{by_place}
 
 -- ---- lists of entries

@@ -39,7 +39,7 @@ use Rattle.unit_state.specs.Taking.{taking_refusal, least_with}
 use Rattle.ep_core.proofs.Checks.{rekey_told}
 use Rattle.ep_core.proofs.Free.{associations_free, tells_free, tells_rekey, tells_set_number}
 use Rattle.ep_core.proofs.SealedFacts.{passed_both}
-use Rattle.run_promise.specs.Entries.{IsNeedOf}
+use Rattle.run_promise.specs.History.{IsNeedOf}
 use Rattle.unit_book.specs.Needs.{NamesKey}
 
 -- nothing, or the need

@@ -22,10 +22,9 @@ use Rattle.unit_book.specs.declared.fault.BookFault.TheVariants.{SiteFault, Stop
 use Rattle.run_promise.specs.declared.limits.TheConstants.{MOST_ENTRIES}
 use Rattle.unit_book.specs.declared.next.Next.{Next}
 use Rattle.unit_book.specs.declared.next.Next.TheVariants.{Here, Then}
-use Rattle.run_promise.specs.Log.{entries_of, pieces_of}
-use Rattle.run_promise.specs.ShowsAfter.{ShowsAfter}
-use Rattle.run_promise.specs.Site.{SiteSeen}
-use Rattle.run_promise.specs.Stored.{IsStored}
+use Rattle.run_promise.specs.Log.{entries_of, pieces_of, IsStored}
+use Rattle.run_promise.specs.Sound.{ShowsAfter}
+use Rattle.run_promise.specs.Call.{SiteSeen}
 use Rattle.unit_book.specs.Marks.{HasNoRelease, KeepsMarks}
 
 -- The site, and what it was when `open` returned; the image as it was read, its plan, and the state that it showed; the

@@ -18,7 +18,7 @@ use Rattle.ep_core.specs.declared.need.Need.{Need}
 use Rattle.run_promise.specs.Log.{entries_of}
 use Rattle.run_promise.specs.Numbers.{mark_at, mark_of}
 use Rattle.unit_book.specs.Marks.{highest_mark}
-use Rattle.run_promise.specs.Entries.{IsNeedOf}
+use Rattle.run_promise.specs.History.{IsNeedOf}
 use Rattle.unit_book.specs.Book.{BookView}
 
 -- the state at the epoch of a book: after the last of its entries that counts

@@ -8,7 +8,7 @@ use Rattle.frame_checks.specs.declared.open_reply.OpenReply.{OpenReply}
 use Rattle.frame_checks.specs.OpeningFrames.{IsOpenReply}
 use Rattle.ep_core.specs.declared.reply.Reply.{Reply}
 use Rattle.unit_image.specs.Storing.{Destroys}
-use Rattle.run_promise.specs.Entries.{frame_entry, record_entry, IsStepOf}
+use Rattle.run_promise.specs.History.{frame_entry, record_entry, IsStepOf}
 use Rattle.unit_book.specs.declared.fault.BookFault.{BookFault}
 use Rattle.unit_book.specs.declared.fault.BookFault.TheVariants as faults
 use Rattle.unit_book.specs.Book.{BookView, CanEnter, IsBarred, IsUnstored, LeavesStateAlone, Made}

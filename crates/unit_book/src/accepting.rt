@@ -10,7 +10,7 @@ ghost use Rattle.unit_book.specs.Marks.{KeepsMarks};
 ghost use Rattle.unit_book.specs.Book.{CanEnter, IsKept, IsUnstored, Made};
 ghost use Rattle.unit_book.specs.GoesOn.{GoesOn, IsCalm, TellsRise};
 ghost use Rattle.frame_checks.specs.Trying.{IsOpener, IsTried};
-ghost use Rattle.run_promise.specs.Entries.{raised_floor, frame_change, frame_entry};
+ghost use Rattle.run_promise.specs.History.{raised_floor, frame_change, frame_entry};
 ghost use Rattle.unit_book.specs.Records.{OpensWithEntry, RefusesFrame};
 
 use crate::book::Book;

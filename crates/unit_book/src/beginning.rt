@@ -6,7 +6,7 @@ ghost use Rattle.unit_state.specs.State.{KeepsRules};
 ghost use Rattle.unit_state.specs.Restart.{restarted};
 ghost use Rattle.unit_image.specs.Shows.{Shows};
 ghost use Rattle.run_promise.specs.Log.{entries_of};
-ghost use Rattle.run_promise.specs.Site.{site_seen};
+ghost use Rattle.run_promise.specs.Call.{site_seen};
 ghost use Rattle.unit_book.specs.Book.{IsKept, begun};
 
 use crate::book::Book;

@@ -48,7 +48,7 @@ pub struct Book<O: Site> {
 impl<O: Site> Model for Book<O> {
     ghost use Rattle.std.specs.Prelude.{◌≡◌, ◌≤◌, length, vec_capacity, vec_len};
     ghost use Rattle.run_promise.specs.Log.{entries_of};
-    ghost use Rattle.run_promise.specs.Site.{site_seen};
+    ghost use Rattle.run_promise.specs.Call.{site_seen};
     ghost use Rattle.unit_book.specs.Log.{lines};
     ghost use Rattle.run_promise.specs.declared.limits.TheConstants.{MOST_ENTRIES};
     ghost use Rattle.sdls_base.specs.declared.version.TheConstants.{CONTENT_LENGTH_TWO};

@@ -9,7 +9,7 @@ ghost use Rattle.unit_state.specs.Laws.{IsNoMarks};
 ghost use Rattle.unit_book.specs.Marks.{KeepsMarks};
 ghost use Rattle.unit_book.specs.Book.{IsKept, IsNextState};
 ghost use Rattle.unit_book.specs.GoesOn.{GoesOn, IsCalm, TellsRise};
-ghost use Rattle.run_promise.specs.Entries.{IsNeedOf, IsStepOf};
+ghost use Rattle.run_promise.specs.History.{IsNeedOf, IsStepOf};
 ghost use Rattle.unit_book.specs.Records.{Handles, LeavesNoOctets, RefusesMessage};
 
 use crate::book::Book;

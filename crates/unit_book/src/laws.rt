@@ -8,7 +8,7 @@ ghost use Rattle.ep_core.specs.declared.need.Need.{Need};
 ghost use Rattle.run_promise.specs.Log.{entries_of};
 ghost use Rattle.unit_book.specs.Marks.{HasNoRelease, KeepsMarks};
 ghost use Rattle.run_promise.specs.Numbers.{mark_of};
-ghost use Rattle.run_promise.specs.Entries.{IsNeedOf};
+ghost use Rattle.run_promise.specs.History.{IsNeedOf};
 ghost use Rattle.unit_book.specs.Book.{BookView, IsKept};
 ghost use Rattle.unit_book.specs.Needs.{NamesKey};
 ghost use Rattle.unit_book.specs.Epoch.{epoch_state, ServesAlike, HasBounds};

@@ -17,7 +17,7 @@ use Rattle.unit_state.specs.declared.state.State.{State}
 use Rattle.unit_state.specs.Initial.{initial}
 use Rattle.unit_state.specs.Restart.{restarted}
 use Rattle.unit_state.specs.State.{KeepsRules}
-use Rattle.run_promise.specs.Begin.{Begin}
+use Rattle.run_promise.specs.Call.{Begin}
 use Rattle.unit_drill.specs.Chunks.{UnitIsOpened}
 use Rattle.unit_drill.specs.Plans.{receiver_lines, receiver_plan, sender_lines, sender_plan}
 use Rattle.unit_drill.proofs.Judging.{receiving}

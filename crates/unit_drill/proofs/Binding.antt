@@ -4,7 +4,7 @@ use Rattle.std.specs.List.{range_with_len}
 use Rattle.sdls_base.specs.declared.states.Direction.TheVariants.{Send}
 use Rattle.sdls_base.specs.declared.states.Suite.{Suite}
 use Rattle.frame_shield.specs.declared.binding.Binding.{Binding}
-use Rattle.run_promise.specs.ProtectingFrames.{protect_reply}
+use Rattle.run_promise.specs.Fits.{protect_reply}
 use Rattle.unit_drill.specs.Plans.{key_of, link_line}
 use Rattle.unit_drill.proofs.Read.{sender_bare}
 use Rattle.unit_drill.proofs.Lanes.{begun, each, four, key_on, state_at, suite_on}

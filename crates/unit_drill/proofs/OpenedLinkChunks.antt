@@ -15,7 +15,7 @@ use Rattle.record_io.specs.declared.records.Record.{Record}
 use Rattle.counter_table.specs.declared.view.View.{View}
 use Rattle.counter_table.specs.Whole.{IsWhole}
 use Rattle.run_promise.specs.Fits.{Fits}
-use Rattle.run_promise.specs.Begin.{Begin}
+use Rattle.run_promise.specs.Call.{Begin}
 use Rattle.run_promise.specs.Deed.{Deed, deed_of}
 use Rattle.law_workers.specs.Deeds.{Ascend, course_in, deeds_of}
 use Rattle.law_workers.specs.Opened.{IsJustOpened}

@@ -13,11 +13,10 @@ use Rattle.counter_table.specs.declared.counters.Counters.{Counters}
 use Rattle.counter_table.specs.declared.counters.Worker.{Worker}
 use Rattle.counter_table.specs.declared.view.Opening.{Opening}
 use Rattle.counter_table.specs.Worker.{view}
-use Rattle.run_promise.specs.Site.{SiteSeen}
+use Rattle.run_promise.specs.Call.{SiteSeen, Begin}
 use Rattle.unit_book.specs.Book.{BookView}
 use Rattle.shared_unit.specs.Sharing.{Begins}
 use Rattle.shared_unit.specs.Sharing as sharing
-use Rattle.run_promise.specs.Begin.{Begin}
 use Rattle.unit_drill.specs.Chunks.{MayServe, UnitIsOpened}
 
 module _ {B : Type 0} (site : SiteSeen) (book : BookView) (counters : Counters B) (planned : PlanLines)

@@ -10,7 +10,7 @@ use Rattle.record_io.specs.declared.answers.Answer.{Answer}
 use Rattle.record_io.specs.declared.code.TheConstants as codes_of
 use Rattle.record_io.specs.declared.records.Record.{Record}
 use Rattle.record_io.specs.Places.{Place}
-use Rattle.run_promise.specs.Begin.{Begin}
+use Rattle.run_promise.specs.Call.{Begin}
 use Rattle.unit_drill.specs.declared.counts.Counts.{Counts}
 use Rattle.unit_drill.specs.Arriving.{arrived_frames, arrived_tasks, count_lost}
 use Rattle.unit_drill.specs.Chunks.{HandlesSegment, UnitIsOpened}

@@ -29,12 +29,10 @@ use Rattle.frame_checks.specs.declared.open_reply.OpenReply.{OpenReply}
 use Rattle.frame_checks.specs.declared.open_reply.OpenReply.TheVariants.{Accepted}
 use Rattle.frame_checks.specs.OpeningFrames.{IsOpenReply}
 use Rattle.run_promise.specs.Answers.{Told, told_by, opened_told}
-use Rattle.run_promise.specs.Counts.{draws, drawers, is_none_index, reserves_of}
-use Rattle.run_promise.specs.Entries.{frame_change, frame_entry, raised_floor}
+use Rattle.run_promise.specs.History.{draws, drawers, is_none_index, reserves_of, frame_change, frame_entry}
+use Rattle.run_promise.specs.History.{raised_floor, IsLegal, IsOpening, NearWord}
 use Rattle.run_promise.specs.Fits.{Course, Fits, FitsKind, IsOpenAnswer}
-use Rattle.run_promise.specs.Legal.{IsLegal, IsOpening}
-use Rattle.run_promise.specs.Run.{NearWord}
-use Rattle.run_promise.specs.Begin.{Begin}
+use Rattle.run_promise.specs.Call.{Begin}
 use Rattle.run_promise.specs.Deed.{Deed}
 use Rattle.law_workers.specs.Deeds.{Does, course_in}
 use Rattle.law_workers.specs.Order.{Layout, TakeTurns}

@@ -11,7 +11,7 @@ use Rattle.unit_state.specs.Applied.{applied}
 use Rattle.unit_state.specs.History.{after, epoch_after}
 use Rattle.unit_state.specs.Restart.{counts}
 use Rattle.unit_state.proofs.Histories.{after_more, epochs_more}
-use Rattle.run_promise.specs.Legal.{IsReserve}
+use Rattle.run_promise.specs.History.{IsReserve}
 use Rattle.run_promise.specs.Numbers.{mark_of, floor_of, reserve_of}
 use Rattle.unit_drill.proofs.Read.{sender_bare}
 use Rattle.unit_drill.proofs.Lanes.{begun, each, end_on, floor_on, four, key_lane, key_on, mark_on, marked_on, state_at}

@@ -28,13 +28,10 @@ use Rattle.frame_shield.specs.declared.binding.Binding.{Binding}
 use Rattle.frame_shield.specs.Protects.{Protects}
 use Rattle.frame_checks.specs.ProtectingFrames as protecting
 use Rattle.run_promise.specs.Answers.{Told, told_by, unbound_told}
-use Rattle.run_promise.specs.Counts.{drawers, draws}
-use Rattle.run_promise.specs.Fits.{Course, Fits, IsBound, IsExhausted, IsProtected, IsUnbound}
-use Rattle.run_promise.specs.Legal.{IsLegal, IsReserve}
+use Rattle.run_promise.specs.History.{drawers, draws, IsLegal, IsReserve, IsAskedFor, NearWord}
+use Rattle.run_promise.specs.Fits.{Course, Fits, IsBound, IsExhausted, IsProtected, IsUnbound, protect_reply}
 use Rattle.run_promise.specs.Numbers.{mark_of}
-use Rattle.run_promise.specs.ProtectingFrames.{protect_reply}
-use Rattle.run_promise.specs.Run.{IsAskedFor, NearWord}
-use Rattle.run_promise.specs.Begin.{Begin}
+use Rattle.run_promise.specs.Call.{Begin}
 use Rattle.run_promise.specs.Deed.{Deed}
 use Rattle.law_workers.specs.Deeds.{Does, course_in}
 use Rattle.law_workers.specs.Order.{Handled, Layout}

@@ -33,11 +33,10 @@ use Rattle.record_io.specs.declared.records.Record.{Record}
 use Rattle.record_io.specs.Answers.{IsAnswer}
 use Rattle.record_io.specs.Places.{Place, records_of}
 use Rattle.run_promise.specs.Account.{deeds_from}
-use Rattle.run_promise.specs.Begin.{Begin}
-use Rattle.run_promise.specs.Counts.{drawers}
+use Rattle.run_promise.specs.Call.{Begin}
+use Rattle.run_promise.specs.History.{drawers}
 use Rattle.run_promise.specs.Deed.{deed_of}
-use Rattle.run_promise.specs.Reports.{AreReported, noted_of}
-use Rattle.run_promise.specs.Sound.{IsSound}
+use Rattle.run_promise.specs.Sound.{AreReported, noted_of, IsSound}
 use Rattle.unit_image.specs.Image.{held}
 use Rattle.unit_drill.specs.Chunks.{HandlesSegment, UnitIsOpened}
 use Rattle.unit_drill.specs.UnitRun.{RunsSoundly, in_segment, says_fault}

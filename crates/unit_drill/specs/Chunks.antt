@@ -19,7 +19,7 @@ use Rattle.counter_table.specs.Numbers.{ALL_SHARES}
 use Rattle.counter_table.specs.Whole.{IsWhole}
 use Rattle.counter_table.specs.Worker.{view}
 use Rattle.shared_unit.specs.Turn.{IsReady}
-use Rattle.run_promise.specs.Begin.{Begin}
+use Rattle.run_promise.specs.Call.{Begin}
 use Rattle.law_workers.specs.Deeds.{deeds_of}
 use Rattle.law_workers.specs.Order.{Layout, LiesIn, Handled}
 use Rattle.law_workers.specs.Opened as runs

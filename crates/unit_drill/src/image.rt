@@ -7,10 +7,10 @@ ghost use Rattle.sdls_outside.specs.Crash.{fresh};
 ghost use Rattle.sdls_outside.specs.MemSite.{site_trace};
 ghost use Rattle.unit_drill.specs.Plans.{receiver_plan, sender_plan};
 
-use unit_image::create_image;
 use sdls_base::{CONTENT_LENGTH_TWO, NoMemory};
 use sdls_outside::{Crash, MemSite};
 use std::alloc::{AllocError, Global};
+use unit_image::create_image;
 use unit_plan::{MOST_OCTETS, Plan};
 use unit_state::State;
 

@@ -3,7 +3,7 @@ ghost use Rattle.std.specs.Prelude.{◌≡◌, ◌≢◌, ◌-◌, ◌%◌, ◌�
 ghost use Rattle.std.specs.List.{All, list_any};
 ghost use Rattle.counter_table.specs.Worker.{view};
 ghost use Rattle.record_io.specs.declared.records.Record.{Record};
-ghost use Rattle.run_promise.specs.Begin.{Begin};
+ghost use Rattle.run_promise.specs.Call.{Begin};
 ghost use Rattle.law_workers.specs.Deeds.{Ascend};
 ghost use Rattle.law_workers.specs.Began.{BeganWith};
 ghost use Rattle.unit_drill.specs.Chunks.{HandlesSegment, MayServe, UnitIsOpened};

@@ -26,7 +26,7 @@ use Rattle.run_promise.specs.Log.{entries_of, pieces_of}
 use Rattle.shared_unit.specs.Calls.{IsPut}
 use Rattle.shared_unit.specs.Told.{known_of_book}
 use Rattle.shared_unit.specs.Turn.{Visits}
-use Rattle.run_promise.specs.Begin.{Begin}
+use Rattle.run_promise.specs.Call.{Begin}
 use Rattle.law_workers.specs.Views.{log_of, entries_in}
 use Rattle.law_workers.specs.Work.{Worked}
 use Rattle.law_workers.proofs.Histories.{entries_both}

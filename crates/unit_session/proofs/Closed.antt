@@ -18,7 +18,7 @@ use Rattle.unit_state.specs.declared.state.State.{State}
 use Rattle.unit_state.specs.Restart.{restarted}
 use Rattle.unit_image.specs.OpeningImage.{Opening}
 use Rattle.unit_image.specs.Shows.{Shows}
-use Rattle.run_promise.specs.Site.{SiteSeen}
+use Rattle.run_promise.specs.Call.{SiteSeen}
 use Rattle.unit_book.specs.Book.{BookView}
 use Rattle.run_promise.specs.Numbers.{mark_at}
 use Rattle.shared_unit.specs.Sharing.{Begins, BookIsOpened}

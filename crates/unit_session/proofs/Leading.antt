@@ -15,7 +15,7 @@ use Rattle.record_io.specs.Input.{Item}
 use Rattle.record_io.specs.Places.{Place, counted, first_count, places_of, records_of}
 use Rattle.record_io.specs.Reading.{GoesOn, HasFaultCause, Loses, ReadsMonitor, ReadsTo, SourceSeen, Standing}
 use Rattle.run_promise.specs.Account.{HandledRead}
-use Rattle.run_promise.specs.Begin.{Begin}
+use Rattle.run_promise.specs.Call.{Begin}
 use Rattle.run_promise.specs.declared.end.RunEnd.{RunEnd}
 use Rattle.run_promise.specs.declared.end.RunEnd.TheVariants as ends
 use Rattle.law_runs.specs.Coming.{IsServed, notes_in}

@@ -12,7 +12,7 @@ use Rattle.counter_table.specs.Whole.{IsWhole, RowStands}
 use Rattle.record_io.specs.declared.records.Record.{Record}
 use Rattle.unit_book.specs.Book.{BookView}
 use Rattle.run_promise.specs.Log.{entries_of}
-use Rattle.run_promise.specs.Begin.{Begin}
+use Rattle.run_promise.specs.Call.{Begin}
 use Rattle.shared_unit.specs.Told.{entry_count, known_of_book}
 use Rattle.shared_unit.specs.Turn.{Visits}
 use Rattle.law_workers.specs.Began.{BeganWith}

@@ -7,7 +7,7 @@ use Rattle.record_io.specs.declared.answers.Answer.{Answer}
 use Rattle.record_io.specs.declared.kinds.RecordKind.TheVariants.{Monitor}
 use Rattle.record_io.specs.declared.records.Record.{Record}
 use Rattle.run_promise.specs.Deed.{deed_of}
-use Rattle.run_promise.specs.Reports.{IsReported}
+use Rattle.run_promise.specs.Sound.{IsReported}
 use Rattle.counter_table.specs.declared.view.View.{View}
 use Rattle.law_workers.specs.Deeds.{Ascend}
 use Rattle.law_workers.specs.Reporting.{IsReportAt}

@@ -11,7 +11,7 @@ use Rattle.record_io.specs.declared.kinds.RecordKind.{RecordKind}
 use Rattle.record_io.specs.declared.kinds.RecordKind.TheVariants.{Protect, Open, Command, Monitor}
 use Rattle.record_io.specs.declared.records.Record.{Record}
 use Rattle.run_promise.specs.Deed.{Deed, deed_of, is_monitored, tells_count}
-use Rattle.run_promise.specs.Reports.{AreReported, noted_of}
+use Rattle.run_promise.specs.Sound.{AreReported, noted_of}
 use Rattle.law_workers.specs.Deeds.{deeds_of}
 
 pub deeds_none : (number : ℕ) (records : List Record) → deeds_of number records [] ≡ []

@@ -13,7 +13,7 @@ use Rattle.key_book.specs.KeyBook.{place_of}
 use Rattle.unit_state.specs.History.{after, after_first, epoch_after}
 use Rattle.run_promise.specs.Log.{entries_of, pieces_of}
 use Rattle.run_promise.specs.Numbers.{mark_of}
-use Rattle.run_promise.specs.Begin.{Begin}
+use Rattle.run_promise.specs.Call.{Begin}
 use Rattle.law_workers.specs.Views.{KnowsMore, log_of}
 use Rattle.law_workers.proofs.Joining.{does_then, does_nothing}
 use Rattle.law_workers.proofs.Logs.{times_both}

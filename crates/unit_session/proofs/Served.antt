@@ -13,7 +13,7 @@ use Rattle.record_io.specs.declared.answers.Answer.{Answer}
 use Rattle.record_io.specs.declared.records.Record.{Record}
 use Rattle.record_io.specs.Answers.{IsAnswer, answers_octets}
 use Rattle.unit_book.specs.declared.fault.BookFault.{BookFault}
-use Rattle.run_promise.specs.Begin.{Begin}
+use Rattle.run_promise.specs.Call.{Begin}
 use Rattle.sdls_outside.specs.Faults.{Rose}
 use Rattle.run_promise.specs.declared.limits.TheConstants.{MOST_ENTRIES}
 use Rattle.law_workers.specs.Views.{entries_in, log_of}
@@ -22,7 +22,7 @@ use Rattle.law_workers.specs.Deeds.{Ascend, deeds_of}
 use Rattle.run_promise.specs.Deed.{Deed, is_entered}
 use Rattle.law_workers.specs.Order.{Handled, Layout, LiesIn}
 use Rattle.law_workers.proofs.Counting.{none_failed}
-use Rattle.run_promise.specs.Alone.{OneLane}
+use Rattle.run_promise.specs.OneLane.{OneLane}
 use Rattle.law_workers.specs.Alone.{ServedAlone}
 use Rattle.law_workers.specs.Words.{MovesCounted}
 use Rattle.law_workers.specs.Began.{BeganWith}

@@ -12,7 +12,7 @@ use Rattle.counter_table.specs.Whole.{IsWhole}
 use Rattle.counter_table.specs.Worker.{view}
 use Rattle.counter_table.specs.Numbers.{ALL_SHARES}
 use Rattle.shared_unit.specs.Turn.{IsReady}
-use Rattle.run_promise.specs.Begin.{Begin}
+use Rattle.run_promise.specs.Call.{Begin}
 use Rattle.law_workers.specs.Views.{log_of}
 use Rattle.law_workers.specs.Began.{BeganWith}
 use Rattle.law_runs.specs.Doing.{PutsPieces, SettlesWork, octets_put}

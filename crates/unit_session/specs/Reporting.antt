@@ -7,7 +7,7 @@ use Rattle.record_io.specs.declared.answers.Answer.{Answer}
 use Rattle.record_io.specs.declared.records.Record.{Record}
 use Rattle.run_promise.specs.Answers.{monitored_told, told_by}
 use Rattle.run_promise.specs.Fits.{IsWanting}
-use Rattle.run_promise.specs.Reports.{AreReported, noted_of}
+use Rattle.run_promise.specs.Sound.{AreReported, noted_of}
 use Rattle.law_workers.specs.Deeds.{deeds_of}
 
 -- the answer to a monitoring message, by what the log reports, when the run has so many entries; or memory ran out

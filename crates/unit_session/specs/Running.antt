@@ -12,10 +12,9 @@ use Rattle.record_io.specs.declared.status.TheConstants.{SITE_FAULT}
 use Rattle.record_io.specs.Answers.{IsAnswer, answer_octets}
 use Rattle.record_io.specs.Reading.{SourceSeen}
 use Rattle.unit_image.specs.declared.fault.OpenFault.{OpenFault}
-use Rattle.run_promise.specs.Site.{SiteSeen}
+use Rattle.run_promise.specs.Call.{SiteSeen, Begin}
 use Rattle.unit_book.specs.Book.{BookView, IsKept}
 use Rattle.shared_unit.specs.Told.{known_of_book}
-use Rattle.run_promise.specs.Begin.{Begin}
 use Rattle.law_workers.specs.Began.{BeganWith}
 use Rattle.run_promise.specs.declared.end.RunEnd.{RunEnd}
 use Rattle.run_promise.specs.Account.{end_answer, end_status}

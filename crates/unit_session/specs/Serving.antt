@@ -7,7 +7,7 @@ use Rattle.record_io.specs.declared.records.SegmentEnd.{SegmentEnd}
 use Rattle.record_io.specs.declared.records.SegmentEnd.TheVariants as segments
 use Rattle.record_io.specs.Reading.{SourceSeen, Standing}
 use Rattle.std.specs.Prelude.{Option, Some, None}
-use Rattle.run_promise.specs.Begin.{Begin}
+use Rattle.run_promise.specs.Call.{Begin}
 use Rattle.run_promise.specs.declared.end.RunEnd.{RunEnd}
 use Rattle.run_promise.specs.declared.end.RunEnd.TheVariants as ends
 use Rattle.fsr_log.specs.Report.{Report, report_of}

@@ -5,7 +5,7 @@ ghost use Rattle.record_io.specs.Answers.{IsAnswer};
 ghost use Rattle.unit_book.specs.Book.{BookView, IsKept};
 ghost use Rattle.run_promise.specs.Log.{entries_of};
 ghost use Rattle.run_promise.specs.Account.{end_answer};
-ghost use Rattle.run_promise.specs.Site.{site_seen};
+ghost use Rattle.run_promise.specs.Call.{site_seen};
 ghost use Rattle.law_runs.specs.Ending.{Finishes, IsToldEnd, PutsEnd};
 
 use record_io::status::SITE_FAULT;

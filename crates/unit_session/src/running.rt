@@ -3,10 +3,9 @@ ghost use Rattle.std.specs.Prelude.{◌≡◌, ◌≤◌, IsTrue, [], MatchResul
 ghost use Rattle.sdls_outside.specs.Disk.{Leaves};
 ghost use Rattle.counter_table.specs.Worker.{view};
 ghost use Rattle.record_io.specs.Reading.{SourceSeen, source_seen};
-ghost use Rattle.run_promise.specs.Call.{call_seen};
-ghost use Rattle.run_promise.specs.Lives.{EndsAndLives};
+ghost use Rattle.run_promise.specs.Call.{call_seen, site_seen};
+ghost use Rattle.run_promise.specs.Life.{EndsAndLives};
 ghost use Rattle.run_promise.specs.Account.{end_status};
-ghost use Rattle.run_promise.specs.Site.{site_seen};
 ghost use Rattle.law_runs.specs.Refused.{refused_end};
 ghost use Rattle.unit_session.specs.Putting.{IsAlone, OfRun};
 ghost use Rattle.unit_session.specs.Running.{PutsRefusal, RunsUnit};

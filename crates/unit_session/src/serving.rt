@@ -7,7 +7,7 @@ ghost use Rattle.record_io.specs.Input.{Item};
 ghost use Rattle.record_io.specs.Reading.{first_standing, IsReading, SourceSeen, source_seen};
 ghost use Rattle.counter_table.specs.Worker.{view};
 ghost use Rattle.counter_table.specs.declared.view.View.{View};
-ghost use Rattle.run_promise.specs.Begin.{Begin};
+ghost use Rattle.run_promise.specs.Call.{Begin};
 ghost use Rattle.law_workers.specs.Deeds.{Ascend};
 ghost use Rattle.law_workers.specs.Began.{BeganWith};
 ghost use Rattle.unit_session.specs.Putting.{IsAlone, OfRun};

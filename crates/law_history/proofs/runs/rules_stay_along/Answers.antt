@@ -1,5 +1,5 @@
 use Rattle.record_io.specs.Places.{records_of}
-use Rattle.run_promise.specs.Run.{TurnIn}
+use Rattle.run_promise.specs.History.{TurnIn}
 use Rattle.law_history.proofs.Along.{of_places, rules_along}
 use Rattle.law_history.proofs.runs.rules_stay_along.Goals as goal
 

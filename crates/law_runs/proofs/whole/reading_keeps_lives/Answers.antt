@@ -1,4 +1,4 @@
-use Rattle.run_promise.specs.Lives.{no_account}
+use Rattle.run_promise.specs.Life.{no_account}
 use Rattle.law_runs.proofs.Resting.{reads_soundly}
 use Rattle.law_runs.proofs.whole.reading_keeps_lives.Goals as goal
 

@@ -1,6 +1,6 @@
 use Rattle.std.proofs.Common.{IsTrue, subst}
 use Rattle.sdls_outside.specs.Moments.{EachMoment}
-use Rattle.run_promise.specs.Site.{SiteSeen}
+use Rattle.run_promise.specs.Call.{SiteSeen}
 use Rattle.sdls_plain.specs.Stat.{ShowsAlone}
 use Rattle.sdls_plain.proofs.Telling.{book_moments}
 use Rattle.sdls_plain.proofs.stat.tell_state.Goals as goal

@@ -1,4 +1,4 @@
-use Rattle.run_promise.specs.Lives.{no_account}
+use Rattle.run_promise.specs.Life.{no_account}
 use Rattle.sdls_run.proofs.Reading.{sinks_soundly}
 use Rattle.sdls_run.proofs.laws.sinking_keeps_lives.Goals as goal
 

@@ -1,8 +1,7 @@
 use Rattle.std.proofs.Common.{◌∙◌, subst, sym}
 use Rattle.sdls_outside.specs.Faults.{Rose}
 use Rattle.record_io.specs.Reading.{source_seen}
-use Rattle.run_promise.specs.Call.{CallSeen, call_seen}
-use Rattle.run_promise.specs.Site.{site_seen}
+use Rattle.run_promise.specs.Call.{CallSeen, call_seen, site_seen}
 use Rattle.command_words.specs.Words.{command_of}
 use Rattle.command_words.proofs.Sinking.{ends_only_sinks}
 use Rattle.sdls_plain.specs.Unserved.{IsUnserved}

@@ -6,7 +6,7 @@ use Rattle.fsr_log.specs.Report.{report_of}
 use Rattle.record_io.specs.declared.answers.Answer.{Answer}
 use Rattle.record_io.specs.declared.records.Record.{Record}
 use Rattle.run_promise.specs.Deed.{Deed, deed_of}
-use Rattle.run_promise.specs.Reports.{noted_of}
+use Rattle.run_promise.specs.Sound.{noted_of}
 use Rattle.law_workers.specs.Deeds.{deeds_of}
 use Rattle.unit_session.proofs.Noting.{deeds_none, notes_more}
 use Rattle.unit_session.proofs.reporting.note_all.Goals as goal

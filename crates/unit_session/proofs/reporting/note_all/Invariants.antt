@@ -2,7 +2,7 @@ use Rattle.std.proofs.Common.{◌≡◌, ℕ, List, ◌++◌, take}
 use Rattle.std.specs.Prelude.{map}
 use Rattle.fsr_log.specs.Noted.{Noted}
 use Rattle.fsr_log.specs.Report.{report_of}
-use Rattle.run_promise.specs.Reports.{noted_of}
+use Rattle.run_promise.specs.Sound.{noted_of}
 use Rattle.law_workers.specs.Deeds.{deeds_of}
 use Rattle.unit_session.proofs.reporting.note_all.Given as goal
 

@@ -3,8 +3,8 @@ use Rattle.sdls_base.specs.declared.entry.Entry.{Entry}
 use Rattle.record_io.specs.Reading.{SourceSeen}
 use Rattle.counter_table.specs.declared.view.View.{View}
 use Rattle.counter_table.specs.Worker.{view}
-use Rattle.run_promise.specs.Lives.{EndsAndLives}
-use Rattle.run_promise.specs.Site.{SiteSeen, site_seen}
+use Rattle.run_promise.specs.Life.{EndsAndLives}
+use Rattle.run_promise.specs.Call.{SiteSeen, site_seen}
 use Rattle.unit_session.specs.Running.{PutsRefusal, RunsUnit}
 use Rattle.unit_session.proofs.Closed.{has_run}
 use Rattle.unit_session.proofs.running.run_recorded.Goals as goal

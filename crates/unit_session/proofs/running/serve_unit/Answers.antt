@@ -1,6 +1,6 @@
 use Rattle.std.proofs.Common.{ℕ, List, subst}
 use Rattle.counter_table.specs.Worker.{view}
-use Rattle.run_promise.specs.Site.{site_seen}
+use Rattle.run_promise.specs.Call.{site_seen}
 use Rattle.law_runs.specs.Ending.{Finishes}
 use Rattle.unit_session.proofs.running.serve_unit.Goals as goal
 

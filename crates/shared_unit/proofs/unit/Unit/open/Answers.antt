@@ -1,5 +1,5 @@
 use Rattle.std.proofs.Common.{subst}
-use Rattle.run_promise.specs.Site.{SiteSeen}
+use Rattle.run_promise.specs.Call.{SiteSeen}
 use Rattle.unit_image.specs.declared.fault.OpenFault.TheVariants.{NoMemory}
 use Rattle.unit_image.specs.OpeningImage.{LeavesShown}
 use Rattle.unit_image.proofs.OpenFaults.{left_shown}

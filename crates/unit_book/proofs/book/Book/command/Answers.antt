@@ -3,7 +3,7 @@ use Rattle.unit_state.specs.Allows.{Allows}
 use Rattle.ep_core.specs.declared.need.Need.{Need}
 use Rattle.ep_core.specs.Seen.{MeetsNeed}
 use Rattle.unit_book.specs.Book.{BookView}
-use Rattle.run_promise.specs.Entries.{IsNeedOf}
+use Rattle.run_promise.specs.History.{IsNeedOf}
 use Rattle.unit_book.proofs.MarksKept.{no_marks_kept}
 use Rattle.unit_book.proofs.book.Book.command.Goals as goal
 

@@ -1,5 +1,5 @@
 use Rattle.std.proofs.Common.{◌≡◌, ◌≤◌, IsTrue, Ok, Err, sym, ap, subst, arith, ◌∙◌}
-use Rattle.run_promise.specs.Stored.{IsStored}
+use Rattle.run_promise.specs.Log.{IsStored}
 use Rattle.unit_book.specs.declared.fault.BookFault.TheVariants.{SiteFault}
 use Rattle.unit_book.specs.Book.{BookView, Enters, IsKept, IsUnstored, LeavesStateAlone}
 use Rattle.unit_book.proofs.Keeping.{Ready, ready_of, alone_stored, kept_stored, kept_failed, enters, kept_left_out}

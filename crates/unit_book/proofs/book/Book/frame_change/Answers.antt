@@ -3,7 +3,7 @@ use Rattle.sdls_base.specs.declared.change.Change.TheVariants.{Accepted}
 use Rattle.unit_state.specs.Allows.{Allows}
 use Rattle.frame_checks.specs.declared.open_reply.OpenReply.{OpenReply}
 use Rattle.frame_checks.specs.Accepting.{MayBeAccepted, OnAccepted}
-use Rattle.run_promise.specs.Entries.{frame_change}
+use Rattle.run_promise.specs.History.{frame_change}
 use Rattle.run_promise.proofs.Accepted.{accept_allowed, nothing_changed}
 use Rattle.unit_book.proofs.book.Book.frame_change.Goals as goal
 

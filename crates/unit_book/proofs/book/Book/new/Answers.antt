@@ -1,5 +1,5 @@
 use Rattle.std.proofs.Common.{ap}
-use Rattle.run_promise.specs.Site.{SiteSeen, site_seen}
+use Rattle.run_promise.specs.Call.{SiteSeen, site_seen}
 use Rattle.unit_book.proofs.Fresh.{fresh_shown}
 use Rattle.unit_book.proofs.book.Book.new.Goals as goal
 

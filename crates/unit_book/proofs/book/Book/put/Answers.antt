@@ -1,5 +1,5 @@
 use Rattle.std.proofs.Common.{ap}
-use Rattle.run_promise.specs.Site.{SiteSeen, site_seen}
+use Rattle.run_promise.specs.Call.{SiteSeen, site_seen}
 use Rattle.unit_book.proofs.Serving.{sank_puts}
 use Rattle.unit_book.proofs.Keeping.{entries_put, kept_put_shown}
 use Rattle.unit_book.proofs.book.Book.put.Goals as goal

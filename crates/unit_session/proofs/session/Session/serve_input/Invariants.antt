@@ -1,6 +1,6 @@
 use Rattle.std.proofs.Common.{◌≡◌, ◌-◌, ◌^◌}
 use Rattle.counter_table.specs.Worker.{view}
-use Rattle.run_promise.specs.Begin.{Begin}
+use Rattle.run_promise.specs.Call.{Begin}
 use Rattle.law_workers.specs.Began.{BeganWith}
 use Rattle.unit_session.specs.Putting.{IsAlone}
 use Rattle.unit_session.specs.Serving.{Goes}

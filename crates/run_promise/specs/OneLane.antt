@@ -1,36 +1,42 @@
--- One lane alone, record by record: what a record makes of the history that those before it left, and how it is
--- answered (profile).
-use Rattle.std.specs.Prelude.{◌≡◌, ⊤, ◌⊎◌, ℕ, ◌+◌, ◌<◌, ◌≤◌, ◌==◌, ◌||◌, Bool, IsTrue, List, [], ◌∷◌, ◌++◌, length}
-use Rattle.std.specs.Prelude.{Option, Some, None, Result, Ok, Err}
+-- One lane alone: what each record makes of the history before it, and that the words are those of the machine (profile).
+use Rattle.std.specs.Prelude.{◌≡◌, ◌⊎◌, ℕ, ◌+◌, ◌<◌, ◌≤◌, ◌==◌, ◌||◌, Bool, IsTrue, List, [], ◌∷◌, ◌++◌, length, Option}
+use Rattle.std.specs.Prelude.{Some, None, Result, Ok, Err, ◌≢◌, take, slice_get, slice_index, Contains, false}
+use Rattle.std.specs.List.{All}
 use Rattle.sdls_base.specs.KeyId.{end_of}
 use Rattle.sdls_base.specs.declared.change.Change.{Change}
 use Rattle.sdls_base.specs.declared.entry.Entry.{Entry}
 use Rattle.sdls_base.specs.declared.entry.Seen.{Seen}
+use Rattle.sdls_base.specs.declared.TheConstants.{MOST_KEYS}
 use Rattle.sdls_base.specs.declared.entry.Seen.TheVariants as seens
-use Rattle.key_book.specs.KeyBook.{place_of}
+use Rattle.sdls_outside.specs.Faults.{Rose}
 use Rattle.frame_shield.specs.declared.binding.Binding.{Binding}
 use Rattle.frame_shield.specs.declared.protecting_frames.ShieldFault.{ShieldFault}
 use Rattle.frame_shield.specs.Protects.{Protects}
+use Rattle.unit_plan.specs.PlanLines.{PlanLines}
+use Rattle.key_book.specs.KeyBook.{place_of}
+use Rattle.unit_state.specs.declared.state.State.{State}
+use Rattle.unit_state.specs.History.{after, at_epoch, epoch_after}
 use Rattle.frame_checks.specs.declared.open_reply.OpenReply.{OpenReply}
 use Rattle.frame_checks.specs.OpeningFrames.{IsOpenReply}
 use Rattle.frame_checks.specs.ProtectingFrames.{channel_check}
 use Rattle.ep_core.specs.declared.need.Need.{Need}
-use Rattle.ep_core.specs.declared.need.Need.TheVariants as needs
 use Rattle.ep_core.specs.declared.reply.Reply.{Reply}
+use Rattle.ep_core.specs.declared.need.Need.TheVariants as needs
 use Rattle.record_io.specs.declared.answers.Answer.{Answer}
 use Rattle.record_io.specs.declared.code.TheConstants.{PROTECTED, EXHAUSTED, SITE_FAULT}
 use Rattle.record_io.specs.declared.kinds.RecordKind.{RecordKind}
 use Rattle.record_io.specs.declared.kinds.RecordKind.TheVariants.{Protect, Open, Command, Monitor}
 use Rattle.record_io.specs.declared.records.Record.{Record}
-use Rattle.unit_state.specs.declared.state.State.{State}
-use Rattle.unit_state.specs.History.{after, at_epoch, epoch_after}
 use Rattle.run_promise.specs.Answers.{told_by, numbered, opened_told, replied_told, unbound_told}
-use Rattle.run_promise.specs.Entries.{frame_entry, record_entry, IsNeedOf, IsStepOf}
-use Rattle.run_promise.specs.Numbers.{mark_of, reserve_of}
-use Rattle.run_promise.specs.ProtectingFrames.{protect_reply}
-use Rattle.run_promise.specs.Begin.{Begin}
+use Rattle.run_promise.specs.History.{frame_entry, record_entry, IsNeedOf, IsStepOf}
+use Rattle.run_promise.specs.Numbers.{mark_of, reserve_of, mark_at}
+use Rattle.run_promise.specs.Fits.{protect_reply}
+use Rattle.run_promise.specs.Call.{Begin, CallSeen}
 use Rattle.run_promise.specs.Deed.{Deed, tells_count}
-use Rattle.run_promise.specs.Machine.{Move, Kept, Found, Drew, Raised, Overdrew}
+use Rattle.run_promise.specs.Words.{Move, Kept, Found, Drew, Raised, Overdrew, adds_all, Runs, TellAll}
+use Rattle.run_promise.specs.Account.{Account, AnsweredEach, begin_of, deeds_in}
+
+-- ---- record by record
 
 -- the epoch that stands beside an answer of the checks of a frame that is to be protected: 0 where the plan is enough
 -- for them
@@ -173,14 +179,28 @@ ServesAll begin failed history (deed ∷ deeds) (move ∷ moves) own = (first : 
     × (IsTrue (tells_count deed) → CountsAll failed history deed.answer.position)
     × ServesAll begin (has_failed failed deed.answer) (history ++ first) deeds moves rest
 
--- the same records, one by one
-abbrev pub SameTasks : List Deed → List Deed → Type 0
-SameTasks [] [] = ⊤
-SameTasks [] (other ∷ others) = ⊥
-SameTasks (one ∷ ones) [] = ⊥
-SameTasks (one ∷ ones) (other ∷ others) = (one.task ≡ other.task) × SameTasks ones others
+-- ---- the whole run
 
--- for none of them the site failed or memory ran out
-abbrev pub AreServed : List Deed → Type 0
-AreServed [] = ⊤
-AreServed (deed ∷ deeds) = (deed.answer.code < SITE_FAULT) × AreServed deeds
+-- all records are of one lane; of Monitor records it is not looked at
+abbrev pub OneLane : List Record → Type 0
+OneLane tasks = (lane : ℕ) × All (λ (task : Record). task.kind ≢ Monitor → task.lane ≡ lane) tasks
+
+-- The moves that the answers tell, and one more at most where a record has no answer, are those of the machine whose
+-- words begin at the marks of the image. Each reserve is of a number that was drawn so, and the words by which the keys
+-- were released are those that the machine came to. So many entries are of the lane; those behind them are releases.
+-- The answered records were served one after the other, each in the history that those before it left; they made all
+-- entries of the lane, but for the last at most: one that a record without an answer left, or that failed.
+pub record IsExact (call : CallSeen) (account : Account) (plan : PlanLines) (state : State) (words : List ℕ)
+    (ends : ℕ) : Type 0 where
+  pub moves : List Move
+  pub beyond : List Move
+  pub few : length beyond ≤ 1
+  pub each : AnsweredEach account → beyond ≡ []
+  pub told : TellAll state call.entries (deeds_in account) moves
+  pub runs : Runs MOST_KEYS (mark_at state) (moves ++ beyond)
+  pub reserves : (p : ℕ) (entry : Entry) → p < ends → slice_get call.entries p ≡ Some entry → entry.index ≡ None
+      → (row : ℕ) × (number : ℕ) × (entry.seen ≡ seens.Number number) × Contains (moves ++ beyond) (Drew row number)
+  pub last : (row : ℕ) → row < MOST_KEYS → slice_index words row ≡ mark_at state row + adds_all row (moves ++ beyond)
+  pub served : (own : List Entry) × (rest : List Entry) × (take ends call.entries ≡ own ++ rest)
+      × ServesAll (begin_of call plan state) false [] (deeds_in account) moves own × (length rest ≤ 1)
+      × (AnsweredEach account → ¬ Rose call.site.faults account.last → rest ≡ [])

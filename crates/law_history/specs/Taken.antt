@@ -1,16 +1,11 @@
--- What a state keeps of what was done in it: floors, numbers accepted, keys loaded (profile).
+-- What a state keeps of what was done in it: numbers accepted, keys loaded (profile).
 use Rattle.std.specs.Prelude.{◌≡◌, ℕ, ◌≤◌, IsTrue, List, All, IsSomeAnd}
-use Rattle.std.specs.Option.{option_map_or}
 use Rattle.sha2.specs.Sha256.{sha256}
 use Rattle.replay_window.specs.Past.{IsPast}
 use Rattle.sa_book.specs.SaRefusal.{receives_with}
 use Rattle.unit_state.specs.declared.state.State.{State}
 use Rattle.unit_state.specs.State.{key_row}
-use Rattle.run_promise.specs.Numbers.{floor_of, released_floor}
-
--- the floor that a release of the key leaves; 0 where the state lacks the key
-abbrev pub kept_floor : State → ℕ → ℕ
-kept_floor state key = option_map_or (released_floor state) (key_row state key) 0
+use Rattle.run_promise.specs.Numbers.{floor_of}
 
 -- No opening accepts the number under the key any more: it is no higher than the key's floor, and past in the window of an
 -- association that receives with the key.
