@@ -5,6 +5,7 @@ pub mod Accepting
 pub mod Along
 pub mod Loaded
 pub mod Codes
+pub mod Behind
 pub mod GoingOn
 pub mod Releasing
 pub mod Used

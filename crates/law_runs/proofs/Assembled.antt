@@ -42,6 +42,7 @@ behind_ended begin old new es rest a b is s t h = record {
   counts = h.counts;
   stopped = h.stopped;
   failed = h.failed;
+  ended = h.ended;
   epochs = λ x y.
       let k = h.epochs x y in
       let l = told_kept a.task.kind _ _ a.answer.position es rest (λ e. let w = (s.entry e).1 in let n : length (entries_in new) ≡ length es = ap length is in omega arith) x in

@@ -7,6 +7,7 @@ pub mod Assembled
 pub mod Beginnings
 pub mod Lives
 pub mod Statuses
+pub mod Stopping
 pub mod Segments
 pub mod Placed
 pub mod Living

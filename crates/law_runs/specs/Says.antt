@@ -10,7 +10,8 @@ use Rattle.unit_state.specs.declared.state.State.{State}
 use Rattle.run_promise.specs.declared.limits.TheConstants.{MOST_ENTRIES}
 use Rattle.run_promise.specs.declared.end.RunEnd.TheVariants.{Ended, Malformed, SourceFault, SessionFull}
 use Rattle.run_promise.specs.Call.{CallSeen, ShowsAtEntry, image_at_entry}
-use Rattle.run_promise.specs.Answers.{SaysSiteFailed}
+use Rattle.run_promise.specs.Answers.{SaysSiteFailed, IsUnmade}
+use Rattle.run_promise.specs.Deed.{Deed, InTurn, is_entered}
 use Rattle.run_promise.specs.Account.{AnsweredEach, HandledAll, begin_of, deeds_in, due_octets, Account}
 use Rattle.run_promise.specs.Words.{Move}
 use Rattle.run_promise.specs.OneLane.{ServesAll}
@@ -41,6 +42,11 @@ pub record IsLeftRefused (call : CallSeen) : Type 0 where
   pub status_is : (call.status ≡ status.NO_STATE)
       ⊎ ((call.status ≡ status.SITE_FAULT) ⊎ (call.status ≡ status.NO_MEMORY))
   pub image_is : call.site_after.trace.now.image ≡ image_at_entry call
+
+-- behind an answer that says that the site failed, the one to an Open or a Command says that no entry was made
+abbrev pub StopsBehind : Deed → Deed → Type 0
+StopsBehind one other = InTurn one other → SaysSiteFailed one.answer → IsTrue (is_entered other.task.kind)
+    → IsUnmade other.answer.code
 
 -- the history is full: a record without an answer needs an entry, or all have one, and a release is due
 pub record EndsWithFullHistory (call : CallSeen) (ends : RunEnds call) : Type 0 where

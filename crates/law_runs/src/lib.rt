@@ -20,7 +20,8 @@ pub use repeated::{
     one_input_is_handled_alike, one_lane_answers_alike, one_lane_fronts_alike, one_lane_runs_alike,
 };
 pub use status::{
-    due_is_put, faults_are_told, full_is_told, goes_to_its_end, refused_stays,
-    status_five_has_a_fault, status_tells_what_came, unhindered_run_completes, zero_says_all,
+    due_is_put, faults_are_told, full_is_told, goes_to_its_end, no_entry_behind_a_fault,
+    refused_stays, status_five_has_a_fault, status_tells_what_came, unhindered_run_completes,
+    zero_says_all,
 };
 pub use whole::{no_records_are_sound, reading_keeps_lives, refused_run_ends, run_ends_well};

@@ -1,6 +1,6 @@
 //! Laws of what the status of a call says.
 ghost use Rattle.std.specs.Prelude.{◌≡◌, ℕ, ◌+◌, ◌<◌, IsTrue, [], ◌++◌, length, ◌≢◌, ◌⊎◌};
-ghost use Rattle.std.specs.List.{slice_index_or};
+ghost use Rattle.std.specs.List.{AllPairs, slice_index_or};
 ghost use Rattle.unit_state.specs.declared.state.State.{State};
 ghost use Rattle.sdls_outside.specs.Faults.{Rose};
 ghost use Rattle.record_io.specs.declared.answers.Answer.{Answer};
@@ -8,11 +8,12 @@ ghost use Rattle.record_io.specs.declared.status.TheConstants.{DONE, SITE_FAULT,
 ghost use Rattle.unit_plan.specs.PlanLines.{PlanLines};
 ghost use Rattle.unit_image.specs.Shows.{ShowsNone};
 ghost use Rattle.run_promise.specs.declared.end.RunEnd.TheVariants as ends;
-ghost use Rattle.run_promise.specs.Call.{CallSeen, image_at_entry};
-ghost use Rattle.run_promise.specs.Account.{due_octets, end_status};
+ghost use Rattle.run_promise.specs.Call.{CallSeen, ShowsAtEntry, image_at_entry};
+ghost use Rattle.run_promise.specs.Account.{deeds_in, due_octets, end_status};
 ghost use Rattle.run_promise.specs.Answers.{SaysSiteFailed};
 ghost use Rattle.run_promise.specs.Ends.{RunEnds};
 ghost use Rattle.law_runs.specs.Says.{DidAll, GoesToItsEnd, EndsWithFullHistory, IsLeftRefused, IsUnhindered};
+ghost use Rattle.law_runs.specs.Says.{StopsBehind};
 
 use record_io::input_reads_once;
 use unit_image::refused_with_one;
@@ -33,6 +34,13 @@ pub fn due_is_put()
 pub fn faults_are_told()
     ensures { (call : CallSeen) (run : RunEnds call) (k : ℕ) (default : Answer) → k < length run.account.answers
         → SaysSiteFailed (slice_index_or run.account.answers k default) → call.status ≡ SITE_FAULT }
+{}
+
+/// Law: behind an answer that says that the site failed, in turn, each frame to be opened and each command is answered
+/// that no entry was made of it.
+pub fn no_entry_behind_a_fault()
+    ensures { (call : CallSeen) (run : RunEnds call) (plan : PlanLines) (state : State) → IsTrue call.told
+        → ShowsAtEntry call plan state → AllPairs StopsBehind (deeds_in run.account) }
 {}
 
 /// Law: after a fault of the disk the run goes on: with the status of a fault of the site and at least one entry, where

@@ -227,6 +227,10 @@ module _ (begin : Begin) (u v w : View) (ts us : List Record) (ds es : List Deed
         let (code, tells) = fault_tells (IsBetween begin v w) (course_in begin w) e.task e.answer later (inl q) in
         let at : e.answer.position ≡ length (entries_in w) = tells.position_is in
         let more = made_behind (last q) in let x = s.counted p in omega arith;
+    ended = λ p.
+        let risen = fault_rose (IsBetween begin u v) (course_in begin v) d.task d.answer fit p in
+        let same = closed begin u u v w (grows_itself u) b.grows risen in
+        (λ q. let y = t.entry q in omega arith, λ q. let more = made_behind (last q) in omega arith);
     epochs = λ p q. let x = s.epoch p in let y = t.epoch q in let same = told_later begin u u v w (grows_itself u) b.grows d s p in omega arith;
     epochs_before = λ p q. let low = seen_before d s p in let high = t.behind q in omega arith;
     numbers = λ lane c c' k k' keys.

@@ -129,6 +129,7 @@ module _ (begin : Begin) (u v w z : View) (low : KnowsMore u v) (high : KnowsMor
     counts = h.counts;
     stopped = h.stopped;
     failed = h.failed;
+    ended = h.ended;
     epochs = λ a b. let k = h.epochs a b in let l = told_later d s a in let m = told_later e t b in omega arith;
     epochs_before = λ a b. let k = h.epochs_before a b in let same = ap epoch_after (front_later e t b) in omega arith;
     numbers = h.numbers;

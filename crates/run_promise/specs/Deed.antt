@@ -66,8 +66,9 @@ abbrev pub is_ordered : Begin → Deed → Bool
 is_ordered begin deed = tells_entry deed || tells_epoch begin deed
 
 -- The later answer stands behind the earlier one: its entry, or the entries that it counts, its epoch, its number. A
--- frame that is protected first is answered by a state from before the entry of the later one. Behind an entry whose
--- append failed none is made: a count has that one, and one that was told before it is less.
+-- frame that is protected first is answered by a state from before the entry of the later one. Behind an answer that says
+-- that the site failed no entry is made, and none fails: a count has all there are, and one that was told before a failed
+-- one is less.
 pub record StandsBehind (begin : Begin) (history : List Entry) (one other : Deed) : Type 0 where
   pub entries : IsTrue (tells_entry one) → IsTrue (tells_entry other) → one.answer.position < other.answer.position
   pub counted : IsTrue (tells_entry one) → IsTrue (tells_count other) → one.answer.position ≤ other.answer.position
@@ -76,6 +77,7 @@ pub record StandsBehind (begin : Begin) (history : List Entry) (one other : Deed
   pub counts : IsTrue (tells_count one) → IsTrue (tells_count other) → one.answer.position ≤ other.answer.position
   pub stopped : SaysSiteFailed one.answer → IsTrue (tells_count other) → one.answer.position ≡ other.answer.position
   pub failed : IsTrue (tells_count one) → other.answer.code ≡ SITE_FAULT → one.answer.position < other.answer.position
+  pub ended : SaysSiteFailed one.answer → (¬ IsTrue (tells_entry other)) × (other.answer.code ≢ SITE_FAULT)
   pub epochs : IsTrue (is_ordered begin one) → IsTrue (is_ordered begin other)
       → epoch_told history one ≤ epoch_told history other
   pub epochs_before : IsTrue (tells_epoch begin one) → IsTrue (tells_entry other)
