@@ -13,9 +13,11 @@ use Rattle.run_promise.specs.Life.{Given, AcceptsOctets, AreApart, OnceInLife, I
 use Rattle.run_promise.specs.Life.{answers_begun, given_of, given_in}
 use Rattle.law_history.proofs.Along.{of_places, rules_along}
 use Rattle.law_history.proofs.Codes.{accepting_opening}
-use Rattle.law_links.specs.Carried.{AcceptsFrame, AgreeOn, AreRepeated, BindingsAgree, IsCarried, IsDataField}
+use Rattle.law_links.specs.Carried.{AcceptsCovered, AcceptsFrame, AgreeOn, AgreesOnCovered, AreRepeated, BindingsAgree}
+use Rattle.law_links.specs.Carried.{IsCarried, IsDataField}
 use Rattle.law_links.specs.Linked.{AssociationsAgree, released_in}
 use Rattle.law_links.proofs.Begun.{begun_any, given_all}
+use Rattle.law_links.proofs.Frames.{agrees_with_itself}
 use Rattle.law_links.proofs.Given.{IsSent, IsGot, sent, got}
 use Rattle.law_links.proofs.Released.{released_code, released_there}
 
@@ -57,8 +59,30 @@ tells_in_life image runs life given there =
     All-contains Tells (given_in runs) given (follow_tells image runs life.follow) there
 
 abbrev pub FrameOpens : Type 0
-FrameOpens = (one other : Binding) (n m : ℕ) (clear frame field : List ℕ) → Protects one n clear frame
-    → AgreeOn one other → Opens other frame m field → (m ≡ n) × IsDataField one clear field
+FrameOpens = (one other : Binding) (n m : ℕ) (clear frame arrived field : List ℕ) → Protects one n clear frame
+    → AgreeOn one other → AgreesOnCovered one frame arrived → Opens other arrived m field
+    → (m ≡ n) × IsDataField one clear field
+
+-- What it is to accept a frame that was released: the code is that of an acceptance, and the two frames agree on what
+-- is covered.
+pub record IsTaking (takes : Given → Given → Type 0) : Type 0 where
+  pub accepts : (sent got : Given) → takes sent got → got.deed.answer.code ≡ 1
+  pub alike : (sent got : Given) (s : IsSent sent) → takes sent got
+      → AgreesOnCovered s.binding sent.deed.answer.body got.deed.task.octets
+
+pub frames_taken : (key : ℕ) → IsTaking (AcceptsFrame key)
+frames_taken key = record {
+  accepts = λ sent got taken. taken.accepts.0;
+  alike = λ sent got s taken.
+      subst (λ (frame : List ℕ). AgreesOnCovered s.binding sent.deed.answer.body frame) (sym taken.octets)
+      (agrees_with_itself s.binding sent.deed.answer.number sent.deed.task.octets sent.deed.answer.body s.protects);
+}
+
+pub covered_taken : (key : ℕ) → IsTaking (AcceptsCovered key)
+covered_taken key = record {
+  accepts = λ sent got taken. taken.accepts.0;
+  alike = λ sent got s taken. taken.agrees s.binding s.under;
+}
 
 -- what the answer says that released the frame
 sent_of : (image : List ℕ) (sender : List LifeRun) → IsLife image sender → (one : Given)
@@ -73,27 +97,26 @@ pub record IsHanded (sent : Given) (s : IsSent sent) (got : Given) : Type 0 wher
   pub number : got.deed.answer.number ≡ sent.deed.answer.number
   pub field : IsDataField s.binding sent.deed.task.octets got.deed.answer.body
 
-module _ (law : FrameOpens) (image other : List ℕ) (sender receiver : List LifeRun) (life : IsLife image sender)
-    (again : IsLife other receiver) (key : ℕ) (one : Given) (there : Contains (released_in sender) one) where
+module _ (law : FrameOpens) (takes : Given → Given → Type 0) (taking : IsTaking takes) (image other : List ℕ)
+    (sender receiver : List LifeRun) (life : IsLife image sender) (again : IsLife other receiver) (one : Given)
+    (there : Contains (released_in sender) one) where
   abbrev s : IsSent one
   s = sent_of image sender life one there
 
-  handed : (two : Given) → Contains (given_in receiver) two → AcceptsFrame key one two → BindingsAgree one two
+  handed : (two : Given) → Contains (given_in receiver) two → takes one two → BindingsAgree one two
       → IsHanded one s two
-  handed two here takes agree =
-      let g : IsGot two = (tells_in_life other receiver again two here).gets takes.accepts.0 in
-      let opens : Opens g.binding one.deed.answer.body two.deed.answer.number two.deed.answer.body =
-      subst (λ (frame : List ℕ). Opens g.binding frame two.deed.answer.number two.deed.answer.body) takes.octets
-      g.opens in
+  handed two here taken agree =
+      let g : IsGot two = (tells_in_life other receiver again two here).gets (taking.accepts one two taken) in
       let same = agree s.binding g.binding s.under g.under in
       let is = law s.binding g.binding one.deed.answer.number two.deed.answer.number one.deed.task.octets
-      one.deed.answer.body two.deed.answer.body s.protects same opens in
+      one.deed.answer.body two.deed.task.octets two.deed.answer.body s.protects same (taking.alike one two s taken)
+      g.opens in
       record { g = g; agree = same; number = is.0; field = is.1 }
 
-  pub carried : (two : Given) → Contains (given_in receiver) two → AcceptsFrame key one two → BindingsAgree one two
+  pub carried : (two : Given) → Contains (given_in receiver) two → takes one two → BindingsAgree one two
       → IsCarried one two
-  carried two here takes agree =
-      let h : IsHanded one s two = handed two here takes agree in
+  carried two here taken agree =
+      let h : IsHanded one s two = handed two here taken agree in
       record {
         number = h.number;
         one = s.binding;
@@ -116,11 +139,11 @@ module _ (law : FrameOpens) (image other : List ℕ) (sender receiver : List Lif
       (subst (λ (l : List ℕ). AcceptsOctets three three.deed.answer.key l three.deed.answer.number) octets k.g.octets)
 
   pub not_both : (two three : Given) → AreApart two three → Contains (given_in receiver) two
-      → Contains (given_in receiver) three → AcceptsFrame key one two → AcceptsFrame key one three
+      → Contains (given_in receiver) three → takes one two → takes one three
       → BindingsAgree one two → BindingsAgree one three → ⊥
-  not_both two three apart here also takes takes_too agree agree_too =
-      let h : IsHanded one s two = handed two here takes agree in
-      let k : IsHanded one s three = handed three also takes_too agree_too in
+  not_both two three apart here also taken taken_too agree agree_too =
+      let h : IsHanded one s two = handed two here taken agree in
+      let k : IsHanded one s three = handed three also taken_too agree_too in
       apart.accepted_octets two.deed.answer.key three.deed.answer.key h.g.binding.schedule two.deed.answer.number
       h.g.octets (both_accept two three h k)
 
@@ -128,15 +151,16 @@ abbrev pub UsedOnce : Type 0
 UsedOnce = (image : List ℕ) (runs : List LifeRun) → IsLife image runs → OnceInLife runs
 
 -- of two answers of a life not both accept one released frame
-pub arrived_once : FrameOpens → UsedOnce → (image other : List ℕ) (sender receiver : List LifeRun)
-    → IsLife image sender → IsLife other receiver → (key : ℕ) → AssociationsAgree key sender receiver
-    → AllPairs (λ one two. ¬ AreRepeated key (released_in sender) one two) (given_in receiver)
-arrived_once law once image other sender receiver life again key agree i j d lt low (sent, there, first, second) =
+pub arrived_once : FrameOpens → UsedOnce → (takes : Given → Given → Type 0) → IsTaking takes → (image other : List ℕ)
+    (sender receiver : List LifeRun) → IsLife image sender → IsLife other receiver
+    → AssociationsAgree takes sender receiver
+    → AllPairs (λ one two. ¬ AreRepeated takes (released_in sender) one two) (given_in receiver)
+arrived_once law once takes taking image other sender receiver life again agree i j d lt low (sent, there, first, second) =
     let here : Contains (given_in receiver) (slice_index_or (given_in receiver) i d) =
     Contains-get_or (given_in receiver) i d (omega arith) in
     let also : Contains (given_in receiver) (slice_index_or (given_in receiver) j d) =
     Contains-get_or (given_in receiver) j d low in
-    not_both law image other sender receiver life again key sent there (slice_index_or (given_in receiver) i d)
+    not_both law takes taking image other sender receiver life again sent there (slice_index_or (given_in receiver) i d)
     (slice_index_or (given_in receiver) j d) (once other receiver again i j d lt low) here also first second
     (agree sent (slice_index_or (given_in receiver) i d) there here first)
     (agree sent (slice_index_or (given_in receiver) j d) there also second)

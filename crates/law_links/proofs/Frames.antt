@@ -1,22 +1,22 @@
 -- A protected frame opens elsewhere to the number and the data field with which it was protected.
-use Rattle.std.proofs.Common.{◌≡◌, ℕ, List, ◌++◌, sym, ap, ◌∙◌, subst}
+use Rattle.std.proofs.Common.{◌≡◌, ℕ, List, ◌++◌, refl, sym, ap, ◌∙◌, subst}
 use Rattle.std.specs.Prelude.{Some}
 use Rattle.std.specs.Int.{w64, to_be_bytes}
 use Rattle.sdls_base.specs.Link.{mask_octets}
 use Rattle.sdls_base.specs.declared.link.AnyLayout.{AnyLayout}
 use Rattle.sdls_base.specs.declared.states.Suite.{Suite}
-use Rattle.sdls_header.specs.Authenticated.{authenticated}
+use Rattle.sdls_header.specs.Authenticated.{authenticated, masked_octets}
 use Rattle.sdls_header.specs.SecurityHeader.{Pieces, SplitsInto, header_octets}
 use Rattle.sdls_header.specs.declared.pieces.Vector.{Vector}
 use Rattle.sdls_header.specs.declared.pieces.Vector.TheVariants.{Sequence, Wide}
 use Rattle.sdls_header.proofs.Splits.{one_split}
 use Rattle.frame_shield.specs.declared.binding.Binding.{Binding}
-use Rattle.frame_shield.specs.AnyFrame.{AnyParts, IsFrame, prefix_of, room_of}
+use Rattle.frame_shield.specs.AnyFrame.{AnyParts, IsFrame, prefix_of, room_of, with_room}
 use Rattle.frame_shield.specs.Opens.{Opens}
 use Rattle.frame_shield.specs.Protects.{Protects}
 use Rattle.frame_shield.specs.Secured.{sealed, covered, header_of, number_of}
 use Rattle.frame_shield.proofs.OpenFacts.{one_frame, OpensWhatWasSealed}
-use Rattle.law_links.specs.Carried.{AgreeOn, IsDataField}
+use Rattle.law_links.specs.Carried.{AgreeOn, AgreesOnCovered, IsDataField}
 
 -- a protected frame opens
 abbrev pub ProtectedOpens : Type 0
@@ -34,15 +34,23 @@ one_field law key (Wide device n) covers field other text mac a b =
     let iv = device ++ to_be_bytes w64 n in
     same_some field other (sym ((law key iv covers field text mac).1 a) ∙ (law key iv covers other text mac).1 b)
 
--- two openings of one frame, under bindings that agree, are one
-pub opened_alike : OpensWhatWasSealed → (b c : Binding) (frame : List ℕ) (n m : ℕ) (field other : List ℕ) → AgreeOn b c
-    → Opens b frame n field → Opens c frame m other → (n ≡ m) × (field ≡ other)
-opened_alike law b c frame n m field other agree x y =
-    let framed : IsFrame b.link.layout y.parts frame =
-    subst (λ (l : AnyLayout). IsFrame l y.parts frame) (sym agree.layout) y.framed in
-    let parts : x.parts ≡ y.parts = one_frame b.link.layout x.parts y.parts frame x.framed framed in
+-- two openings of frames that agree on what is covered, under bindings that agree, are one
+pub opened_alike : OpensWhatWasSealed → (b c : Binding) (frame arrived : List ℕ) (n m : ℕ) (field other : List ℕ)
+    → AgreeOn b c → AgreesOnCovered b frame arrived
+    → Opens b frame n field → Opens c arrived m other → (n ≡ m) × (field ≡ other)
+opened_alike law b c frame arrived n m field other agree alike x y =
+    let framed : IsFrame b.link.layout y.parts arrived =
+    subst (λ (l : AnyLayout). IsFrame l y.parts arrived) (sym agree.layout) y.framed in
+    let first : x.parts ≡ alike.parts = one_frame b.link.layout x.parts alike.parts frame x.framed alike.released_framed in
+    let second : y.parts ≡ alike.others = one_frame b.link.layout y.parts alike.others arrived framed alike.arrived_framed in
+    let rooms : room_of x.parts ≡ room_of y.parts =
+    ap room_of first ∙ sym alike.room ∙ ap room_of (sym second) in
+    let prefixes : masked_octets (prefix_of b.link.layout y.parts) (mask_octets b.link.mask)
+    ≡ masked_octets (prefix_of b.link.layout x.parts) (mask_octets b.link.mask) =
+    ap (λ (p : AnyParts). masked_octets (prefix_of b.link.layout p) (mask_octets b.link.mask)) second ∙ alike.masked
+    ∙ ap (λ (p : AnyParts). masked_octets (prefix_of b.link.layout p) (mask_octets b.link.mask)) (sym first) in
     let split : SplitsInto b.suite (room_of x.parts) y.pieces =
-    subst (λ (p : AnyParts). SplitsInto b.suite (room_of p) y.pieces) (sym parts)
+    subst (λ (r : List ℕ). SplitsInto b.suite r y.pieces) (sym rooms)
     (subst (λ (s : Suite). SplitsInto s (room_of y.parts) y.pieces) (sym agree.suite) y.secured.split) in
     let pieces : x.pieces ≡ y.pieces = one_split b.suite (room_of x.parts) x.pieces y.pieces x.secured.split split in
     let headers : header_octets (header_of c y.pieces.vector) ≡ header_octets (header_of b x.pieces.vector) =
@@ -52,10 +60,9 @@ opened_alike law b c frame n m field other agree x y =
     ap (λ (h : List ℕ). authenticated (mask_octets c.link.mask) (prefix_of c.link.layout y.parts) h) headers
     ∙ ap (λ (l : AnyLayout). authenticated (mask_octets c.link.mask) (prefix_of l y.parts)
     (header_octets (header_of b x.pieces.vector))) (sym agree.layout)
-    ∙ ap (λ (p : AnyParts). authenticated (mask_octets c.link.mask) (prefix_of b.link.layout p)
-    (header_octets (header_of b x.pieces.vector))) (sym parts)
-    ∙ ap (λ (k : List ℕ). authenticated k (prefix_of b.link.layout x.parts)
-    (header_octets (header_of b x.pieces.vector))) (sym agree.mask) in
+    ∙ ap (λ (k : List ℕ). authenticated k (prefix_of b.link.layout y.parts)
+    (header_octets (header_of b x.pieces.vector))) (sym agree.mask)
+    ∙ ap (λ (p : List ℕ). p ++ header_octets (header_of b x.pieces.vector)) prefixes in
     let seal : sealed b.schedule x.pieces.vector (covered b (prefix_of b.link.layout x.parts) x.pieces.vector) other
     ≡ (x.pieces.field, x.pieces.mac) =
     ap (λ (k : List ℕ). sealed k x.pieces.vector (covered b (prefix_of b.link.layout x.parts) x.pieces.vector) other)
@@ -71,9 +78,21 @@ opened_alike law b c frame n m field other agree x y =
           x.secured.seal seal,
     )
 
-pub carried_over : ProtectedOpens → OpensWhatWasSealed → (b c : Binding) (n m : ℕ) (clear frame field : List ℕ)
-    → Protects b n clear frame
-    → AgreeOn b c → Opens c frame m field → (m ≡ n) × IsDataField b clear field
-carried_over opens law b c n m clear frame field p agree o =
-    let one = opened_alike law b c frame n m (room_of p.parts) field agree (opens b n clear frame p) o in
+pub carried_over : ProtectedOpens → OpensWhatWasSealed → (b c : Binding) (n m : ℕ) (clear frame arrived field : List ℕ)
+    → Protects b n clear frame → AgreeOn b c → AgreesOnCovered b frame arrived → Opens c arrived m field
+    → (m ≡ n) × IsDataField b clear field
+carried_over opens law b c n m clear frame arrived field p agree alike o =
+    let one = opened_alike law b c frame arrived n m (room_of p.parts) field agree alike (opens b n clear frame p) o in
     (sym one.0, record { parts = p.parts; framed = p.clear_framed; field_is = sym one.1 })
+
+-- a protected frame agrees with itself
+pub agrees_with_itself : (b : Binding) (n : ℕ) (clear frame : List ℕ) → Protects b n clear frame
+    → AgreesOnCovered b frame frame
+agrees_with_itself b n clear frame p = record {
+  parts = with_room p.parts p.room;
+  others = with_room p.parts p.room;
+  released_framed = p.framed;
+  arrived_framed = p.framed;
+  room = refl;
+  masked = refl;
+}

@@ -5,7 +5,8 @@ use Rattle.sdls_base.specs.Link.{mask_octets}
 use Rattle.sdls_base.specs.declared.link.Link.{Link}
 use Rattle.sa_book.specs.declared.sa_row.SaRow.{SaRow}
 use Rattle.frame_shield.specs.declared.binding.Binding.{Binding}
-use Rattle.frame_shield.specs.AnyFrame.{AnyParts, IsFrame, room_of}
+use Rattle.sdls_header.specs.Authenticated.{masked_octets}
+use Rattle.frame_shield.specs.AnyFrame.{AnyParts, IsFrame, prefix_of, room_of}
 use Rattle.frame_shield.specs.Binding.{clear_layout}
 use Rattle.frame_checks.specs.Binding.{binding_of}
 use Rattle.frame_checks.specs.Header.{HasRoom}
@@ -57,6 +58,23 @@ pub record AcceptsFrame (key : ℕ) (sent got : Given) : Type 0 where
   pub accepts : AcceptsUnder key got
   pub octets : got.deed.task.octets ≡ sent.deed.answer.body
 
+-- The frame that arrived agrees with the one released on all that the MAC covers: security header, text and MAC are the
+-- same, and so is each octet before them that the mask covers (CCSDS 355.0-B-2, authentication bit mask).
+pub record AgreesOnCovered (binding : Binding) (released arrived : List ℕ) : Type 0 where
+  pub parts : AnyParts
+  pub others : AnyParts
+  pub released_framed : IsFrame binding.link.layout parts released
+  pub arrived_framed : IsFrame binding.link.layout others arrived
+  pub room : room_of others ≡ room_of parts
+  pub masked : masked_octets (prefix_of binding.link.layout others) (mask_octets binding.link.mask)
+      ≡ masked_octets (prefix_of binding.link.layout parts) (mask_octets binding.link.mask)
+
+-- the one answer accepts, under this key, a frame that agrees so with the one that the other released
+pub record AcceptsCovered (key : ℕ) (sent got : Given) : Type 0 where
+  pub accepts : AcceptsUnder key got
+  pub agrees : (binding : Binding) → IsSentUnder sent binding
+      → AgreesOnCovered binding sent.deed.answer.body got.deed.task.octets
+
 -- The number accepted is the one that was sent, under a key with the same octets, and the body is the data field of the
 -- frame that was protected.
 pub record IsCarried (sent got : Given) : Type 0 where
@@ -70,7 +88,6 @@ pub record IsCarried (sent got : Given) : Type 0 where
   pub octets : one.schedule ≡ other.schedule
   pub field : IsDataField one sent.deed.task.octets got.deed.answer.body
 
--- both answers accept, under this key, one frame that one of these answers released
-abbrev pub AreRepeated : ℕ → List Given → Given → Given → Type 0
-AreRepeated key released one two =
-    (sent : Given) × Contains released sent × AcceptsFrame key sent one × AcceptsFrame key sent two
+-- both answers accept one frame that one of these answers released
+abbrev pub AreRepeated : (Given → Given → Type 0) → List Given → Given → Given → Type 0
+AreRepeated takes released one two = (sent : Given) × Contains released sent × takes sent one × takes sent two

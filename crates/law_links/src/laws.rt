@@ -7,8 +7,9 @@ ghost use Rattle.frame_shield.specs.Protects.{Protects};
 ghost use Rattle.link_world.specs.declared.link.LinkEvent.{LinkEvent};
 ghost use Rattle.run_promise.specs.Life.{Given, given_in, IsLife, LifeRun};
 ghost use Rattle.law_links.specs.InOrder.{NumbersInOrder};
-ghost use Rattle.law_links.specs.Carried.{AcceptsFrame, AgreeOn, AreRepeated, BindingsAgree, IsCarried, IsDataField};
-ghost use Rattle.law_links.specs.Linked.{AssociationsAgree, DeliversReleased, LinkHolds, released_in};
+ghost use Rattle.law_links.specs.Carried.{AcceptsCovered, AcceptsFrame, AgreeOn, AgreesOnCovered, AreRepeated};
+ghost use Rattle.law_links.specs.Carried.{BindingsAgree, IsCarried, IsDataField};
+ghost use Rattle.law_links.specs.Linked.{AssociationsAgree, DeliversCovered, DeliversReleased, LinkHolds, released_in};
 ghost use Rattle.law_links.specs.Triples.{AreTriplesApart, HaveDevice, SaysDevice};
 
 use frame_shield::protected_opens;
@@ -27,6 +28,16 @@ pub fn released_frame_opens()
     opens_what_was_sealed();
 }
 
+/// Law: so does each frame that agrees with it on all that its MAC covers.
+pub fn covered_frame_opens()
+    ensures { (one other : Binding) (n m : ℕ) (clear frame arrived field : List ℕ) → Protects one n clear frame
+        → AgreeOn one other → AgreesOnCovered one frame arrived → Opens other arrived m field
+        → (m ≡ n) × IsDataField one clear field }
+{
+    protected_opens();
+    opens_what_was_sealed();
+}
+
 /// Law: over the lives of two units, a frame that the one released and the other accepts, by an association with the
 /// key octets, suite, layout and mask with which it was protected, is accepted with its number and its data field.
 pub fn accepted_is_what_was_released()
@@ -34,17 +45,17 @@ pub fn accepted_is_what_was_released()
         → (key : ℕ) (sent got : Given) → Contains (released_in sender) sent → Contains (given_in receiver) got
         → AcceptsFrame key sent got → BindingsAgree sent got → IsCarried sent got }
 {
-    released_frame_opens();
+    covered_frame_opens();
 }
 
 /// Law: over the lives of two units, no frame that the one released is accepted twice by associations that agree with
 /// the one that protected it.
 pub fn released_is_accepted_once()
     ensures { (image other : List ℕ) (sender receiver : List LifeRun) → IsLife image sender → IsLife other receiver
-        → (key : ℕ) → AssociationsAgree key sender receiver
-        → AllPairs (λ one two. ¬ AreRepeated key (released_in sender) one two) (given_in receiver) }
+        → (key : ℕ) → AssociationsAgree (AcceptsFrame key) sender receiver
+        → AllPairs (λ one two. ¬ AreRepeated (AcceptsFrame key) (released_in sender) one two) (given_in receiver) }
 {
-    released_frame_opens();
+    covered_frame_opens();
     used_once_in_a_life();
 }
 
@@ -62,11 +73,25 @@ pub fn accepted_in_order()
 pub fn two_units_on_one_link()
     ensures { (image other : List ℕ) (sender receiver : List LifeRun) → IsLife image sender → IsLife other receiver
         → (key : ℕ) (events : List LinkEvent) → DeliversReleased key events sender receiver
-        → AssociationsAgree key sender receiver → LinkHolds key sender receiver }
+        → AssociationsAgree (AcceptsFrame key) sender receiver → LinkHolds (AcceptsFrame key) key sender receiver }
 {
     arrivals_were_released();
     accepted_is_what_was_released();
     released_is_accepted_once();
+    used_once_in_a_life();
+    accepted_in_order();
+}
+
+/// Law: the same of a link that changes what no MAC covers. If each frame that the receiver accepts under a key agrees
+/// with a released one on all that is covered, it has the number and the data field of that one, and is accepted once.
+pub fn two_units_by_covered_octets()
+    ensures { (image other : List ℕ) (sender receiver : List LifeRun) → IsLife image sender → IsLife other receiver
+        → (key : ℕ) (events : List LinkEvent) → DeliversCovered key events sender receiver
+        → AssociationsAgree (AcceptsCovered key) sender receiver
+        → LinkHolds (AcceptsCovered key) key sender receiver }
+{
+    arrivals_were_released();
+    covered_frame_opens();
     used_once_in_a_life();
     accepted_in_order();
 }

@@ -8,6 +8,7 @@
 mod laws;
 
 pub use laws::{
-    accepted_in_order, accepted_is_what_was_released, no_triple_twice, one_device_in_a_life,
-    released_frame_opens, released_is_accepted_once, two_units_on_one_link,
+    accepted_in_order, accepted_is_what_was_released, covered_frame_opens, no_triple_twice,
+    one_device_in_a_life, released_frame_opens, released_is_accepted_once,
+    two_units_by_covered_octets, two_units_on_one_link,
 };

@@ -17,13 +17,15 @@ mod top;
 // The laws on what `run` promises: of two units on one link, of lives, of what a status says, and of one lane alone.
 pub use check_run::{Refusal, check_frame};
 pub use law_links::{
-    accepted_in_order, no_triple_twice, one_device_in_a_life, two_units_on_one_link,
+    accepted_in_order, no_triple_twice, one_device_in_a_life, two_units_by_covered_octets,
+    two_units_on_one_link,
 };
 pub use law_runs::{
     covered_before_a_life, covered_in_a_life, due_is_put, faults_are_told, full_is_told,
-    goes_to_its_end, life_may_begin, one_input_is_handled_alike, one_lane_answers_alike,
-    one_lane_fronts_alike, one_lane_runs_alike, refused_stays, status_five_has_a_fault,
-    status_tells_what_came, unhindered_run_completes, used_once_in_a_life, zero_says_all,
+    goes_to_its_end, life_may_begin, no_entry_behind_a_fault, one_input_is_handled_alike,
+    one_lane_answers_alike, one_lane_fronts_alike, one_lane_runs_alike, refused_stays,
+    status_five_has_a_fault, status_tells_what_came, unhindered_run_completes, used_once_in_a_life,
+    zero_says_all,
 };
 pub use laws::{audit_passes_a_life, calls_are_a_life};
 pub use record_io::{Outcome, status};
