@@ -34,7 +34,7 @@ use Rattle.law_runs.specs.Ran.{Ran, begin_by}
 use Rattle.law_runs.proofs.Faults.{told_rose}
 use Rattle.law_runs.proofs.Doing.{ends_run}
 use Rattle.law_runs.proofs.Moved.{moved_run, settled_more}
-use Rattle.law_runs.proofs.Moments.{all_moments}
+use Rattle.law_runs.proofs.Moments.{all_fences, all_moments}
 use Rattle.law_runs.proofs.Releases.{AreAdded, AreWords, IsRefusedRelease, are_added, are_releases, ends_released, released_full, released_pieces, released_quietly}
 use Rattle.law_runs.proofs.Placed.{IsBefore, answers_all, places_ascend}
 use Rattle.law_runs.specs.AtEnd.{EndsRun, course_at_end, StaysCovered}
@@ -48,9 +48,10 @@ use Rattle.law_runs.proofs.Exacting.{exact_call}
 use Rattle.law_runs.proofs.Standing.{kept_stands}
 use Rattle.law_runs.proofs.Words.{moved_call}
 use Rattle.run_promise.specs.Words.{MovedWords}
-use Rattle.run_promise.specs.Ends.{ServesSoundly, IsEarly, IsReleased, IsServed, RunEnds}
+use Rattle.run_promise.specs.Ends.{ServesSoundly, IsEarly, IsFenced, IsReleased, IsServed, RunEnds}
 use Rattle.law_runs.proofs.Appending.{may_append}
 use Rattle.law_workers.proofs.WholeRun.{near, rules_at_end}
+use Rattle.unit_image.specs.OpeningImage.{LeftByOpening}
 use Rattle.unit_image.specs.Shows.{Shows, ShowsNone}
 use Rattle.unit_plan.specs.declared.plan_error.PlanFault.{PlanFault}
 use Rattle.unit_plan.specs.PlanLines.{PlanLines}
@@ -644,6 +645,17 @@ module _ (told : Bool) (site after : SiteSeen) (source source_after : SourceSeen
         all_moments call account book.plan book.start book.opened.trace end.last.log end.last.standing (ran.opening is_told) (ran.sunk is_told) serving
         end.entries_are settled_last covered_so pieces_front
 
+    pub fences_so : EachMoment site.trace after.trace (λ image sunk. IsEarly call account.told image sunk
+        ⊎ (LeftByOpening site.trace.now.image image ⊎ IsFenced call account book.start image sunk))
+    fences_so =
+        let history = end.kept.history is_told in
+        let serving : EachMoment book.opened.trace after.trace (Serves book.start end.last.log end.last.standing book.opened.trace.now.sunk) =
+        subst (λ (o : SiteSeen). EachMoment book.opened.trace o.trace (Serves book.start end.last.log end.last.standing book.opened.trace.now.sunk)) (sym end.site_is)
+        (subst (λ (st : State). EachMoment book.opened.trace end.last.site.trace (Serves st end.last.log end.last.standing book.opened.trace.now.sunk)) last_start
+        (subst (λ (o : SiteSeen). EachMoment o.trace end.last.site.trace (Serves end.last.start end.last.log end.last.standing o.trace.now.sunk)) last_opened history.moments)) in
+        all_fences call account book.start end.last.log (log_of now) log_on.0 end.last.standing end.entries_are log_on.1
+        (ran.come.fenced is_told) (ran.come.earlier is_told) book.opened.trace (ran.opening is_told) (ran.sunk is_told) serving
+
   -- ---- its releases
 
   full_answer : came ≡ ends.Ended → end.end ≡ ends.SessionFull → (end.answer ≡ Err SessionFull) × (¬ Rose site.faults book.site.faults)
@@ -847,7 +859,7 @@ module _ (told : Bool) (site after : SiteSeen) (source source_after : SourceSeen
     sound_call is_told =
         let (r, same) = released_so is_told in
         record {
-          sound = record { run = sound_call_run is_told; moments = moments_so is_told; end_widths = end_widths };
+          sound = record { run = sound_call_run is_told; moments = moments_so is_told; fences = fences_so is_told; end_widths = end_widths };
           released = r;
           exact = λ one. subst (λ (ws : List ℕ). IsExact call account book.plan book.start ws (length (entries_in now))) (sym same) (exact_so is_told one);
           exit = kept_stands told call account book.start end.last is_told end.kept end.site_is end.entries_are last_start

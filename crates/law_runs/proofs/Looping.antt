@@ -3,8 +3,9 @@ use Rattle.std.proofs.Common.{◌≡◌, ◌≢◌, ◌⊎◌, ℕ, suc, zero, �
 use Rattle.std.specs.Prelude.{map}
 use Rattle.std.specs.List.{All, AllPairs, Contains, slice_index_or, slice_get}
 use Rattle.fsr_log.specs.Noted.{Noted}
-use Rattle.std.proofs.lemmas.List.{get_or_append_left, take-append-le}
-use Rattle.std.proofs.lemmas.List.Elements.{All-append, All-cons, All-nil}
+use Rattle.std.proofs.lemmas.List.{get_or_append_left, take-append-le, take_at}
+use Rattle.std.proofs.lemmas.List.Elements.{All-append, All-cons, All-contains, All-nil, Contains-append_cases}
+use Rattle.std.proofs.lemmas.Bool.{cases_lt}
 use Rattle.std.proofs.lemmas.Bool.Decides.{nat_tests}
 use Rattle.std.proofs.lemmas.Option.{slice_get_within, same_Some}
 use Rattle.counter_table.specs.declared.view.View.{View}
@@ -16,6 +17,8 @@ use Rattle.record_io.specs.Answers.{IsAnswer, answer_octets, answers_octets}
 use Rattle.record_io.specs.declared.kinds.ItemKind.{ItemKind}
 use Rattle.record_io.specs.declared.kinds.RecordKind.TheVariants.{Monitor}
 use Rattle.sdls_base.specs.declared.entry.Entry.{Entry}
+use Rattle.sdls_base.specs.declared.entry.Logged.{Logged}
+use Rattle.sdls_base.specs.declared.entry.Logged.TheVariants as lines
 use Rattle.key_book.specs.KeyBook.{place_of}
 use Rattle.unit_state.specs.History.{after}
 use Rattle.record_io.specs.Input.{Item, IsItem, LacksNext, beginning}
@@ -33,6 +36,7 @@ use Rattle.law_workers.specs.Views.{IsBetween, entries_in, log_of}
 use Rattle.law_workers.specs.Deeds.{Ascend, course_in, deeds_of}
 use Rattle.law_workers.specs.Order.{Layout, LiesIn, Handled, Lined, TakeTurns}
 use Rattle.law_workers.proofs.Counting.{pieces_both}
+use Rattle.law_workers.proofs.Histories.{get_front}
 use Rattle.law_workers.proofs.Joining.{does_nothing}
 use Rattle.law_workers.proofs.Counted.{counted_nothing}
 use Rattle.law_workers.specs.Words.{MovesCounted}
@@ -44,12 +48,13 @@ use Rattle.run_promise.specs.declared.end.RunEnd.TheVariants as ends
 use Rattle.run_promise.specs.Account.{AreAnswered, answers_of_first, deeds_from, of_first}
 use Rattle.law_runs.proofs.Placed.{IsBefore, deeds_both, deeds_of_segment, places_ascend, records_length}
 use Rattle.law_runs.proofs.Segments.{are_placed, first_of, first_segments, have_lanes, none_of}
-use Rattle.law_runs.specs.Doing.{AreSettledInside, HasDone, HasSettled, IsFounded, IsSegment, MovedAlone, octets_put}
+use Rattle.law_runs.specs.Doing.{AreSettledInside, HasDone, HasFenced, HasSettled, IsFounded, IsSegment, MovedAlone, octets_put}
 use Rattle.law_runs.specs.Coming.{HasBroken, HasCome, HasPut, StopsAtFullHistory, IsServed, IsUnderWay, PutsBy, EndsReading, notes_in}
 use Rattle.law_runs.specs.Segment.{HandlesAndPuts, IsFullSegment, PutsBadly, PutsWell}
 use Rattle.law_runs.proofs.Appending.{may_append}
 use Rattle.law_runs.proofs.Exacting.{alone_nothing, moved_on}
-use Rattle.law_runs.proofs.Stepping.{goes_on, none_at_all, own_does, quiet, settled_on}
+use Rattle.law_runs.proofs.SoundMoments.{pieces_low}
+use Rattle.law_runs.proofs.Stepping.{goes_on, none_at_all, none_known, own_does, quiet, settled_on}
 use Rattle.law_runs.proofs.Words.{words_segment}
 
 -- ---- the records of one segment
@@ -302,6 +307,23 @@ octets_of_take (suc n) (answer ∷ answers) =
     let b = length-append (answer_octets answer) (answers_octets answers) in
     let c = octets_of_take n answers in omega arith
 
+first_short : (n : ℕ) (places : List Place) → length (of_first n places) ≤ length places
+first_short n [] = omega arith
+first_short n (place ∷ places) = go (nat_lt place.segment n) (first_short n places)
+  where
+    go : (b : Bool) → length (of_first n places) ≤ length places
+        → length (cond b (place ∷ of_first n places) []) ≤ length (place ∷ places)
+    go true rest = omega arith
+    go false rest = omega arith
+
+-- records of later segments are none of the first
+first_same : (n : ℕ) (xs ys : List Place) → All (λ (place : Place). n ≤ place.segment) ys
+    → of_first n (xs ++ ys) ≡ of_first n xs
+first_same n [] [] high = refl
+first_same n [] (y ∷ ys) high = none_of n y ys (high zero y (omega arith))
+first_same n (x ∷ xs) ys high =
+    ap (λ (l : List Place). cond (nat_lt x.segment n) (x ∷ l) []) (first_same n xs ys high)
+
 -- ---- one segment more
 
 first_split : (n : ℕ) (xs ys : List Place) → All (λ (place : Place). place.segment < n) xs → All (λ (place : Place). n ≤ place.segment) ys
@@ -385,6 +407,7 @@ module _ (start now : SourceSeen) (begin : Begin) (first v : View) (failed_befor
     settled = way.settled;
     exactly = way.exactly;
     moved = way.moved;
+    fenced = way.fenced;
     reports = way.reports;
     widths = way.widths;
     full = λ is. absurd (let t : ends.NoMemory ≡ ends.SessionFull = is in cc);
@@ -513,9 +536,11 @@ module _ (start now : SourceSeen) (begin : Begin) (first v : View) (failed_befor
         let a = ap length (ap pieces_of h.puts.does.grows.earlier.log.1 ∙ pieces_both (log_of mid) h.puts.does.grows.earlier.log.0) in
         let b = length-append (octets_put mid) (pieces_of h.puts.does.grows.earlier.log.0) in omega arith
 
-    earlier_put : IsTrue begin.told → (place : Place) → Contains (places_of (items ++ r.more)) place
-        → length (answers_octets (answers_of_first place.segment (places_of (items ++ r.more)) (answers ++ next))) ≤ length (octets_put w)
-    earlier_put is_told place (k, inside, is) =
+    -- the answers of the segments before are those so far
+    answers_low : (place : Place) → Contains (places_of (items ++ r.more)) place
+        → length (answers_octets (answers_of_first place.segment (places_of (items ++ r.more)) (answers ++ next)))
+        ≤ length (answers_octets answers)
+    answers_low place (k, inside, is) =
         let low : place.segment ≤ r.number =
         subst (λ (p : Place). p.segment ≤ r.number) is (low_segments k place inside) in
         let few = few_of_first place.segment r.number (places_of (items ++ r.more)) low in
@@ -525,7 +550,71 @@ module _ (start now : SourceSeen) (begin : Begin) (first v : View) (failed_befor
         ≡ take (length (of_first place.segment (places_of (items ++ r.more)))) answers =
         take-append-le (length (of_first place.segment (places_of (items ++ r.more)))) answers next (omega arith) in
         let a = octets_of_take (length (of_first place.segment (places_of (items ++ r.more)))) answers in
-        let b = ap (λ (l : List Answer). length (answers_octets l)) front in
+        let b = ap (λ (l : List Answer). length (answers_octets l)) front in omega arith
+
+    -- what is known goes on from what was
+    known_on : (rest : List Logged) × (log_of w ≡ log_of v ++ rest)
+    known_on =
+        let d = own_does begin first v mid w (places_of items) (places_from (counted first_count items) r.more) answers
+        next r.number way.done way.each whole_v segment handled h.puts in (
+          d.grows.earlier.log.0 ++ h.puts.does.grows.earlier.log.0,
+          h.puts.does.grows.earlier.log.1
+              ∙ ap (λ (l : List Logged). l ++ h.puts.does.grows.earlier.log.0) d.grows.earlier.log.1
+              ∙ append_assoc (log_of v) d.grows.earlier.log.0 h.puts.does.grows.earlier.log.0,
+        )
+
+    -- an entry that was known before is of a record of the places before
+    fenced_before : IsTrue begin.told → (place : Place) (at : ℕ) (entry : Entry)
+        → Contains (places_of items) place ⊎ Contains (places_from (counted first_count items) r.more) place
+        → slice_get (log_of v) at ≡ Some (lines.Entry entry) → entry.index ≡ Some place.task.index
+        → length (answers_octets (answers_of_first place.segment (places_of (items ++ r.more)) (answers ++ next)))
+        ≤ length (pieces_of (take at (log_of v)))
+    fenced_before is_told place at entry (inr there) line is =
+        absurd (none_known begin first v mid w (places_of items) (places_from (counted first_count items) r.more) answers
+        next r.number way.done way.each whole_v segment handled h.puts at entry place.task.index line is
+        (All-contains (λ (p : Place). segment.next ≤ p.task.index) (places_from (counted first_count items) r.more) place
+        segment.high there))
+    fenced_before is_told place at entry (inl there) line is =
+        let more : List Place = places_from (counted first_count items) r.more in
+        let below = All-contains (λ (p : Place). p.segment < r.number) (places_of items) place r.low there in
+        let same : of_first place.segment (places_of (items ++ r.more)) ≡ of_first place.segment (places_of items) =
+        ap (of_first place.segment) all_places
+        ∙ first_same place.segment (places_of items) (places_from (counted first_count items) r.more)
+        (λ k d low. let e = later_segments k d low in omega arith) in
+        let short = first_short place.segment (places_of items) in
+        let each = way.each in
+        let front : take (length (of_first place.segment (places_of (items ++ r.more)))) (answers ++ next)
+        ≡ take (length (of_first place.segment (places_of items))) answers =
+        ap (λ (l : List Place). take (length l) (answers ++ next)) same
+        ∙ take-append-le (length (of_first place.segment (places_of items))) answers next (omega arith) in
+        let a = ap (λ (l : List Answer). length (answers_octets l)) front in
+        let b = way.fenced is_told place at entry there line is in omega arith
+
+    fenced_on : IsTrue begin.told → HasFenced w (places_of (items ++ r.more)) (answers ++ next)
+    fenced_on is_told place at entry there line is = go known_on.0 known_on.1 (cases_lt at (length (log_of v)))
+      where
+        go : (rest : List Logged) → log_of w ≡ log_of v ++ rest → (at < length (log_of v)) ⊎ (length (log_of v) ≤ at)
+            → length (answers_octets (answers_of_first place.segment (places_of (items ++ r.more)) (answers ++ next)))
+            ≤ length (pieces_of (take at (log_of w)))
+        go rest known (inl lt) =
+            let old : slice_get (log_of v) at ≡ Some (lines.Entry entry) =
+            sym (get_front (log_of v) rest at lt) ∙ ap (λ (l : List Logged). slice_get l at) (sym known) ∙ line in
+            let a = fenced_before is_told place at entry
+            (Contains-append_cases (places_of items) (places_from (counted first_count items) r.more) place
+            (subst (λ (ps : List Place). Contains ps place) all_places there)) old is in
+            let b = ap (λ (l : List Logged). length (pieces_of l))
+            (ap (take at) known ∙ take-append-le at (log_of v) rest (omega arith)) in omega arith
+        go rest known (inr ge) =
+            let a = answers_low place there in
+            let b = ap length (way.put.octets is_told) in
+            let c = ap (λ (l : List Logged). length (pieces_of l))
+            (ap (take (length (log_of v))) known ∙ take_at (log_of v) rest (length (log_of v)) refl) in
+            let d = pieces_low (log_of w) (length (log_of v)) at ge in omega arith
+
+    earlier_put : IsTrue begin.told → (place : Place) → Contains (places_of (items ++ r.more)) place
+        → length (answers_octets (answers_of_first place.segment (places_of (items ++ r.more)) (answers ++ next))) ≤ length (octets_put w)
+    earlier_put is_told place there =
+        let a = answers_low place there in
         let c = ap length (still ∙ way.put.octets is_told) in
         let d = more_put in omega arith
 
@@ -558,6 +647,7 @@ module _ (start now : SourceSeen) (begin : Begin) (first v : View) (failed_befor
       settled = settled_then;
       exactly = exactly_on;
       moved = moved_now;
+      fenced = fenced_on;
       reports = reported_on;
       widths = All-append IsAnswer answers next way.widths h.widths;
       full = λ is. full_on (full is);
@@ -583,6 +673,7 @@ module _ (start now : SourceSeen) (begin : Begin) (first v : View) (failed_befor
       settled = settled_then;
       exactly = exactly_on;
       moved = moved_now;
+      fenced = fenced_on;
       reports = reported_on;
       widths = All-append IsAnswer answers next way.widths h.widths;
     }
@@ -615,6 +706,7 @@ wants_reading start before now standing begin first v failed_before failed store
   settled = way.served.settled;
   exactly = way.served.exactly;
   moved = way.served.moved;
+  fenced = way.served.fenced;
   reports = way.served.reports;
   widths = way.served.widths;
   full = λ is. absurd (let t : ends.NoMemory ≡ ends.SessionFull = is in cc);
@@ -659,6 +751,7 @@ begins_way start begin first failed stored none none_made = record {
     settled = λ is_told founded. tt;
     exactly = λ one. alone_nothing begin first;
     moved = counted_nothing begin first [];
+    fenced = λ is_told place at entry (k, inside, same) line is. absurd (omega arith);
     reports = tt;
     widths = All-nil IsAnswer;
   };

@@ -36,7 +36,7 @@ use Rattle.unit_image.specs.declared.fault.OpenFault.TheVariants as openings
 use Rattle.unit_image.specs.OpeningImage.{IsOpenCause}
 use Rattle.unit_image.specs.Shows.{Shows, ShowsNone}
 use Rattle.unit_image.proofs.OpenFaults.{same_image}
-use Rattle.run_promise.specs.Call.{SiteSeen, CallSeen, sunk_since}
+use Rattle.run_promise.specs.Call.{SiteSeen, CallSeen, sunk_since, image_at_entry}
 use Rattle.run_promise.specs.Numbers.{release_at, release_of, released_floor, releases, mark_at, mark_of, kept_floor}
 use Rattle.law_history.proofs.Accepting.{kept_restarted}
 use Rattle.run_promise.specs.OneLane.{IsExact}
@@ -47,7 +47,8 @@ use Rattle.sdls_base.specs.declared.states.KeyState.TheVariants.{PreActive}
 use Rattle.run_promise.specs.declared.end.RunEnd.TheVariants as ends
 use Rattle.run_promise.specs.Account.{Account, AreAnswered, course_of, end_answer, end_octets, end_status, CameBy}
 use Rattle.run_promise.specs.Account.{PutsDue, PutsFront, TellsEnd}
-use Rattle.run_promise.specs.Ends.{IsEarly, IsOpenRefusal, IsRefused, IsReleased, IsServed, IsSoundCall, RunEnds}
+use Rattle.run_promise.specs.Ends.{IsEarly, IsFenced, IsOpenRefusal, IsRefused, IsReleased, IsServed, IsSoundCall}
+use Rattle.run_promise.specs.Ends.{RunEnds}
 use Rattle.run_promise.specs.Ends.{IsUnopened, StandsAtExit}
 use Rattle.law_runs.specs.Refused.{Refused, refused_end}
 use Rattle.law_runs.proofs.Ended.{failed_put, same_count}
@@ -290,6 +291,13 @@ module _ (told : Bool) (site back after : SiteSeen) (source : SourceSeen) (fault
     served image sunk (inl leaves, only_end) = inl (record { leaves = leaves; only_end = only_end })
     served image sunk (inr settles, only_end) = inr (record { front = only_end; image_shows = inl (tt, settles) })
 
+    fenced : (image sunk : List ℕ) → (Leaves site.trace.now image ⊎ LeftByOpening site.trace.now.image image)
+        × (sunk_since call sunk ≡ take (length (sunk_since call sunk)) (end_octets call refused.end))
+        → IsEarly call refused.end image sunk
+        ⊎ (LeftByOpening (image_at_entry call) image ⊎ IsFenced call account state image sunk)
+    fenced image sunk (inl leaves, only_end) = inl (record { leaves = leaves; only_end = only_end })
+    fenced image sunk (inr settles, only_end) = inr (inl settles)
+
     sound_run : IsPlan plan → KeepsRules state → IsSound (course_of call account plan state) [] []
     sound_run plan_is rules = no_records _ plan_is rules refl
 
@@ -301,6 +309,13 @@ module _ (told : Bool) (site back after : SiteSeen) (source : SourceSeen) (fault
           each_weaker site.trace after.trace
           (λ image sunk. P image × (sunk_since call sunk ≡ take (length (sunk_since call sunk)) (end_octets call refused.end)))
           (λ image sunk. IsEarly call refused.end image sunk ⊎ IsServed call account plan state image sunk) served
+          (with_end P is_told (refused.opening is_told));
+      fences =
+          let P : List ℕ → Type 0 = λ image. Leaves site.trace.now image ⊎ LeftByOpening site.trace.now.image image in
+          each_weaker site.trace after.trace
+          (λ image sunk. P image × (sunk_since call sunk ≡ take (length (sunk_since call sunk)) (end_octets call refused.end)))
+          (λ image sunk. IsEarly call refused.end image sunk
+          ⊎ (LeftByOpening (image_at_entry call) image ⊎ IsFenced call account state image sunk)) fenced
           (with_end P is_told (refused.opening is_told));
       end_widths = refused.widths;
     }

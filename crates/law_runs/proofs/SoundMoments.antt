@@ -9,6 +9,7 @@ use Rattle.record_io.specs.Answers.{answer_octets}
 use Rattle.run_promise.specs.Log.{entries_of, pieces_of}
 use Rattle.run_promise.specs.Fits.{Course}
 use Rattle.unit_book.specs.Book.{Serves}
+use Rattle.unit_book.proofs.Serving.{serves_shows}
 use Rattle.run_promise.specs.Deed.{Deed}
 use Rattle.law_workers.proofs.Logs.{entries_low}
 use Rattle.run_promise.specs.Sound.{ShowsAfter, deeds_octets, EachBegun, IsCoveredBy, SoundMoment}
@@ -62,7 +63,7 @@ pub moment_sound : (course : Course) (standing : ℕ) (log : List Logged) (deeds
     → pieces_of log ≡ take (length (pieces_of log)) (deeds_octets deeds ++ ends) → sunk ≡ before ++ sunk_since
     → Serves course.begin.start log standing before image sunk → SoundMoment course deeds ends start image sunk_since
 moment_sound course standing log deeds ends start before image sunk since is settled stays put sunk_is m =
-    let (p, least, shows) = m.shows in
+    let (p, least, shows) = serves_shows course.begin.start log standing before image sunk m in
     let size : length sunk ≡ length before + length since = ap length sunk_is ∙ length-append before since in
     let whole : length (before ++ pieces_of (take (m.place + 1) log)) ≡ length before + length (pieces_of (take (m.place + 1) log)) =
     length-append before (pieces_of (take (m.place + 1) log)) in

@@ -1,10 +1,11 @@
 -- One segment more of a run: its records were handled, and its answers put.
-use Rattle.std.proofs.Common.{◌≡◌, ◌⊎◌, ℕ, suc, zero, ◌+◌, ◌-◌, ◌<◌, ◌≤◌, eqb, eq-eqb, IsTrue, Bool, true, false, List, [], ◌∷◌, ◌++◌, length, Option, refl, sym, ◌∙◌, ap, subst, inl, inr, arith, cond, append-nil, length-append}
+use Rattle.std.proofs.Common.{◌≡◌, ◌⊎◌, ℕ, suc, zero, ◌+◌, ◌-◌, ◌<◌, ◌≤◌, eqb, eq-eqb, IsTrue, Bool, true, false, List, [], ◌∷◌, ◌++◌, length, Option, refl, sym, ◌∙◌, ap, subst, inl, inr, arith, cond, append-nil, length-append, Some}
 use Rattle.std.specs.Prelude.{◌&&◌, nat_le, map}
 use Rattle.std.specs.List.{All, AllPairs, Contains, slice_index_or, slice_get}
 use Rattle.std.proofs.lemmas.Bool.Decides.{nat_tests}
 use Rattle.std.proofs.lemmas.List.Elements.{Contains-append_left, Contains-append_right}
 use Rattle.std.proofs.lemmas.List.{take_all}
+use Rattle.std.proofs.lemmas.Option.{slice_get_within}
 use Rattle.sdls_base.specs.declared.entry.Entry.{Entry}
 use Rattle.sdls_base.specs.declared.entry.Logged.{Logged}
 use Rattle.sdls_base.specs.declared.entry.Logged.TheVariants as lines
@@ -361,6 +362,24 @@ module _ (begin : Begin) (first v mid w : View) (places more : List Place) (answ
       let new = unmade d.gains.made d.gained.made in
       let old = old_entries (record { lane_of = lane_at more; segment_of = λ index. number }) own_lies index in
       let none : (0 < indexed index (records_of places)) → ⊥ = λ some. (let less = indexed_high segment.next index places segment.low some in omega arith) in
+      none (omega arith)
+
+  -- no entry that was known before is of a record of the segment
+  pub none_known : (x : ℕ) (entry : Entry) (index : ℕ) → slice_get (log_of v) x ≡ Some (lines.Entry entry)
+      → entry.index ≡ Some index → segment.next ≤ index → ⊥
+  none_known x entry index at is high =
+      let low = slice_get_within (log_of v) x (lines.Entry entry) at in
+      let all = whole.made x in
+      let stands_there : 0 < stands x v.turn.made = grind (arith, nat_tests) in
+      let one = count_one (is_of_record index) (log_of v) x v.turn.made stands_there
+      (ap (is_of_record index) at ∙ (ap (is_index index) is ∙ eq-eqb index index refl)) in
+      let a = done.does.works.one_entry index in
+      let m : v.turn.made ≡ done.does.gains.made =
+      made_here begin first v (records_of places) (deeds_from places answers) done.none_made done.does in
+      let b : count_at (is_of_record index) (log_of v) v.turn.made ≡ count_at (is_of_record index) (log_of v) done.does.gains.made =
+      ap (count_at (is_of_record index) (log_of v)) m in
+      let none : (0 < indexed index (records_of places)) → ⊥ =
+      λ some. (let less = indexed_high segment.next index places segment.low some in omega arith) in
       none (omega arith)
 
   -- and its answers are settled at the first put behind it

@@ -23,7 +23,7 @@ use Rattle.law_workers.specs.Words.{MovesCounted}
 use Rattle.run_promise.specs.declared.end.RunEnd.{RunEnd}
 use Rattle.run_promise.specs.declared.end.RunEnd.TheVariants as ends
 use Rattle.run_promise.specs.Account.{AreAnswered, answers_of_first, deeds_from}
-use Rattle.law_runs.specs.Doing.{HasDone, HasSettled, IsFounded, MovedAlone, octets_put}
+use Rattle.law_runs.specs.Doing.{HasDone, HasFenced, HasSettled, IsFounded, MovedAlone, octets_put}
 
 -- no put failed, and the answers were put; so many puts had failed before and have now
 pub record HasPut (begin : Begin) (now : View) (failed_before failed : ℕ) (answers : List Answer) : Type 0 where
@@ -49,6 +49,7 @@ pub record IsServed (begin : Begin) (first now : View) (failed_before failed sto
   pub settled : IsTrue begin.told → IsFounded begin first → HasSettled begin now stored (places_of items) answers
   pub exactly : MovedAlone begin first now (places_of items) answers
   pub moved : MovesCounted begin first now (records_of (places_of items)) (deeds_from (places_of items) answers)
+  pub fenced : IsTrue begin.told → HasFenced now (places_of items) answers
   pub reports : AreReported [] (deeds_from (places_of items) answers)
   pub widths : All IsAnswer answers
 
@@ -132,6 +133,7 @@ pub record HasCome (start source : SourceSeen) (begin : Begin) (first now : View
   pub reports : AreReported [] (deeds_from (places_of of) answers)
   pub widths : All IsAnswer answers
   pub full : came ≡ ends.SessionFull → StopsAtFullHistory begin first now (places_of of) answers
+  pub fenced : IsTrue begin.told → HasFenced now (places_of of) answers
   -- all answers of the segments before that of a record that was handled were put
   pub earlier : IsTrue begin.told → (place : Place) → Contains (places_of of) place
       → length (answers_octets (answers_of_first place.segment (places_of of) answers)) ≤ length (octets_put now)

@@ -1,10 +1,13 @@
 -- What the one worker of a run did since the opening, from segment to segment (profile).
-use Rattle.std.specs.Prelude.{◌≡◌, ℕ, ◌+◌, ◌<◌, ◌≤◌, Bool, IsTrue, List, [], ◌++◌, length, take, Contains}
+use Rattle.std.specs.Prelude.{◌≡◌, ℕ, ◌+◌, ◌<◌, ◌≤◌, Bool, IsTrue, List, [], ◌++◌, length, take, slice_get, Contains}
+use Rattle.std.specs.Prelude.{Some}
 use Rattle.std.specs.List.{All, AllPairs}
 use Rattle.sdls_base.specs.declared.TheConstants.{MOST_KEYS}
 use Rattle.sdls_base.specs.declared.entry.Entry.{Entry}
+use Rattle.sdls_base.specs.declared.entry.Logged.TheVariants as logged
 use Rattle.counter_table.specs.declared.view.View.{View}
 use Rattle.record_io.specs.declared.answers.Answer.{Answer}
+use Rattle.record_io.specs.Answers.{answers_octets}
 use Rattle.record_io.specs.Places.{Place, records_of}
 use Rattle.unit_plan.specs.PlanRules.{IsPlan}
 use Rattle.unit_state.specs.State.{KeepsRules}
@@ -22,7 +25,7 @@ use Rattle.law_workers.specs.Alone.{MovedExactly}
 use Rattle.law_workers.specs.Opened.{IsJustOpened}
 use Rattle.law_runs.specs.Settled.{AreSettled}
 use Rattle.law_workers.specs.Settles.{SettlesAt}
-use Rattle.run_promise.specs.Account.{deeds_from}
+use Rattle.run_promise.specs.Account.{answers_of_first, deeds_from}
 
 -- the octets of the pieces that a worker knows of
 abbrev pub octets_put : View → List ℕ
@@ -72,6 +75,13 @@ MovedAlone begin first now places answers = OneLane (records_of places) → RunA
 abbrev pub HasSettled : Begin → View → ℕ → List Place → List Answer → Type 0
 HasSettled begin now stored places answers =
     AreSettled (course_in begin now) stored (log_of now) 0 (deeds_from places answers)
+
+-- Each entry that is known of a record of these places stands in the log behind the answers of the segments before the
+-- record's.
+abbrev pub HasFenced : View → List Place → List Answer → Type 0
+HasFenced now places answers = (place : Place) (at : ℕ) (entry : Entry) → Contains places place
+    → slice_get (log_of now) at ≡ Some (logged.Entry entry) → entry.index ≡ Some place.task.index
+    → length (answers_octets (answers_of_first place.segment places answers)) ≤ length (pieces_of (take at (log_of now)))
 
 -- The first put behind a segment found a book that settles what the worker had done before: of so many entries that
 -- were stored, no fewer than the worker knew of; so many are stored now.

@@ -1,5 +1,6 @@
 -- How a run ends, that it is sound, and what then stands in the image (profile).
-use Rattle.std.specs.Prelude.{◌≡◌, ◌⊎◌, ℕ, ◌+◌, ◌≤◌, List, [], length, ◌≢◌, ◌<◌, IsTrue, take, drop, slice_index, Some}
+use Rattle.std.specs.Prelude.{◌≡◌, ◌⊎◌, ℕ, ◌+◌, ◌≤◌, List, [], length, ◌≢◌, ◌<◌, IsTrue, take, drop, slice_get}
+use Rattle.std.specs.Prelude.{slice_index, Some, Contains}
 use Rattle.std.specs.List.{All}
 use Rattle.sdls_base.specs.declared.entry.Entry.{Entry}
 use Rattle.sdls_base.specs.declared.TheConstants.{MOST_KEYS}
@@ -13,13 +14,15 @@ use Rattle.unit_state.specs.Restart.{restarted}
 use Rattle.unit_state.specs.History.{after, after_first}
 use Rattle.unit_image.specs.Image.{IsSettled, JournalView}
 use Rattle.unit_image.specs.Shows.{Shows, ShowsNone}
-use Rattle.record_io.specs.Answers.{IsAnswer}
-use Rattle.record_io.specs.Places.{records_of}
+use Rattle.unit_image.specs.OpeningImage.{LeftByOpening}
+use Rattle.record_io.specs.Answers.{IsAnswer, answers_octets}
+use Rattle.record_io.specs.Places.{Place, records_of}
 use Rattle.record_io.specs.Reading.{HasTaken}
 use Rattle.record_io.specs.declared.status.TheConstants as status
 use Rattle.run_promise.specs.declared.end.RunEnd.TheVariants.{SiteFault, NoMemory, Ended, NoState, SessionFull}
 use Rattle.run_promise.specs.Call.{CallSeen, ShowsAtEntry, image_at_entry, sunk_since}
-use Rattle.run_promise.specs.Account.{Account, AreAnswered, course_of, deeds_in, end_answer, end_octets, CameBy}
+use Rattle.run_promise.specs.Account.{Account, AreAnswered, answers_of_first, course_of, deeds_in, end_answer}
+use Rattle.run_promise.specs.Account.{end_octets, CameBy}
 use Rattle.run_promise.specs.Account.{TellsEnd, StoodUntilRelease, PutsDue, PutsFront}
 use Rattle.run_promise.specs.Sound.{ShowsAfter, AreReported, IsSound, SoundMoment}
 use Rattle.run_promise.specs.Numbers.{releases}
@@ -68,11 +71,26 @@ abbrev pub IsServed : CallSeen → Account → PlanLines → State → List ℕ 
 IsServed call account plan state image sunk = SoundMoment (course_of call account plan state)
     (deeds_in account) (end_octets call account.told) (image_at_entry call) image (sunk_since call sunk)
 
--- The run is sound, and each of its moments is so, or early. The fields of its End have their widths.
+-- A segment is answered before the next one is handled. The image and its opened forms show no more than the first `most`
+-- entries. Where one of these is of a record, all octets of the answers of the segments before the record's were sunk.
+pub record IsFenced (call : CallSeen) (account : Account) (state : State) (image sunk : List ℕ) : Type 0 where
+  pub most : ℕ
+  pub p : ℕ
+  pub shows : ShowsAfter state (take most call.entries) p image
+  pub answered : (place : Place) (at : ℕ) (entry : Entry) → Contains account.handled place → at < most
+      → slice_get call.entries at ≡ Some entry → entry.index ≡ Some place.task.index
+      → length (answers_octets (answers_of_first place.segment account.handled account.answers))
+      ≤ length (sunk_since call sunk)
+
+-- The run is sound, and each of its moments is so, or early. Each moment behind the opening is fenced. The fields of its
+-- End have their widths.
 pub record IsSoundCall (call : CallSeen) (account : Account) (plan : PlanLines) (state : State) : Type 0 where
   pub run : IsSound (course_of call account plan state) account.handled (deeds_in account)
   pub moments : EachMoment call.site.trace call.site_after.trace
       (λ image sunk. IsEarly call account.told image sunk ⊎ IsServed call account plan state image sunk)
+  pub fences : EachMoment call.site.trace call.site_after.trace
+      (λ image sunk. IsEarly call account.told image sunk
+      ⊎ (LeftByOpening (image_at_entry call) image ⊎ IsFenced call account state image sunk))
   pub end_widths : IsAnswer (end_answer account.told (length call.entries))
 
 -- the releases that are due behind the entries of the lanes, by these words `next` of the rows

@@ -32,6 +32,25 @@ take_more (suc k) (logged.Piece octets ∷ log) line =
     let (rest, same) = take_more k log line in
     (rest, ap (λ (more : List ℕ). octets ++ more) same ∙ sym (append_assoc octets (pieces_of (take k log)) rest))
 
+pub entries_take_more : (k : ℕ) (log : List Logged) (line : Logged)
+    → (rest : List Entry) × (entries_of (take k (log ++ line ∷ [])) ≡ entries_of (take k log) ++ rest)
+entries_take_more zero log line = ([], refl)
+entries_take_more (suc k) [] line = (entries_of (take (suc k) (line ∷ [])), refl)
+entries_take_more (suc k) (logged.Entry entry ∷ log) line =
+    let (rest, same) = entries_take_more k log line in
+    (rest, ap (λ (more : List Entry). entry ∷ more) same)
+entries_take_more (suc k) (logged.Piece octets ∷ log) line = entries_take_more k log line
+
+-- the entries of a log, from a place on
+pub entries_front : (k : ℕ) (log : List Logged)
+    → (rest : List Entry) × (entries_of log ≡ entries_of (take k log) ++ rest)
+entries_front zero log = (entries_of log, refl)
+entries_front (suc k) [] = ([], refl)
+entries_front (suc k) (logged.Entry entry ∷ log) =
+    let (rest, same) = entries_front k log in
+    (rest, ap (λ (more : List Entry). entry ∷ more) same)
+entries_front (suc k) (logged.Piece octets ∷ log) = entries_front k log
+
 pub entries_short : (k : ℕ) (log : List Logged) → length (entries_of (take k log)) ≤ length (entries_of log)
 entries_short zero log = omega arith
 entries_short (suc k) [] = omega arith

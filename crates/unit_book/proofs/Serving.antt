@@ -19,8 +19,8 @@ use Rattle.unit_image.specs.Shows.{Says, Shows}
 use Rattle.run_promise.specs.Log.{entries_of, pieces_of}
 use Rattle.unit_book.specs.Log.{sunk_between}
 use Rattle.unit_book.specs.Book.{ShowsFrom, Serves, IsHistory, IsCurrent}
-use Rattle.unit_book.proofs.Lines.{pieces_more, entries_more, take_more, entries_short, between_more, take_end}
-use Rattle.unit_book.proofs.Lines.{take_whole}
+use Rattle.unit_book.proofs.Lines.{pieces_more, entries_more, take_more, entries_front, entries_short, entries_take_more}
+use Rattle.unit_book.proofs.Lines.{between_more, take_end, take_whole}
 use Rattle.unit_book.proofs.Growing.{shows_from_more, shows_from_less, shows_becomes, shows_next}
 
 -- a moment of a run that goes on by a line
@@ -33,6 +33,7 @@ serves_more start log line standing next before image sunk least serves =
     let size : length (log ++ line ∷ []) ≡ length log + 1 = length-append log (line ∷ []) in
     let same : take k (log ++ line ∷ []) ≡ take k log = take-append-le k log (line ∷ []) low in
     let (rest, more) = take_more (k + 1) log line in
+    let (entries, grown) = entries_take_more (k + 1) log line in
     let ends : before ++ pieces_of (take (k + 1) log) ++ rest ≡ before ++ pieces_of (take (k + 1) (log ++ line ∷ [])) =
     append_assoc before (pieces_of (take (k + 1) log)) rest ∙ ap (λ (octets : List ℕ). before ++ octets) (sym more) in
     let few : min (length (entries_of (take k log))) next ≤ min (length (entries_of (take k log))) standing =
@@ -45,15 +46,26 @@ serves_more start log line standing next before image sunk least serves =
           (subst (λ (octets : List ℕ). Between (before ++ pieces_of (take k log)) octets sunk) ends
           (between_more (before ++ pieces_of (take k log)) (before ++ pieces_of (take (k + 1) log)) rest sunk
           serves.sinks));
-      shows = subst (λ (front : List Logged). ShowsFrom start (entries_of (log ++ line ∷ []))
+      shows = subst (λ (front : List Logged). ShowsFrom start (entries_of (take (k + 1) (log ++ line ∷ [])))
           (min (length (entries_of front)) next) image) (sym same)
-          (subst (λ (entries : List Entry). ShowsFrom start entries (min (length (entries_of (take k log))) next) image)
-          (sym (entries_more log line))
-          (shows_from_more start (entries_of log) (entries_of (line ∷ [])) (min (length (entries_of (take k log))) next)
+          (subst (λ (found : List Entry). ShowsFrom start found (min (length (entries_of (take k log))) next) image)
+          (sym grown)
+          (shows_from_more start (entries_of (take (k + 1) log)) entries (min (length (entries_of (take k log))) next)
           image
-          (shows_from_less start (entries_of log) (min (length (entries_of (take k log))) next)
+          (shows_from_less start (entries_of (take (k + 1) log)) (min (length (entries_of (take k log))) next)
           (min (length (entries_of (take k log))) standing) image few serves.shows)));
     }
+
+-- the image shows the state after as many of all entries
+pub serves_shows : (start : State) (log : List Logged) (standing : ℕ) (before image sunk : List ℕ)
+    → (serves : Serves start log standing before image sunk)
+    → ShowsFrom start (entries_of log) (min (length (entries_of (take serves.place log))) standing) image
+serves_shows start log standing before image sunk serves =
+    let (rest, same) = entries_front (serves.place + 1) log in
+    subst (λ (entries : List Entry). ShowsFrom start entries (min (length (entries_of (take serves.place log))) standing)
+    image) (sym same)
+    (shows_from_more start (entries_of (take (serves.place + 1) log)) rest
+    (min (length (entries_of (take serves.place log))) standing) image serves.shows)
 
 -- a moment at the newest line
 pub serves_last : (start : State) (log : List Logged) (line : Logged) (next : ℕ)
@@ -74,8 +86,10 @@ serves_last start log line next before image sunk old_sunk new_sunk old_is new_i
           (sym (take_whole log line))
           (subst (λ (octets : List ℕ). Between octets (before ++ pieces_of (log ++ line ∷ [])) sunk) old_is
           (subst (λ (octets : List ℕ). Between old_sunk octets sunk) new_is between)));
-      shows = subst (λ (lines : List Logged). ShowsFrom start (entries_of (log ++ line ∷ []))
-          (min (length (entries_of lines)) next) image) (sym front) shows;
+      shows = subst (λ (lines : List Logged). ShowsFrom start (entries_of (take (length log + 1) (log ++ line ∷ [])))
+          (min (length (entries_of lines)) next) image) (sym front)
+          (subst (λ (lines : List Logged). ShowsFrom start (entries_of lines) (min (length (entries_of log)) next) image)
+          (sym (take_whole log line)) shows);
     }
 
 -- what was sunk is a front of what is sunk

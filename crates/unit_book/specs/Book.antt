@@ -47,12 +47,14 @@ abbrev pub ShowsFrom : State → List Entry → ℕ → List ℕ → Type 0
 ShowsFrom start entries least image = (p : ℕ) × (least ≤ p) × ShowsAfter start entries p image
 
 -- A moment while the book serves: a place of the log, or its end. The octets sunk are those of the pieces before the
--- place, and a front of the piece at it. The image shows the state after at least the entries before it that stand.
+-- place, and a front of the piece at it. The image shows the state after at least the entries before it that stand, and
+-- none that stands behind the place.
 pub record Serves (start : State) (log : List Logged) (standing : ℕ) (before image sunk : List ℕ) : Type 0 where
   pub place : ℕ
   pub within : place ≤ length log
   pub sinks : Between (before ++ pieces_of (take place log)) (before ++ pieces_of (take (place + 1) log)) sunk
-  pub shows : ShowsFrom start (entries_of log) (min (length (entries_of (take place log))) standing) image
+  pub shows : ShowsFrom start (entries_of (take (place + 1) log)) (min (length (entries_of (take place log))) standing)
+      image
 
 -- no gate was closed: each image that a crash may leave, then or now, is at rest
 pub record IsIdle (opened now : Trace) : Type 0 where
