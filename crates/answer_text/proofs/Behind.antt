@@ -3,7 +3,7 @@ use Rattle.std.proofs.Common.{◌≡◌, ◌≢◌, ℕ, List, [], ◌∷◌, �
 use Rattle.std.proofs.lemmas.List.{append-nil}
 use Rattle.std.specs.Fmt.{decimal}
 use Rattle.std.specs.Prelude.{codes}
-use Rattle.ep_codec.specs.Field.{number_at}
+use Rattle.sdls_base.specs.Places.{number_at}
 use Rattle.record_io.specs.declared.codes.AnswerCode.{AnswerCode}
 use Rattle.record_io.specs.declared.codes.AnswerCode.TheVariants.{End}
 use Rattle.answer_text.specs.declared.form.Form.{Form}

@@ -2,7 +2,7 @@
 use Rattle.std.proofs.Common.{◌≡◌, ℕ, suc, ◌+◌, ◌-◌, ◌*◌, ◌<◌, ◌≤◌, ◌++◌, List, length, drop, sym, ap, ◌∙◌, arith, append_assoc}
 use Rattle.std.specs.Prelude.{◌&&◌, codes}
 use Rattle.std.proofs.lemmas.List.{length-drop}
-use Rattle.ep_codec.specs.Field.{octet_at}
+use Rattle.sdls_base.specs.Places.{octet_at}
 use Rattle.fsr_log.specs.declared.events.Event.{Event}
 use Rattle.fsr_log.specs.Kinds.{is_event}
 use Rattle.answer_text.specs.Part.{event_at, event_object, event_words, events_words, further_events}

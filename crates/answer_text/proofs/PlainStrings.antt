@@ -27,7 +27,7 @@ use Rattle.answer_text.specs.Reply.{reply_name, reply_values}
 use Rattle.text_words.specs.declared.names.MessageName.{MessageName}
 use Rattle.text_words.specs.declared.names.MessageName.TheVariants as monitoring
 use Rattle.answer_text.specs.declared.monitor.TheConstants.{EVENT}
-use Rattle.ep_codec.specs.Field.{octet_at}
+use Rattle.sdls_base.specs.Places.{octet_at}
 use Rattle.answer_text.specs.Monitor.{monitor_reply}
 use Rattle.answer_text.specs.Line.{HasValues, done_parts, drawn, monitored_parts, numbered, window_parts}
 use Rattle.answer_text.proofs.ValueParts.{values_more}

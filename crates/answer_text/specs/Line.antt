@@ -4,7 +4,7 @@ use Rattle.std.specs.Prelude.{IsSomeAnd, MatchOption, drop}
 use Rattle.record_io.specs.declared.answers.Answer.{Answer}
 use Rattle.ep_codec.specs.declared.reply_pdu.ReplyPdu.{ReplyPdu}
 use Rattle.ep_codec.specs.ReplyPdu.{IsReplyPdu}
-use Rattle.ep_codec.specs.Field.{number_at}
+use Rattle.sdls_base.specs.Places.{number_at}
 use Rattle.record_io.specs.declared.status.TheConstants.{SESSION_FULL}
 use Rattle.record_io.specs.declared.codes.AnswerCode.{AnswerCode}
 use Rattle.record_io.specs.declared.codes.AnswerCode.TheVariants.{Protected, Accepted, Clear, Done, Refused, Layout}

@@ -1,7 +1,7 @@
 -- The replies to monitoring messages, by their octets (profile).
 use Rattle.std.specs.Prelude.{ℕ, zero, suc, ◌+◌, ◌-◌, ◌*◌, ◌/◌, ◌%◌, ◌==◌, ◌&&◌, nat_le, nat_lt, Bool, true, codes}
 use Rattle.std.specs.Prelude.{List, [], ◌∷◌, drop, take, length, Option, Some, None, if◌then◌else◌}
-use Rattle.ep_codec.specs.Field.{octet_at, word_at}
+use Rattle.sdls_base.specs.Places.{octet_at, word_at}
 use Rattle.fsr_log.specs.declared.messages.TheConstants.{PING, LOG_STATUS, DUMP_LOG, ERASE_LOG, SELF_TEST, ALARM_RESET}
 use Rattle.fsr_log.specs.declared.replies.TheConstants.{REPLY, REPORT_WORD}
 use Rattle.fsr_log.specs.Kinds.{is_event}

@@ -5,7 +5,7 @@ use Rattle.hex.specs.Hex.{encode_lower}
 use Rattle.sdls_base.specs.declared.states.KeyState.{KeyState}
 use Rattle.text_words.specs.Members.{member, quoted}
 use Rattle.text_words.specs.Words.{octets_word, key_state_word, spaced}
-use Rattle.ep_codec.specs.Field.{number_at, octet_at}
+use Rattle.sdls_base.specs.Places.{number_at, octet_at}
 use Rattle.fsr_log.specs.declared.events.Event.{Event}
 use Rattle.record_io.specs.declared.codes.AnswerCode.{AnswerCode}
 use Rattle.answer_text.specs.Code.{code_word}

@@ -2,7 +2,7 @@
 use Rattle.std.specs.Prelude.{ℕ, zero, suc, drop, ◌==◌, ◌&&◌, ◌||◌, nat_le, Bool, true, List, [], ◌∷◌}
 use Rattle.sdls_base.specs.declared.states.KeyState.{KeyState}
 use Rattle.text_words.specs.Words.{key_state_word}
-use Rattle.ep_codec.specs.Field.{octet_at}
+use Rattle.sdls_base.specs.Places.{octet_at}
 use Rattle.record_io.specs.Codes.{code_at}
 use Rattle.answer_text.specs.Part.{Part, word_of_code}
 use Rattle.answer_text.specs.Part.Part.{named, number, word, octets, drawn, rows, events}

@@ -11,13 +11,12 @@ ghost use Rattle.answer_text.specs.Monitor.{monitor_values, reply_at, report_par
 use crate::codes::code_word;
 use crate::form::Form;
 use crate::putting::{put_named, put_named_octets};
-use ep_codec::{number_at, word_at};
 use fsr_log::{
     ALARM_RESET, DUMP_LOG, ERASE_LOG, Event, LOG_STATUS, PING, REPLY, REPORT_WORD, SELF_TEST,
     is_event,
 };
 use record_io::AnswerCode;
-use sdls_base::NoMemory;
+use sdls_base::{NoMemory, number_at, word_at};
 use std::alloc::Global;
 use text_words::{
     MessageName, put_name, put_number_member, put_octets, put_spaced, put_spaced_number,

@@ -14,10 +14,10 @@ use crate::form::Form;
 use crate::monitor::{monitor_reply, put_monitor_values};
 use crate::putting::{put_drawn, put_named, put_named_octets, put_number, put_word};
 use crate::reply::{put_reply_name, put_reply_values};
-use ep_codec::{PduError, ReplyPdu, number_at, read_reply};
+use ep_codec::{PduError, ReplyPdu, read_reply};
 use record_io::status::SESSION_FULL;
 use record_io::{Answer, AnswerCode};
-use sdls_base::NoMemory;
+use sdls_base::{NoMemory, number_at};
 use std::alloc::Global;
 use text_words::{MessageName, message_word};
 

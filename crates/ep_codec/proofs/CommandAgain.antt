@@ -19,7 +19,8 @@ use Rattle.sdls_base.specs.Spelling.{association_octets}
 use Rattle.ep_codec.specs.Command.{message, sealed_data, keys_data, command_octets, IsInBounds, HasTypes, IsCommandPdu}
 use Rattle.ep_codec.specs.CommandReading.{command_at, command_procedure}
 use Rattle.sdls_base.specs.Code.{direction_code, suite_code}
-use Rattle.ep_codec.specs.Field.{octet_at, word_at, number_at, is_key, is_spi, is_window, key_check, spi_check, window_check, code_check, count_check}
+use Rattle.sdls_base.specs.Places.{octet_at, word_at, number_at}
+use Rattle.ep_codec.specs.Field.{is_key, is_spi, is_window, key_check, spi_check, window_check, code_check, count_check}
 use Rattle.ep_codec.specs.FieldList.{key_checks, channel_checks}
 use Rattle.ep_codec.specs.MessageFault.{command_checks}
 use Rattle.ep_codec.specs.Procedure.{tag_of, has_command_length}

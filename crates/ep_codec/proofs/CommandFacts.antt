@@ -18,12 +18,14 @@ use Rattle.sdls_base.specs.Spelling.{association_octets}
 use Rattle.ep_codec.specs.Command.{message, sealed_data, keys_data, command_octets, IsInBounds, HasTypes, IsCommandPdu}
 use Rattle.ep_codec.specs.CommandReading.{command_at}
 use Rattle.sdls_base.specs.Code.{direction_code, suite_code, direction_of, suite_of}
-use Rattle.ep_codec.specs.Field.{octet_at, word_at, number_at, is_key, is_spi, is_window, key_check, spi_check, window_check, code_check, count_check}
+use Rattle.sdls_base.specs.Places.{octet_at, word_at, number_at}
+use Rattle.ep_codec.specs.Field.{is_key, is_spi, is_window, key_check, spi_check, window_check, code_check, count_check}
 use Rattle.ep_codec.specs.FieldList.{keys_in, key_checks, channel_checks}
 use Rattle.ep_codec.specs.MessageFault.{procedure_in, header_checks, command_checks}
 use Rattle.ep_codec.specs.Procedure.{tag_of}
 use Rattle.ep_codec.proofs.Faults.{others_passed}
-use Rattle.ep_codec.proofs.FieldFacts.{AreOctets, window_found, low_bound, high_bound, in_bounds, kept, octet_field, word_field, number_field, range_field, range_length, word_end, number_end, range_end, word_small, number_small, octets_drop}
+use Rattle.sdls_base.proofs.PlaceFacts.{AreOctets, octet_field, word_field, number_field, word_small, number_small, octets_drop}
+use Rattle.ep_codec.proofs.FieldFacts.{window_found, low_bound, high_bound, in_bounds, kept, range_field, range_length, word_end, number_end, range_end}
 use Rattle.ep_codec.proofs.HeaderFacts.{Framed, header_passed}
 use Rattle.ep_codec.proofs.ListFacts.{keys_spelled, keys_count, keys_are, channels_small, channels_ascend}
 

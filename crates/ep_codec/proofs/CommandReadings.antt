@@ -11,11 +11,11 @@ use Rattle.ep_codec.specs.Check.{IsFirst, Judges, IsReadUnlessNoMemory, Carries,
 use Rattle.ep_codec.specs.Command.{IsCommandPdu}
 use Rattle.ep_codec.specs.CommandReading.{command_at, command_procedure}
 use Rattle.ep_codec.specs.MessageFault.{procedure_in, header_checks, command_checks, field_checks, message_fault, command_fault, can_have, end_in}
-use Rattle.ep_codec.specs.Field.{word_at}
+use Rattle.sdls_base.specs.Places.{word_at}
 use Rattle.ep_codec.proofs.CommandAgain.{command_again}
 use Rattle.ep_codec.proofs.CommandFacts.{command_found}
 use Rattle.ep_codec.proofs.Faults.{passed_append, failed_append, front_passed, first_passed, others_passed}
-use Rattle.ep_codec.proofs.FieldFacts.{AreOctets}
+use Rattle.sdls_base.proofs.PlaceFacts.{AreOctets}
 use Rattle.ep_codec.proofs.HeaderFacts.{some_of}
 
 -- a fault of the header, where the octets are a command

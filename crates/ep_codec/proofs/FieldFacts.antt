@@ -1,19 +1,16 @@
--- The fields at a place are what stands there, and what was written there is read again.
-use Rattle.std.proofs.Common.{◌≡◌, ℕ, zero, suc, ◌+◌, ◌-◌, ◌^◌, ◌<◌, ◌≤◌, Bool, true, false, List, [], ◌∷◌, ◌++◌, length, get_or, take, drop, None, refl, sym, ap, ◌∙◌, arith}
+-- The bounds of fields, and the fields at the end of a message.
+use Rattle.std.proofs.Common.{◌≡◌, ℕ, ◌+◌, ◌-◌, ◌≤◌, Bool, true, false, List, ◌∷◌, ◌++◌, length, take, drop, None, refl, sym, ap, ◌∙◌, arith}
 use Rattle.std.specs.Prelude.{not, slice_range}
-use Rattle.std.specs.Int.{w16, w32, w64, from_be_bytes, to_be_bytes, is_in_range}
+use Rattle.std.specs.Int.{w16, w64, to_be_bytes, is_in_range}
 use Rattle.std.proofs.lemmas.Bool.{and_parts, and_from, leb-true, le-leb}
-use Rattle.std.proofs.lemmas.List.{drop_more, drop_all, take-append-drop, append-nil, drop-drop, length-take, length-drop}
-use Rattle.std.proofs.lemmas.Nat.{be_bytes_2, be_bytes_4, be_bytes_8}
+use Rattle.std.proofs.lemmas.List.{drop_all, take-append-drop, append-nil, drop-drop, length-take, length-drop}
 use Rattle.sdls_base.specs.FirstFailing.{Check, first_failing}
 use Rattle.sdls_base.specs.declared.TheConstants.{MOST_WINDOW}
 use Rattle.replay_window.specs.WindowField.{width_of, IsWindowField}
-use Rattle.ep_codec.specs.Field.{is_window, octet_at, word_at, double_word_at, number_at}
+use Rattle.sdls_base.specs.Places.{word_at, number_at}
+use Rattle.sdls_base.proofs.PlaceFacts.{AreOctets, word_field, number_field}
+use Rattle.ep_codec.specs.Field.{is_window}
 use Rattle.ep_codec.proofs.Faults.{first_passed}
-
--- octets, each below 256
-abbrev pub AreOctets : List ℕ → Type 0
-AreOctets octets = (i : ℕ) → get_or octets i 0 < 256
 
 -- ---- bounds
 
@@ -48,87 +45,7 @@ pub keeps : (b : Bool) (at : ℕ) (checks : List (Check ℕ)) → b ≡ true →
 keeps true at checks e none = none
 keeps false at checks e none = absurd cc
 
--- ---- what stands from a place on
-
-next : (octets : List ℕ) (at k j : ℕ) → j ≡ k + 1 → at + k < length octets → drop (at + k) octets ≡ get_or octets (at + k) 0 ∷ drop (at + j) octets
-next octets at k j e h =
-    let same : at + k + 1 ≡ at + j = omega arith in
-    drop_more octets (at + k) 0 h ∙ ap (λ (i : ℕ). get_or octets (at + k) 0 ∷ drop i octets) same
-
-pub octet_field : (at : ℕ) (octets : List ℕ) → at < length octets → drop at octets ≡ octet_at at octets ∷ drop (at + 1) octets
-octet_field at octets h = drop_more octets at 0 h
-
-two_octets : (a b : ℕ) → a < 256 → b < 256 → (i : ℕ) → get_or (a ∷ b ∷ []) i 0 < 256
-two_octets a b p q zero = p
-two_octets a b p q (suc zero) = q
-two_octets a b p q (suc (suc i)) = omega arith
-
-pub word_spelled : (a b : ℕ) → a < 256 → b < 256 → to_be_bytes w16 (from_be_bytes w16 (a ∷ b ∷ [])) ≡ a ∷ b ∷ []
-word_spelled a b p q = be_bytes_2 (a ∷ b ∷ []) _ refl (two_octets a b p q) refl
-
-pub word_field : (at : ℕ) (octets : List ℕ) → AreOctets octets → at + 2 ≤ length octets
-    → drop at octets ≡ to_be_bytes w16 (word_at at octets) ++ drop (at + 2) octets
-word_field at octets are h =
-    let first = drop_more octets at 0 (omega arith) in
-    let second = next octets at 1 2 refl (omega arith) in
-    let cells : drop at octets ≡ (get_or octets at 0 ∷ get_or octets (at + 1) 0 ∷ []) ++ drop (at + 2) octets = cc in
-    cells ∙ ap (λ (s : List ℕ). s ++ drop (at + 2) octets) (sym (word_spelled (get_or octets at 0) (get_or octets (at + 1) 0) (are at) (are (at + 1))))
-
-four_octets : (a b c d : ℕ) → a < 256 → b < 256 → c < 256 → d < 256 → (i : ℕ) → get_or (a ∷ b ∷ c ∷ d ∷ []) i 0 < 256
-four_octets a b c d p q r s zero = p
-four_octets a b c d p q r s (suc zero) = q
-four_octets a b c d p q r s (suc (suc zero)) = r
-four_octets a b c d p q r s (suc (suc (suc zero))) = s
-four_octets a b c d p q r s (suc (suc (suc (suc i)))) = omega arith
-
-pub double_word_field : (at : ℕ) (octets : List ℕ) → AreOctets octets → at + 4 ≤ length octets
-    → drop at octets ≡ to_be_bytes w32 (double_word_at at octets) ++ drop (at + 4) octets
-double_word_field at octets are h =
-    let first = drop_more octets at 0 (omega arith) in
-    let second = next octets at 1 2 refl (omega arith) in
-    let third = next octets at 2 3 refl (omega arith) in
-    let fourth = next octets at 3 4 refl (omega arith) in
-    let a = get_or octets at 0 in
-    let b = get_or octets (at + 1) 0 in
-    let c = get_or octets (at + 2) 0 in
-    let d = get_or octets (at + 3) 0 in
-    let cells : drop at octets ≡ (a ∷ b ∷ c ∷ d ∷ []) ++ drop (at + 4) octets = cc in
-    let spelled : to_be_bytes w32 (from_be_bytes w32 (a ∷ b ∷ c ∷ d ∷ [])) ≡ a ∷ b ∷ c ∷ d ∷ [] =
-    be_bytes_4 (a ∷ b ∷ c ∷ d ∷ []) _ refl (four_octets a b c d (are at) (are (at + 1)) (are (at + 2)) (are (at + 3))) refl in
-    cells ∙ ap (λ (s : List ℕ). s ++ drop (at + 4) octets) (sym spelled)
-
-eight_octets : (a b c d e f g h : ℕ) → a < 256 → b < 256 → c < 256 → d < 256 → e < 256 → f < 256 → g < 256 → h < 256
-    → (i : ℕ) → get_or (a ∷ b ∷ c ∷ d ∷ e ∷ f ∷ g ∷ h ∷ []) i 0 < 256
-eight_octets a b c d e f g h p q r s t u v w zero = p
-eight_octets a b c d e f g h p q r s t u v w (suc zero) = q
-eight_octets a b c d e f g h p q r s t u v w (suc (suc zero)) = r
-eight_octets a b c d e f g h p q r s t u v w (suc (suc (suc zero))) = s
-eight_octets a b c d e f g h p q r s t u v w (suc (suc (suc (suc i)))) = four_octets e f g h t u v w i
-
-pub number_field : (at : ℕ) (octets : List ℕ) → AreOctets octets → at + 8 ≤ length octets
-    → drop at octets ≡ to_be_bytes w64 (number_at at octets) ++ drop (at + 8) octets
-number_field at octets are room =
-    let p1 = drop_more octets at 0 (omega arith) in
-    let p2 = next octets at 1 2 refl (omega arith) in
-    let p3 = next octets at 2 3 refl (omega arith) in
-    let p4 = next octets at 3 4 refl (omega arith) in
-    let p5 = next octets at 4 5 refl (omega arith) in
-    let p6 = next octets at 5 6 refl (omega arith) in
-    let p7 = next octets at 6 7 refl (omega arith) in
-    let p8 = next octets at 7 8 refl (omega arith) in
-    let a = get_or octets at 0 in
-    let b = get_or octets (at + 1) 0 in
-    let c = get_or octets (at + 2) 0 in
-    let d = get_or octets (at + 3) 0 in
-    let e = get_or octets (at + 4) 0 in
-    let f = get_or octets (at + 5) 0 in
-    let g = get_or octets (at + 6) 0 in
-    let h = get_or octets (at + 7) 0 in
-    let cells : drop at octets ≡ (a ∷ b ∷ c ∷ d ∷ e ∷ f ∷ g ∷ h ∷ []) ++ drop (at + 8) octets = cc in
-    let spelled : to_be_bytes w64 (from_be_bytes w64 (a ∷ b ∷ c ∷ d ∷ e ∷ f ∷ g ∷ h ∷ [])) ≡ a ∷ b ∷ c ∷ d ∷ e ∷ f ∷ g ∷ h ∷ [] =
-    be_bytes_8 (a ∷ b ∷ c ∷ d ∷ e ∷ f ∷ g ∷ h ∷ []) _ refl
-    (eight_octets a b c d e f g h (are at) (are (at + 1)) (are (at + 2)) (are (at + 3)) (are (at + 4)) (are (at + 5)) (are (at + 6)) (are (at + 7))) refl in
-    cells ∙ ap (λ (s : List ℕ). s ++ drop (at + 8) octets) (sym spelled)
+-- ---- the octets of a range
 
 pub range_field : (octets : List ℕ) (a b : ℕ) → a ≤ b → drop a octets ≡ slice_range octets a b ++ drop b octets
 range_field octets a b h =
@@ -151,20 +68,3 @@ number_end at octets are h = number_field at octets are (omega arith) ∙ ended 
 
 pub range_end : (octets : List ℕ) (a b : ℕ) → a ≤ b → b ≡ length octets → drop a octets ≡ slice_range octets a b
 range_end octets a b p q = range_field octets a b p ∙ ended (slice_range octets a b) octets b (omega arith)
-
--- ---- a field is below the end of its width
-
-pub word_small : (at : ℕ) (octets : List ℕ) → AreOctets octets → word_at at octets < 2 ^ 16
-word_small at octets are = omega (arith, are at, are (at + 1))
-
-pub double_word_small : (at : ℕ) (octets : List ℕ) → AreOctets octets → double_word_at at octets < 2 ^ 32
-double_word_small at octets are = omega (arith, are at, are (at + 1), are (at + 2), are (at + 3))
-
-pub number_small : (at : ℕ) (octets : List ℕ) → AreOctets octets → number_at at octets < 2 ^ 64
-number_small at octets are =
-    omega (arith, are at, are (at + 1), are (at + 2), are (at + 3), are (at + 4), are (at + 5), are (at + 6), are (at + 7))
-
-pub octets_drop : (n : ℕ) (octets : List ℕ) → AreOctets octets → AreOctets (drop n octets)
-octets_drop zero octets are = are
-octets_drop (suc n) [] are = are
-octets_drop (suc n) (x ∷ octets) are = octets_drop n octets (λ i. are (suc i))

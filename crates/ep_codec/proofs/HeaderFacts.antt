@@ -11,11 +11,12 @@ use Rattle.ep_codec.specs.declared.procedure.Procedure.{Procedure}
 use Rattle.ep_codec.specs.declared.procedure.Procedure.TheVariants.{Rekeying, Activate, Deactivate, Verify, Destroy, Inventory, Compose, ReadNumber, Create, Delete, SetWindow, Rekey, Expire, SetNumber, Start, Stop, Status}
 use Rattle.sdls_base.specs.FirstFailing.{Check, first_failing}
 use Rattle.ep_codec.specs.Command.{message}
-use Rattle.ep_codec.specs.Field.{word_at}
+use Rattle.sdls_base.specs.Places.{word_at}
 use Rattle.ep_codec.specs.MessageFault.{procedure_in, can_have, end_in, header_checks}
 use Rattle.ep_codec.specs.Procedure.{tag_of, procedures, procedure_of, procedure_tagged, has_length}
 use Rattle.ep_codec.proofs.Faults.{first_passed, others_passed, passes}
-use Rattle.ep_codec.proofs.FieldFacts.{AreOctets, kept, keeps, octet_field, word_field}
+use Rattle.sdls_base.proofs.PlaceFacts.{AreOctets, octet_field, word_field}
+use Rattle.ep_codec.proofs.FieldFacts.{kept, keeps}
 
 -- ---- tags
 

@@ -15,7 +15,8 @@ use Rattle.ep_codec.specs.Field.{is_key}
 use Rattle.ep_codec.specs.FieldList.{keys_in, key_checks, rows_in, row_checks, channel_checks}
 use Rattle.ep_codec.specs.ReplyPdu.{row_octets}
 use Rattle.ep_codec.proofs.Faults.{others_passed}
-use Rattle.ep_codec.proofs.FieldFacts.{AreOctets, low_bound, high_bound, in_bounds, kept, keeps, word_spelled}
+use Rattle.sdls_base.proofs.PlaceFacts.{AreOctets, word_spelled}
+use Rattle.ep_codec.proofs.FieldFacts.{low_bound, high_bound, in_bounds, kept, keeps}
 
 -- ---- keys
 

@@ -20,7 +20,8 @@ use Rattle.ep_codec.specs.Command.{message, sealed_data}
 use Rattle.ep_codec.specs.ReplyPdu.{row_octets, reply_octets, IsInBounds, HasTypes, IsReplyPdu}
 use Rattle.ep_codec.specs.ReplyReading.{reply_at, reply_procedure}
 use Rattle.sdls_base.specs.Code.{sa_state_code, direction_code, suite_code}
-use Rattle.ep_codec.specs.Field.{octet_at, word_at, double_word_at, number_at, is_key, is_window, seals, optional_key, key_check, window_check, code_check, sealing_key_check, mac_key_check, inner_length_check}
+use Rattle.sdls_base.specs.Places.{octet_at, word_at, double_word_at, number_at}
+use Rattle.ep_codec.specs.Field.{is_key, is_window, seals, optional_key, key_check, window_check, code_check, sealing_key_check, mac_key_check, inner_length_check}
 use Rattle.ep_codec.specs.MessageFault.{reply_checks}
 use Rattle.ep_codec.specs.Procedure.{tag_of, has_reply_length}
 use Rattle.ep_codec.proofs.FieldFacts.{low_bound, high_bound, in_bounds, keeps}

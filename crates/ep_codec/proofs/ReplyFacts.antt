@@ -14,11 +14,13 @@ use Rattle.ep_codec.specs.Command.{message}
 use Rattle.ep_codec.specs.ReplyPdu.{reply_octets, IsInBounds, HasTypes, IsReplyPdu}
 use Rattle.ep_codec.specs.ReplyReading.{reply_at}
 use Rattle.sdls_base.specs.Code.{sa_state_code, sa_state_of, direction_code, suite_code, direction_of, suite_of}
-use Rattle.ep_codec.specs.Field.{octet_at, word_at, double_word_at, number_at, is_key, is_spi, is_window, seals, optional_key, key_check, window_check, code_check, sealing_key_check, mac_key_check, inner_length_check}
+use Rattle.sdls_base.specs.Places.{octet_at, word_at, double_word_at, number_at}
+use Rattle.ep_codec.specs.Field.{is_key, is_spi, is_window, seals, optional_key, key_check, window_check, code_check, sealing_key_check, mac_key_check, inner_length_check}
 use Rattle.ep_codec.specs.MessageFault.{procedure_in, header_checks, reply_checks}
 use Rattle.ep_codec.specs.Procedure.{tag_of}
 use Rattle.ep_codec.proofs.Faults.{others_passed}
-use Rattle.ep_codec.proofs.FieldFacts.{AreOctets, window_found, low_bound, high_bound, in_bounds, kept, octet_field, word_field, double_word_field, range_field, range_length, number_end, range_end, word_small, double_word_small, number_small, octets_drop}
+use Rattle.sdls_base.proofs.PlaceFacts.{AreOctets, octet_field, word_field, double_word_field, word_small, double_word_small, number_small, octets_drop}
+use Rattle.ep_codec.proofs.FieldFacts.{window_found, low_bound, high_bound, in_bounds, kept, range_field, range_length, number_end, range_end}
 use Rattle.ep_codec.proofs.HeaderFacts.{Framed, header_passed}
 use Rattle.ep_codec.proofs.CommandFacts.{whole_length, spi_found, key_found, spi_number_spelled, sealed_spelled, tag_length, sealed_length, direction_spelled, suite_spelled}
 use Rattle.ep_codec.proofs.ListFacts.{rows_spelled, rows_count, rows_are}

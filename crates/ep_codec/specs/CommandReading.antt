@@ -8,7 +8,7 @@ use Rattle.ep_codec.specs.declared.command.Command.TheVariants.{Inventory, Compo
 use Rattle.ep_codec.specs.declared.command.Command.TheVariants.{SetWindow, Rekey, Expire, SetNumber, Start, Stop}
 use Rattle.ep_codec.specs.declared.command.Command.TheVariants.{Status}
 use Rattle.sdls_base.specs.Code.{direction_of, suite_of}
-use Rattle.ep_codec.specs.Field.{octet_at, word_at, number_at}
+use Rattle.sdls_base.specs.Places.{octet_at, word_at, number_at}
 use Rattle.ep_codec.specs.FieldList.{keys_in}
 
 -- whose message the command is

@@ -1,12 +1,13 @@
--- The fields of a procedure message: numbers in whole octets, the most significant first, and their bounds (profile).
+-- The fields of a procedure message, numbers in whole octets, with their bounds (profile).
 use Rattle.std.specs.Prelude.{ℕ, ◌+◌, ◌*◌, ◌-◌, ◌==◌, ◌&&◌, nat_le, not, Bool, true, false, if◌then◌else◌}
-use Rattle.std.specs.Prelude.{List, [], ◌∷◌, length, slice_index, Option, Some, None}
-use Rattle.std.specs.Int.{w16, w32, w64, from_be_bytes, is_in_range}
+use Rattle.std.specs.Prelude.{List, length, Option, Some, None}
+use Rattle.std.specs.Int.{is_in_range}
 use Rattle.sdls_base.specs.declared.TheConstants.{MOST_WINDOW}
 use Rattle.sdls_base.specs.declared.key_id.KeyClass.{KeyClass}
 use Rattle.sdls_base.specs.declared.key_id.KeyClass.TheVariants as classes
 use Rattle.sdls_base.specs.KeyId.{class_of}
 use Rattle.sdls_base.specs.FirstFailing.{Check}
+use Rattle.sdls_base.specs.Places.{octet_at, word_at, number_at}
 use Rattle.replay_window.specs.declared.TheConstants.{MOST_BACK}
 use Rattle.replay_window.specs.WindowField.{back_of, width_of}
 
@@ -33,25 +34,6 @@ seals classes.Cmac = false
 -- a key that may be absent: 0 names none
 abbrev pub optional_key : ℕ → Option ℕ
 optional_key n = if n == 0 then None else Some n
-
--- ---- the number at a place of a message, in 1, 2, 4 or 8 octets
-
-abbrev pub octet_at : ℕ → List ℕ → ℕ
-octet_at at octets = slice_index octets at
-
-abbrev pub word_at : ℕ → List ℕ → ℕ
-word_at at octets = from_be_bytes w16 (slice_index octets at ∷ slice_index octets (at + 1) ∷ [])
-
-abbrev pub double_word_at : ℕ → List ℕ → ℕ
-double_word_at at octets = from_be_bytes w32
-    (slice_index octets at ∷ slice_index octets (at + 1) ∷ slice_index octets (at + 2) ∷ slice_index octets (at + 3)
-    ∷ [])
-
-abbrev pub number_at : ℕ → List ℕ → ℕ
-number_at at octets = from_be_bytes w64
-    (slice_index octets at ∷ slice_index octets (at + 1) ∷ slice_index octets (at + 2) ∷ slice_index octets (at + 3)
-    ∷ slice_index octets (at + 4) ∷ slice_index octets (at + 5) ∷ slice_index octets (at + 6)
-    ∷ slice_index octets (at + 7) ∷ [])
 
 -- ---- the tests of the field at a place: a value outside of its bounds is a fault there
 

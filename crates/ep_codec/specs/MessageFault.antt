@@ -10,7 +10,8 @@ use Rattle.ep_codec.specs.declared.procedure.Procedure.TheVariants.{Inventory, C
 use Rattle.ep_codec.specs.declared.procedure.Procedure.TheVariants.{SetWindow, Rekey, Expire, SetNumber, Start, Stop}
 use Rattle.ep_codec.specs.declared.procedure.Procedure.TheVariants.{Status}
 use Rattle.sdls_base.specs.FirstFailing.{Check, first_failing}
-use Rattle.ep_codec.specs.Field.{word_at, key_check, spi_check, window_check, code_check, sealing_key_check}
+use Rattle.sdls_base.specs.Places.{word_at}
+use Rattle.ep_codec.specs.Field.{key_check, spi_check, window_check, code_check, sealing_key_check}
 use Rattle.ep_codec.specs.Field.{mac_key_check, last_check, count_check, inner_tag_check, inner_length_check}
 use Rattle.ep_codec.specs.FieldList.{key_checks, row_checks, channel_checks}
 use Rattle.ep_codec.specs.Procedure.{procedure_tagged, has_length}

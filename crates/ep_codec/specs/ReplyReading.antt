@@ -8,7 +8,8 @@ use Rattle.ep_codec.specs.declared.reply_pdu.ReplyPdu.TheVariants.{Delete, SetWi
 use Rattle.ep_codec.specs.declared.reply_pdu.ReplyPdu.TheVariants.{Stop, VerifyGcm, VerifyCmac, Inventory, Compose}
 use Rattle.ep_codec.specs.declared.reply_pdu.ReplyPdu.TheVariants.{ReadNumber, Status}
 use Rattle.sdls_base.specs.Code.{sa_state_of, direction_of, suite_of}
-use Rattle.ep_codec.specs.Field.{octet_at, word_at, double_word_at, number_at, optional_key}
+use Rattle.sdls_base.specs.Places.{octet_at, word_at, double_word_at, number_at}
+use Rattle.ep_codec.specs.Field.{optional_key}
 use Rattle.ep_codec.specs.FieldList.{rows_in}
 
 -- whose message the reply is

@@ -12,10 +12,10 @@ ghost use Rattle.ep_codec.specs.Field.{count_check};
 
 use crate::command::Command;
 use crate::field_lists::{channels, keys};
-use crate::fields::{TAG, VECTOR, array, direction, key, number_at, spi, suite, window, word_at};
+use crate::fields::{TAG, VECTOR, array, direction, key, spi, suite, window};
 use crate::pdu_error::PduError;
 use crate::procedure::Procedure;
-use sdls_base::{NewSa, Octets};
+use sdls_base::{NewSa, Octets, number_at, word_at};
 use std::alloc::Global;
 
 fn rekeying(alloc: Global, octets: &[u8]) -> Result<Command, PduError>

@@ -2,12 +2,13 @@
 ghost use Rattle.std.specs.Prelude.{◌≡◌, ◌+◌, ◌^◌, ◌<◌, ◌≤◌, not, length, slice_range, [], ◌∷◌};
 ghost use Rattle.ep_codec.specs.Check.{Judges};
 ghost use Rattle.sdls_base.specs.Code.{sa_state_of, direction_of, suite_of};
-ghost use Rattle.ep_codec.specs.Field.{word_at, double_word_at, number_at, octet_at, is_key, key_check, spi_check};
+ghost use Rattle.sdls_base.specs.Places.{octet_at, word_at, number_at};
+ghost use Rattle.ep_codec.specs.Field.{is_key, key_check, spi_check};
 ghost use Rattle.ep_codec.specs.Field.{window_check, code_check};
 
 use crate::pdu_error::PduError;
 use replay_window::is_window_field;
-use sdls_base::{Direction, KeyId, SaState, Spi, Suite};
+use sdls_base::{Direction, KeyId, SaState, Spi, Suite, number_at, word_at};
 
 /// The octets of a vector.
 pub(crate) const VECTOR: usize = 12;
@@ -20,39 +21,6 @@ pub(crate) const KEY: usize = 2;
 
 /// The octets around what is sealed: the key, the vector, and the tag.
 pub(crate) const SEALED_EXTRA: usize = KEY + VECTOR + TAG;
-
-/// The number of 2 octets at a place, the most significant octet first.
-pub fn word_at(octets: &[u8], at: usize) -> u16
-    requires { at + 2 ≤ length octets.now }
-    ensures { result ≡ word_at at octets.now }
-{
-    u16::from_be_bytes([octets[at], octets[at + 1]])
-}
-
-/// The number of 4 octets at a place, the most significant octet first.
-pub fn double_word_at(octets: &[u8], at: usize) -> u32
-    requires { at + 4 ≤ length octets.now }
-    ensures { result ≡ double_word_at at octets.now }
-{
-    u32::from_be_bytes([octets[at], octets[at + 1], octets[at + 2], octets[at + 3]])
-}
-
-/// The number of 8 octets at a place, the most significant octet first.
-pub fn number_at(octets: &[u8], at: usize) -> u64
-    requires { at + 8 ≤ length octets.now }
-    ensures { result ≡ number_at at octets.now }
-{
-    u64::from_be_bytes([
-        octets[at],
-        octets[at + 1],
-        octets[at + 2],
-        octets[at + 3],
-        octets[at + 4],
-        octets[at + 5],
-        octets[at + 6],
-        octets[at + 7],
-    ])
-}
 
 /// So many octets from a place on.
 pub(crate) fn array<const N: usize>(octets: &[u8], at: usize) -> [u8; N]

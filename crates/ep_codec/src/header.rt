@@ -4,9 +4,9 @@ ghost use Rattle.ep_codec.specs.Check.{Judges};
 ghost use Rattle.ep_codec.specs.MessageFault.{header_checks, procedure_in};
 ghost use Rattle.ep_codec.specs.Procedure.{has_length};
 
-use crate::fields::word_at;
 use crate::pdu_error::PduError;
 use crate::procedure::{PduType, Procedure};
+use sdls_base::word_at;
 
 /// The procedure of a message of this type, by its tag. Its length is one that the procedure can
 /// have, and that of the octets.

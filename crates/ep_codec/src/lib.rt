@@ -23,7 +23,6 @@ mod writing;
 
 pub use command::Command;
 pub use command_writing::write_pdu;
-pub use fields::{double_word_at, number_at, word_at};
 pub use laws::{command_without_fault, one_command, one_reply, reply_without_fault};
 pub use pdu_error::PduError;
 pub use procedure::Procedure;

@@ -9,10 +9,11 @@ use Rattle.std.proofs.lemmas.List.{length-drop}
 use Rattle.std.proofs.lemmas.Option.{none-some, same_Some}
 use Rattle.sdls_base.specs.FirstFailing.{Check}
 use Rattle.ep_codec.specs.Command.{message}
-use Rattle.ep_codec.specs.Field.{word_at}
+use Rattle.sdls_base.specs.Places.{word_at}
 use Rattle.ep_codec.specs.MessageFault.{end_in}
 use Rattle.ep_codec.proofs.Faults.{first_passed, others_passed}
-use Rattle.ep_codec.proofs.FieldFacts.{AreOctets, kept, octet_field, word_field}
+use Rattle.sdls_base.proofs.PlaceFacts.{AreOctets, octet_field, word_field}
+use Rattle.ep_codec.proofs.FieldFacts.{kept}
 use Rattle.fsr_log.specs.declared.messages.Monitoring.{Monitoring}
 use Rattle.fsr_log.specs.declared.messages.Monitoring.TheVariants.{Ping, LogStatus, DumpLog, EraseLog, SelfTest}
 use Rattle.fsr_log.specs.declared.messages.Monitoring.TheVariants.{AlarmReset}

@@ -4,7 +4,7 @@ use Rattle.std.specs.Prelude.{length, drop, slice_index, Option, Some, None, Res
 use Rattle.std.specs.List.{list_any}
 use Rattle.sdls_base.specs.FirstFailing.{Check, first_failing}
 use Rattle.ep_codec.specs.Command.{message}
-use Rattle.ep_codec.specs.Field.{word_at}
+use Rattle.sdls_base.specs.Places.{word_at}
 use Rattle.ep_codec.specs.MessageFault.{end_in}
 use Rattle.fsr_log.specs.declared.messages.Monitoring.{Monitoring}
 use Rattle.fsr_log.specs.declared.messages.Monitoring.TheVariants.{Ping, LogStatus, DumpLog, EraseLog, SelfTest}

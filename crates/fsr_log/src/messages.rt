@@ -3,8 +3,7 @@ ghost use Rattle.std.specs.Prelude.{◌≡◌, ◌^◌, ◌<◌, length, Some, I
 ghost use Rattle.ep_codec.specs.Command.{message};
 ghost use Rattle.fsr_log.specs.Message.{HasTag, Reads, data_length, monitoring_octets};
 
-use ep_codec::word_at;
-use sdls_base::{NoMemory, Octets};
+use sdls_base::{NoMemory, Octets, word_at};
 use std::alloc::Global;
 
 /// The tag of a Ping.

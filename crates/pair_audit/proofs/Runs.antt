@@ -8,8 +8,8 @@ use Rattle.std.proofs.lemmas.Bool.{cases_lt}
 use Rattle.std.proofs.lemmas.List.{append-nil, drop_all, take-append-drop, take-append-le, take_all, length-drop}
 use Rattle.std.proofs.lemmas.List.{length-take-le}
 use Rattle.std.proofs.lemmas.Nat.{from_be_bytes-to_be_bytes_4}
-use Rattle.ep_codec.specs.Field.{double_word_at}
-use Rattle.ep_codec.proofs.FieldFacts.{AreOctets, double_word_field}
+use Rattle.sdls_base.specs.Places.{double_word_at}
+use Rattle.sdls_base.proofs.PlaceFacts.{AreOctets, double_word_field}
 use Rattle.record_io.specs.declared.answers.Answer.{Answer}
 use Rattle.record_io.specs.Answers.{answers_octets}
 use Rattle.record_io.specs.Input.{MOST_OCTETS}

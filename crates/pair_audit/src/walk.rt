@@ -14,8 +14,8 @@ ghost use Rattle.pair_audit.specs.declared.walk.RunEnd.TheVariants as ends;
 use crate::audit::{Audit, Repeat};
 use crate::stop::AuditStop;
 use crate::taking::{fill, skip};
-use ep_codec::double_word_at;
 use record_io::{ANSWER_HEADER, known_head};
+use sdls_base::double_word_at;
 use sdls_outside::Source;
 use std::alloc::Global;
 

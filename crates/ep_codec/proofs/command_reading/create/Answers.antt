@@ -8,7 +8,8 @@ use Rattle.ep_codec.specs.declared.procedure.Procedure.TheVariants as procedures
 use Rattle.ep_codec.specs.declared.command.Command.TheVariants.{Create}
 use Rattle.ep_codec.specs.MessageFault.{command_checks}
 use Rattle.ep_codec.specs.CommandReading.{command_at}
-use Rattle.ep_codec.specs.Field.{octet_at, word_at, number_at, spi_check, code_check, window_check, count_check}
+use Rattle.sdls_base.specs.Places.{octet_at, word_at, number_at}
+use Rattle.ep_codec.specs.Field.{spi_check, code_check, window_check, count_check}
 use Rattle.ep_codec.specs.FieldList.{channel_checks}
 use Rattle.ep_codec.proofs.Faults.{six_passed}
 use Rattle.ep_codec.proofs.command_reading.create.Goals as goal
