@@ -1,7 +1,6 @@
 pub mod Texts
 pub mod Windows
 pub mod NumberLists
-pub mod ChannelLists
 pub mod CommandLengths
 pub mod MonitorLengths
 pub mod AskedWords

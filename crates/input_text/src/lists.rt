@@ -9,7 +9,7 @@ use crate::fault::{Expected, LineError};
 use crate::fields::Fields;
 use sdls_base::{KeyId, KeyList, MOST_CHANNELS, MOST_KEYS_AT_ONCE, Octets};
 use std::alloc::Global;
-use unit_plan::are_channels;
+use unit_plan::are_channel_ids;
 
 /// Takes the keys that are left, 1 to 8.
 pub(crate) fn keys(alloc: Global, fields: &mut Fields<'_>) -> Result<KeyList, LineError>
@@ -70,7 +70,7 @@ pub(crate) fn channels(alloc: Global, fields: &mut Fields<'_>) -> Result<Octets,
         → fields.old ≡ map decimal channels → AnswersField result channels }
 {
     let numbers = channel_numbers(alloc, fields)?;
-    if are_channels(numbers.as_slice()) {
+    if are_channel_ids(numbers.as_slice()) {
         Ok(numbers)
     } else {
         let back = numbers

@@ -7,22 +7,22 @@ use Rattle.std.proofs.lemmas.Bool.Decides.{nat_tests}
 use Rattle.std.proofs.lemmas.Option.{none-some, same_Some}
 use Rattle.hex.proofs.HexLemmas.{decode_of-ok, decode_sized-ok, decode_sized-twice}
 use Rattle.hex.specs.Hex.{decode_sized}
-use Rattle.sdls_base.specs.Bounds.{AreChannels, IsKeyLength}
-use Rattle.sdls_base.specs.declared.TheConstants.{MOST_CHANNELS, MOST_WINDOW}
+use Rattle.sdls_base.specs.Bounds.{IsKeyLength}
+use Rattle.sdls_base.specs.declared.TheConstants.{MOST_WINDOW}
 use Rattle.sdls_base.specs.declared.link.AnyLayout.{AnyLayout}
 use Rattle.sdls_base.specs.declared.link.AnyLayout.TheVariants.{Tc, Tm, Aos}
 use Rattle.sdls_base.specs.declared.link.Link.{Link}
 use Rattle.sdls_base.specs.declared.link.Mask.{Mask}
 use Rattle.sdls_base.specs.Link.{IsInBounds, usual_tc, usual_tm, usual_aos}
 use Rattle.unit_plan.specs.declared.plan.PlanSa.{PlanSa}
-use Rattle.unit_plan.specs.AssociationLine.{are_channels, channels_from}
+use Rattle.unit_plan.specs.AssociationLine.{are_channel_ids}
 use Rattle.unit_plan.specs.Field.{capped_at, choice_at, decoded}
 use Rattle.unit_plan.specs.KeyLine.{before_octets, key_octets, key_said}
 use Rattle.unit_plan.specs.LineForm.{association_of, bounded}
 use Rattle.unit_plan.specs.LinkLine.{aos_at, frame_at, frame_of, is_layout, link_said, mask_at, mask_of, mask_said, tc_at, tm_at}
 use Rattle.unit_plan.specs.PlanRules.{IsAssociation}
 use Rattle.unit_plan.specs.Reading.{◌>>=◌, end_of, first_of, ok_of}
-use Rattle.unit_plan.proofs.Ascending.{channels_ascend, channels_small}
+use Rattle.unit_plan.proofs.ChannelIds.{channel_ids_iff}
 
 -- a value behind another
 behind : {A B : Type 0} (o : Option A) (f : A → Option B) (y : B) → (o >>= f) ≡ Some y → (x : A) × (o ≡ Some x) × (f x ≡ Some y)
@@ -163,21 +163,6 @@ layout_within (Aos layout) h =
 
 -- ---- associations
 
-are_bounded : (channels : List ℕ) → are_channels channels ≡ true → AreChannels channels
-are_bounded channels h =
-    let parts = and_parts (nat_le 1 (length channels)) (nat_le (length channels) MOST_CHANNELS && channels_from 0 channels) h in
-    let others = and_parts (nat_le (length channels) MOST_CHANNELS) (channels_from 0 channels) parts.1 in
-    record {
-      one = leb-true 1 (length channels) parts.0;
-      most = leb-true (length channels) MOST_CHANNELS others.0;
-      ascending = channels_ascend 0 channels others.1;
-    }
-
-from_least : (channels : List ℕ) → are_channels channels ≡ true → channels_from 0 channels ≡ true
-from_least channels h =
-    let parts = and_parts (nat_le 1 (length channels)) (nat_le (length channels) MOST_CHANNELS && channels_from 0 channels) h in
-    (and_parts (nat_le (length channels) MOST_CHANNELS) (channels_from 0 channels) parts.1).1
-
 pub association_within : (line : ℕ) (said : _) (found : PlanSa) → association_of line said ≡ Some found → IsAssociation found
 unfolding association_of
 association_within line said found h =
@@ -185,12 +170,13 @@ association_within line said found h =
     let key = behind (bounded 1 65535 said.before.key) _ found spi.2 in
     let first = behind (bounded 0 (2 ^ 48) said.before.number) _ found key.2 in
     let window = behind (bounded 1 MOST_WINDOW said.before.window) _ found first.2 in
-    let channels = chosen (are_channels said.channels) _ found window.2 in
+    let channels = chosen (are_channel_ids said.channels) _ found window.2 in
+    let bounds = (channel_ids_iff said.channels).0 channels.0 in
     let number = bounded_within 0 (2 ^ 48) said.before.number first.0 first.1 in
     let width = bounded_within 1 MOST_WINDOW said.before.window window.0 window.1 in
     subst IsAssociation (same_Some _ found channels.1) (record {
       number = number.1;
       window = record { least = width.0; most = width.1 };
-      channels = are_bounded said.channels channels.0;
-      identifiers = channels_small 0 said.channels (from_least said.channels channels.0);
+      channels = bounds.0;
+      identifiers = bounds.1;
     })

@@ -3,7 +3,7 @@ use Rattle.std.proofs.Common.{◌≡◌, ℕ, ◌≤◌, ◌^◌, Bool, true, fa
 use Rattle.std.proofs.lemmas.Option.{none-some, same_Some}
 use Rattle.sdls_base.specs.declared.TheConstants.{MOST_WINDOW}
 use Rattle.book_record.specs.Record.{IsKey, IsSpi}
-use Rattle.unit_plan.specs.AssociationLine.{are_channels}
+use Rattle.unit_plan.specs.AssociationLine.{are_channel_ids}
 use Rattle.unit_plan.specs.LineForm.{association_of, bounded}
 use Rattle.unit_plan.specs.Reading.{◌>>=◌}
 use Rattle.unit_plan.specs.declared.plan.PlanSa.{PlanSa}
@@ -35,7 +35,7 @@ association_named line said found h =
     let key = behind (bounded 1 65535 said.before.key) _ found spi.2 in
     let first = behind (bounded 0 (2 ^ 48) said.before.number) _ found key.2 in
     let window = behind (bounded 1 MOST_WINDOW said.before.window) _ found first.2 in
-    let whole = chosen (are_channels said.channels) _ found window.2 in
+    let whole = chosen (are_channel_ids said.channels) _ found window.2 in
     let spi_in = bounded_within 1 65534 said.before.spi spi.0 spi.1 in
     let key_in = bounded_within 1 65535 said.before.key key.0 key.1 in
     subst NamesRows (same_Some _ found whole) (spi_within spi.0 spi_in.0 spi_in.1, key_within key.0 key_in.0 key_in.1)

@@ -1,7 +1,7 @@
 pub mod PartsFacts
 pub mod NumberFacts
 pub mod ChannelFacts
-pub mod Ascending
+pub mod ChannelIds
 mod BareReading
 mod WordCosts
 pub mod BareRoom

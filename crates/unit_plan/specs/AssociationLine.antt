@@ -52,5 +52,5 @@ channels_from least [] = true
 channels_from least (n ∷ ns) = nat_le least n && (nat_le n 63 && channels_from (n + 1) ns)
 
 -- one to eight of them
-abbrev pub are_channels : List ℕ → Bool
-are_channels ns = nat_le 1 (length ns) && (nat_le (length ns) MOST_CHANNELS && channels_from 0 ns)
+abbrev pub are_channel_ids : List ℕ → Bool
+are_channel_ids ns = nat_le 1 (length ns) && (nat_le (length ns) MOST_CHANNELS && channels_from 0 ns)

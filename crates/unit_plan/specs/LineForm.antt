@@ -3,7 +3,7 @@ use Rattle.std.specs.Prelude.{ℕ, ◌^◌, nat_le, ◌&&◌, List, codes, Optio
 use Rattle.sdls_base.specs.declared.TheConstants.{MOST_WINDOW}
 use Rattle.unit_plan.specs.declared.association_line.AssociationLine.{AssociationLine}
 use Rattle.unit_plan.specs.declared.plan.PlanSa.{PlanSa}
-use Rattle.unit_plan.specs.AssociationLine.{are_channels}
+use Rattle.unit_plan.specs.AssociationLine.{are_channel_ids}
 use Rattle.unit_plan.specs.Reading.{◌>>=◌, first_of, past, end_of}
 use Rattle.unit_plan.specs.Lines.{words_of}
 use Rattle.unit_plan.specs.Field.{decimal_at, decoded}
@@ -42,7 +42,7 @@ association_of line said = do
   key ← bounded 1 65535 said.before.key
   first ← bounded 0 (2 ^ 48) said.before.number
   window ← bounded 1 MOST_WINDOW said.before.window
-  if are_channels said.channels then Some (record {
+  if are_channel_ids said.channels then Some (record {
     line = line;
     sa = record {
       spi = spi;

@@ -1,16 +1,16 @@
 //! `sa` lines.
-ghost use Rattle.std.specs.Prelude.{◌≡◌, ◌≤◌, All, IfOk, IsTrue};
-ghost use Rattle.std.specs.List.Sorted.{IsStrictlyIncreasing};
+ghost use Rattle.std.specs.Prelude.{◌≡◌, ◌↔◌, ◌≤◌, All, IfOk, IsTrue, nat_le};
+ghost use Rattle.std.specs.List.{list_all};
 ghost use Rattle.std.specs.Option.{option_map};
 ghost use Rattle.sdls_base.specs.Bounds.{AreChannels};
-ghost use Rattle.unit_plan.specs.AssociationLine.{direction_of, suite_of, before_list, association_said, channels_from};
-ghost use Rattle.unit_plan.specs.AssociationLine.{are_channels};
+ghost use Rattle.unit_plan.specs.AssociationLine.{direction_of, suite_of, before_list, association_said};
+ghost use Rattle.unit_plan.specs.AssociationLine.{are_channel_ids};
 
 use crate::bounds::{MOST_CHANNEL, MOST_KEY, MOST_NUMBER, MOST_SPI};
 use crate::expected::{AssociationWord, Expected, KeyWord};
 use crate::fields::{channels, choice, decimal};
 use crate::reader::Reader;
-use sdls_base::{Direction, MOST_CHANNELS, MOST_WINDOW, Octets, Suite};
+use sdls_base::{Direction, MOST_WINDOW, Octets, Suite, are_channels};
 use std::alloc::{AllocError, Global};
 
 /// What an `sa` line says before its list.
@@ -103,26 +103,17 @@ pub(crate) fn association(
     }))
 }
 
-fn ascend(numbers: &[u8]) -> bool
-    ensures tested { result ≡ channels_from 0 numbers.now }
-    ensures ascending { IsTrue result → IsStrictlyIncreasing numbers.now }
-    ensures identifiers { IsTrue result → All (λ n. n ≤ 63) numbers.now }
+fn are_ids(numbers: &[u8]) -> bool
+    ensures { result ≡ list_all (λ n. nat_le n 63) numbers.now }
 {
-    let mut least = 0;
-    for number in numbers {
-        if *number < least || *number > MOST_CHANNEL {
-            return false;
-        }
-        least = *number + 1;
-    }
-    true
+    numbers.iter().all(|number| *number <= MOST_CHANNEL)
 }
 
-/// Whether these are one to eight channel numbers, ascending.
-pub fn are_channels(numbers: &[u8]) -> bool
-    ensures tested { result ≡ are_channels numbers.now }
-    ensures bounds { IsTrue result → AreChannels numbers.now }
-    ensures identifiers { IsTrue result → All (λ n. n ≤ 63) numbers.now }
+/// Whether these are one to eight channels of the unit, ascending. Unlike [`sdls_base::are_channels`] it looks at
+/// whether one is above 63.
+pub fn are_channel_ids(numbers: &[u8]) -> bool
+    ensures tested { result ≡ are_channel_ids numbers.now }
+    ensures bounds { IsTrue result ↔ (AreChannels numbers.now × All (λ n. n ≤ 63) numbers.now) }
 {
-    !numbers.is_empty() && numbers.len() <= MOST_CHANNELS && ascend(numbers)
+    are_channels(numbers) && are_ids(numbers)
 }

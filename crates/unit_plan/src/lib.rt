@@ -32,7 +32,7 @@ mod spelling;
 mod taking;
 
 pub use above::{Above, stand_in};
-pub use association_line::are_channels;
+pub use association_line::are_channel_ids;
 pub use bare::write_bare_plan;
 pub use bare_laws::{bare_plan_is_short, bare_plan_reads};
 pub use channel_line::Place;

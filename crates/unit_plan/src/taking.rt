@@ -10,7 +10,7 @@ ghost use Rattle.unit_plan.specs.Plan.{number_in_order, link_admitted, channel_a
 ghost use Rattle.unit_plan.specs.Plan.{block_taken, accept_taken, link_taken, channel_taken, key_taken, admitted};
 ghost use Rattle.unit_plan.specs.Plan.{association_added, association_taken, taken_as, taken, is_skipped, line_taken};
 
-use crate::association_line::{AssociationLine, are_channels, association};
+use crate::association_line::{AssociationLine, are_channel_ids, association};
 use crate::bounds::{LEAST_SLOTS, MOST_COUNT, MOST_KEY, MOST_LINK, MOST_NUMBER, MOST_SPI};
 use crate::channel_line::{Place, channel, is_place};
 use crate::expected::Expected;
@@ -65,7 +65,7 @@ fn association_of(line: u32, said: AssociationLine) -> Option<PlanSa>
     let key = key_id(before.key)?;
     let number = bounded(before.number, 0, MOST_NUMBER)?;
     let window = bounded(before.window, 1, MOST_WINDOW)?;
-    if !are_channels(said.channels.as_slice()) {
+    if !are_channel_ids(said.channels.as_slice()) {
         return None;
     }
     Some(PlanSa {

@@ -1,6 +1,5 @@
 pub mod Found
 pub mod Moves
-pub mod Channels
 pub mod Lines
 pub mod Held
 pub mod KeyRules

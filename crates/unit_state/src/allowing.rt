@@ -3,7 +3,7 @@
 ghost use Rattle.std.specs.Prelude.{◌≡◌, ◌↔◌, ◌<◌, ◌≤◌, true, [], Some, None, IfSome, All};
 ghost use Rattle.std.specs.List.{Any, list_any};
 ghost use Rattle.std.specs.Option.{option_map};
-ghost use Rattle.sdls_base.specs.Bounds.{AreChannels, IsKeyCount};
+ghost use Rattle.sdls_base.specs.Bounds.{IsKeyCount};
 ghost use Rattle.key_book.specs.KeyRow.{IsKeyRow};
 ghost use Rattle.sdls_base.specs.declared.states.KeyState.TheVariants.{Deactivated};
 ghost use Rattle.key_book.specs.Moves.{moves_refusal};
@@ -25,6 +25,7 @@ use sdls_base::{
     Change, Direction, KeyClass, KeyId, KeyItem, KeyItems, KeyList, KeyState, MOST_KEYS_AT_ONCE,
     NewSa, SaState, Spi,
 };
+use unit_plan::are_channel_ids;
 
 fn is_count(count: usize) -> bool
     ensures { (result ≡ true) ↔ IsKeyCount count }
@@ -65,12 +66,6 @@ fn has_active_master(rows: &[KeyRow]) -> bool
         }
     }
     false
-}
-
-fn are_channels(channels: &[u8]) -> bool
-    ensures { (result ≡ true) ↔ (AreChannels channels.now × All (λ channel. channel ≤ 63) channels.now) }
-{
-    unit_plan::are_channels(channels)
 }
 
 fn may_accept(row: &SaRow, key: KeyId, number: u64) -> bool
@@ -169,7 +164,7 @@ impl State {
         ensures { (result ≡ true) ↔ AllowsCreate self.now new.now }
     {
         is_window_field(new.window)
-            && are_channels(new.channels.as_slice())
+            && are_channel_ids(new.channels.as_slice())
             && self
                 .associations
                 .create_refusal(new, self.channels.as_slice())

@@ -1,10 +1,13 @@
-use Rattle.std.proofs.Common.{sym, ap, ◌∙◌}
-use Rattle.unit_plan.specs.AssociationLine.{are_channels}
-use Rattle.input_text.proofs.ChannelLists.{channels_pass}
+use Rattle.std.proofs.Common.{◌≡◌, ◌≤◌, List, ℕ, true, sym, subst, ◌∙◌}
+use Rattle.std.specs.List.{All}
+use Rattle.std.specs.Prelude.{IsTrue}
+use Rattle.std.proofs.lemmas.List.Elements.{All-from_recursion}
+use Rattle.sdls_base.specs.Bounds.{AreChannels}
+use Rattle.unit_plan.specs.AssociationLine.{are_channel_ids}
 use Rattle.input_text.proofs.lists.channels.Goals as goal
 
-pub returns-else-are_channels-clause-only : goal.returns-else-are_channels-clause-only
-returns-else-are_channels-clause-only c listed are small spelled =
-    let same = c.in_ok-numbers.ensures.only listed small are.one are.most spelled in
-    let passes = channels_pass listed are small in
-    absurd (cc (sym (c.are_channels.ensures.tested ∙ ap are_channels (c.as_slice.ensures ∙ same) ∙ passes) ∙ c.if-are_channels.false))
+pub returns-else-are_channel_ids-clause-only : goal.returns-else-are_channel_ids-clause-only
+returns-else-are_channel_ids-clause-only c listed are small spelled =
+    let same = c.as_slice.ensures ∙ c.in_ok-numbers.ensures.only listed small are.one are.most spelled in
+    let bounds = (subst AreChannels (sym same) are, subst (All (λ n. n ≤ 63)) (sym same) (All-from_recursion (λ n. n ≤ 63) listed small)) in
+    absurd (cc (sym (c.are_channel_ids.ensures.bounds.1 bounds) ∙ c.if-are_channel_ids.false))

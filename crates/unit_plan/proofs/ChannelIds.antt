@@ -1,10 +1,11 @@
--- Lists of channels: numbers that ascend up to 63.
-use Rattle.std.proofs.Common.{◌≡◌, ℕ, zero, suc, ◌+◌, ◌<◌, ◌≤◌, ◌↔◌, Bool, true, false, ◌&&◌, nat_le, List, [], ◌∷◌, length, get_or, refl, sym, subst, arith}
-use Rattle.std.specs.List.{All}
+-- Lists of channels: numbers that ascend up to 63. For the clauses of `are_channel_ids`.
+use Rattle.std.proofs.Common.{◌≡◌, ℕ, zero, suc, ◌+◌, ◌<◌, ◌≤◌, ◌↔◌, Bool, true, false, ◌&&◌, nat_le, List, [], ◌∷◌, length, get_or, refl, sym, subst, ◌∙◌, arith}
+use Rattle.std.specs.List.{All, list_all}
+use Rattle.std.specs.Prelude.{IsTrue}
 use Rattle.std.proofs.lemmas.Bool.{false≢true}
 use Rattle.std.proofs.lemmas.Bool.Decides.{nat_tests}
 use Rattle.sdls_base.specs.Bounds.{AreChannels}
-use Rattle.unit_plan.specs.AssociationLine.{channels_from, are_channels}
+use Rattle.unit_plan.specs.AssociationLine.{channels_from, are_channel_ids}
 
 both : (a b : Bool) → (a && b) ≡ true → (a ≡ true) × (b ≡ true)
 both true b e = (refl, e)
@@ -58,8 +59,8 @@ from_each least (n ∷ ns) first rising each =
 one_more : (n : ℕ) → n + 1 ≡ suc n
 one_more n = omega arith
 
-pub are_channels_iff : (ns : List ℕ) → (are_channels ns ≡ true) ↔ (AreChannels ns × All (λ channel. channel ≤ 63) ns)
-are_channels_iff ns = (
+pub channel_ids_iff : (ns : List ℕ) → (are_channel_ids ns ≡ true) ↔ (AreChannels ns × All (λ channel. channel ≤ 63) ns)
+channel_ids_iff ns = (
   λ e.
       let one = both _ _ e in
       let most = both _ _ one.1 in (
@@ -77,3 +78,32 @@ are_channels_iff ns = (
       (λ k low. subst (λ n. get_or ns k 0 < get_or ns n 0) (one_more k) (h.0.ascending k (omega arith)))
       h.1)),
 )
+
+-- ---- as the one test after the other
+
+small_of : (ns : List ℕ) → list_all (λ n. nat_le n 63) ns ≡ true → (k d : ℕ) → k < length ns → get_or ns k d ≤ 63
+small_of [] e k d low = absurd (omega arith)
+small_of (n ∷ ns) e zero d low = at_most n 63 (both _ _ e).0
+small_of (n ∷ ns) e (suc k) d low = let within : k < length ns = omega arith in small_of ns (both _ _ e).1 k d within
+
+small_test : (ns : List ℕ) → ((k d : ℕ) → k < length ns → get_or ns k d ≤ 63) → list_all (λ n. nat_le n 63) ns ≡ true
+small_test [] small = refl
+small_test (n ∷ ns) small =
+    and_both _ _ (at_most_test n 63 (small zero 0 (omega arith))) (small_test ns (λ k d low. small (suc k) d (omega arith)))
+
+same_test : (a b : Bool) → (a ≡ true → b ≡ true) → (b ≡ true → a ≡ true) → a ≡ b
+same_test true true f g = refl
+same_test true false f g = sym (f refl)
+same_test false true f g = g refl
+same_test false false f g = refl
+
+pub channel_ids_then : (ns : List ℕ) (all ids : Bool) → IsTrue all ↔ AreChannels ns → ids ≡ list_all (λ n. nat_le n 63) ns
+    → all ≡ true → ids ≡ are_channel_ids ns
+channel_ids_then ns all ids are same is = same_test ids (are_channel_ids ns)
+    (λ e. (channel_ids_iff ns).1 (are.0 is, small_of ns (sym same ∙ e)))
+    (λ e. same ∙ small_test ns ((channel_ids_iff ns).0 e).1)
+
+pub channel_ids_else : (ns : List ℕ) (all : Bool) → IsTrue all ↔ AreChannels ns → all ≡ false → all ≡ are_channel_ids ns
+channel_ids_else ns all are is = same_test all (are_channel_ids ns)
+    (λ e. absurd (false≢true (sym is ∙ e)))
+    (λ e. are.1 ((channel_ids_iff ns).0 e).0)
