@@ -7,7 +7,7 @@ ghost use Rattle.unit_image.specs.Image.{held, IsOfTwo, IsSettled, used_next};
 ghost use Rattle.unit_plan.specs.Plan.{plan_of};
 ghost use Rattle.unit_state.specs.State.{KeepsRules};
 ghost use Rattle.unit_image.specs.Shows.{Shows, ShowsNone};
-ghost use Rattle.unit_image.specs.OpeningImage.{HasOpenFault, IsHeldNext, IsOpenCause, KeepsOutside};
+ghost use Rattle.unit_image.specs.OpeningImage.{HasOpenFault, IsHeldNext, IsOpenCause, StaysOutside};
 ghost use Rattle.unit_image.specs.OpeningImage.{LeavesShown, Opening};
 ghost use Rattle.unit_image.specs.OpeningImage.{StandsUnlessFailed};
 ghost use Rattle.unit_book.specs.Book.{IsKept, begun};
@@ -47,7 +47,7 @@ fn start<O: Site>(alloc: Global, site: &mut O) -> Result<Started, OpenFault>
     ensures holds { IsTrue O.told → OnOk result
         (IsHeldNext (O.trace site.old).now.image (held (O.trace site.new).now.image)) }
     ensures outside { IsTrue O.told → IfOk result (λ begun.
-        KeepsOutside begun.found.journal.layout (O.trace site.old).now.image (O.trace site.new).now.image) }
+        StaysOutside begun.found.journal.layout (O.trace site.old).now.image (O.trace site.new).now.image) }
     ensures same_plan { IsTrue O.told → OnOk result ((held (O.trace site.new).now.image).plan
         ≡ (held (O.trace site.old).now.image).plan) }
     ensures plan { IsTrue O.told → IfOk result (λ begun.
@@ -93,7 +93,7 @@ impl<O: Site> Book<O> {
         ensures shows { IsTrue O.told → IfOk result (λ book. Shows (O.trace site).now.image book.start
             × Shows book.site.trace.now.image book.start) }
         // Outside the banks the image is as it was read, but for the octet that migrates it.
-        ensures outside { IsTrue O.told → IfOk result (λ book. KeepsOutside book.journal.layout
+        ensures outside { IsTrue O.told → IfOk result (λ book. StaysOutside book.journal.layout
             (O.trace site).now.image book.site.trace.now.image) }
         // The journal has as many records as the image that was read, or none if that one was of version 1.
         ensures used { IsTrue O.told → IfOk result (λ book. book.journal.used ≡ used_next (O.trace site).now.image) }

@@ -23,7 +23,7 @@ use Rattle.disk_journal.specs.declared.layout.HeaderForm.{HeaderForm}
 use Rattle.disk_journal.specs.declared.layout.HeaderForm.TheVariants.{Old, Migrated, New}
 use Rattle.disk_journal.specs.declared.layout.Layout.{Layout}
 use Rattle.disk_journal.specs.declared.layout.TheConstants.{BANKS_AT, MIGRATED_AT}
-use Rattle.unit_image.specs.OpeningImage.{IsBroughtUp, KeepsOutside}
+use Rattle.unit_image.specs.OpeningImage.{IsBroughtUp, StaysOutside}
 use Rattle.unit_image.specs.Storing.{HasPlanAlone, KeepsPlaces, LeavesRest, LeavesRestImage}
 
 -- ---- an opening
@@ -35,7 +35,7 @@ ends_within image journal is = subst (λ (layout : Layout). image_end layout ≤
 
 -- an image of version 2 was only brought to rest
 pub outside_same : (journal : JournalView) (old now : List ℕ) → IsJournalOf now journal → KeepsPlan journal.layout old now
-    → KeepsOutside journal.layout old now
+    → StaysOutside journal.layout old now
 outside_same journal old now is keeps =
     let long : image_end journal.layout ≤ length now = ends_within now journal is in
     let same : length now ≡ length old = keeps.same_length in
@@ -63,7 +63,7 @@ ends_before layout is old =
 pub outside_migrated : (journal : JournalView) (layout : Layout) (old mid new : List ℕ) → IsJournalOf mid journal
     → journal.layout.form ≡ Old → layout ≡ layout_of Migrated journal.layout.slots
     → ((i : ℕ) → (i < MIGRATED_AT) ⊎ ((MIGRATED_AT < i) × (i < BANKS_AT)) → get_or new i 0 ≡ get_or mid i 0)
-    → KeepsPast (image_end layout) mid new → KeepsPlan journal.layout old mid → KeepsOutside layout old new
+    → KeepsPast (image_end layout) mid new → KeepsPlan journal.layout old mid → StaysOutside layout old new
 outside_migrated journal layout old mid new is form layout_is before past keeps =
     let is_layout : journal.layout ≡ layout_of journal.layout.form journal.layout.slots =
     subst (λ (some : Layout). some ≡ layout_of some.form some.slots) (sym is.layout) (layout_as mid) in
@@ -84,7 +84,7 @@ pub outside_after : {Value Error : Type 0} (result : Result Value Error) (journa
     → IsJournalOf mid journal → journal.layout.form ≡ Old → next.layout ≡ layout_of Migrated journal.layout.slots
     → OnOk result ((i : ℕ) → (i < MIGRATED_AT) ⊎ ((MIGRATED_AT < i) × (i < BANKS_AT)) → get_or new i 0 ≡ get_or mid i 0)
     → OnOk result (KeepsPast (image_end after.layout) mid new) → OnOk result (after ≡ next)
-    → OnOk result ((old : List ℕ) → KeepsPlan journal.layout old mid → KeepsOutside after.layout old new)
+    → OnOk result ((old : List ℕ) → KeepsPlan journal.layout old mid → StaysOutside after.layout old new)
 outside_after (Ok value) journal next after mid new is form layout before past counted = λ old keeps.
     outside_migrated journal after.layout old mid new is form (ap (λ (one : JournalView). one.layout) counted ∙ layout) before past
     keeps

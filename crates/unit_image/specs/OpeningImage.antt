@@ -117,7 +117,7 @@ pub record BringsUp {T E : Type 0} (state : State) (result : Result T E) (journa
 -- What stands outside the banks once an image is opened, where this layout has them: the octets before all banks are as
 -- they were, but for the one that migrates an image, and so are those past the banks. The image ends where it ended, or
 -- with banks that were written behind its own.
-pub record KeepsOutside (layout : Layout) (old new : List ℕ) : Type 0 where
+pub record StaysOutside (layout : Layout) (old new : List ℕ) : Type 0 where
   pub before : (i : ℕ) → (i < MIGRATED_AT) ⊎ ((MIGRATED_AT < i) × (i < BANKS_AT))
       → slice_index new i ≡ slice_index old i
   pub past : KeepsPast (image_end layout) old new

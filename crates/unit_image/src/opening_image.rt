@@ -12,7 +12,7 @@ ghost use Rattle.disk_journal.specs.Image.{held};
 ghost use Rattle.disk_journal.specs.Journal.{HasSiteFault, IsOpen, IsSettled};
 ghost use Rattle.unit_image.specs.Shows.{Shows, ShowsNone};
 ghost use Rattle.unit_image.specs.Image.{IsOfTwo};
-ghost use Rattle.unit_image.specs.OpeningImage.{BringsUp, IsHeldNext, KeepsOutside, LeavesShown, Opening};
+ghost use Rattle.unit_image.specs.OpeningImage.{BringsUp, IsHeldNext, StaysOutside, LeavesShown, Opening};
 
 use crate::fault::OpenFault;
 use crate::laws::refused_with_one;
@@ -147,7 +147,7 @@ fn bring_up<O: Site>(
     // told of the image as it was before it was brought to rest
     ensures outside { IsTrue O.told → OnOk result ((before : List ℕ)
         → KeepsPlan journal.old.layout before (O.trace site.old).now.image
-        → KeepsOutside journal.new.layout before (O.trace site.new).now.image) }
+        → StaysOutside journal.new.layout before (O.trace site.new).now.image) }
     ensures version { OnOk result (IsOfTwo journal.new) }
     ensures puts { O.put_faults site.new ≡ O.put_faults site.old }
     ensures fault { HasSiteFault (O.faults site.old) (O.faults site.new) result }
@@ -185,7 +185,7 @@ pub fn open<O: Site>(alloc: Global, site: &mut O, room: &mut [u8]) -> Result<Ope
         (IsHeldNext (O.trace site.old).now.image (held (O.trace site.new).now.image)) }
     // Outside the banks the image is as it was, but for the octet that migrates it. So it holds the same plan.
     ensures outside { IsTrue O.told → IfOk result (λ opened.
-        KeepsOutside opened.journal.layout (O.trace site.old).now.image (O.trace site.new).now.image) }
+        StaysOutside opened.journal.layout (O.trace site.old).now.image (O.trace site.new).now.image) }
     ensures same_plan { IsTrue O.told → OnOk result ((held (O.trace site.new).now.image).plan
         ≡ (held (O.trace site.old).now.image).plan) }
     // The plan is the one that the image's text says.
