@@ -164,6 +164,6 @@ pub rest_image_left : RestIsWhole → (opened : List ℕ) (now : Trace) (journal
 rest_image_left whole opened now journal state settled keeps rest form plan slots alone image leaves =
     let same : image ≡ now.now.image = synced_leaves now.now image settled.synced leaves in
     let here : HasPlanAlone form plan slots image = subst (HasPlanAlone form plan slots) (sym same)
-    (plan_alone form plan slots journal opened now.now.image settled.of_image.of_image keeps alone) in
+    (plan_alone form plan slots journal opened now.now.image settled.of_image.closed.of_image keeps alone) in
     whole form image plan (content_of Two state) slots journal.generation journal.bank here.layout here.ends here.front
     (rest image leaves)

@@ -19,11 +19,11 @@ returns-in-One-clause-brings g c = λ told.
 
 pub returns-in-Two-clause-outside : goal.returns-in-Two-clause-outside
 returns-in-Two-clause-outside g c = λ told before keeps.
-    outside_same c.args.journal.now before (g.O.Site.trace c.args.site.now).now.image (c.requires.settled told).of_image.of_image keeps
+    outside_same c.args.journal.now before (g.O.Site.trace c.args.site.now).now.image (c.requires.settled told).of_image.closed.of_image keeps
 
 pub returns-in-One-clause-outside : goal.returns-in-One-clause-outside
 returns-in-One-clause-outside g c = λ told.
     outside_after c.migrate.result c.args.journal.now _ c.migrate.new.self (g.O.Site.trace c.args.site.now).now.image
-    (g.O.Site.trace c.migrate.new.site).now.image (c.requires.settled told).of_image.of_image
-    (c.version.ensures.one c.in-One.is) refl (c.migrate.ensures.before told) (c.migrate.ensures.past told)
+    (g.O.Site.trace c.migrate.new.site).now.image (c.requires.settled told).of_image.closed.of_image
+    (c.content_version.ensures.one c.in-One.is) refl (c.migrate.ensures.before told) (c.migrate.ensures.past told)
     c.migrate.ensures.counted
