@@ -9,5 +9,7 @@ use Rattle.input_text.proofs.lists.channels.Goals as goal
 pub returns-else-are_channel_ids-clause-only : goal.returns-else-are_channel_ids-clause-only
 returns-else-are_channel_ids-clause-only c listed are small spelled =
     let same = c.as_slice.ensures ∙ c.in_ok-numbers.ensures.only listed small are.one are.most spelled in
-    let bounds = (subst AreChannels (sym same) are, subst (All (λ n. n ≤ 63)) (sym same) (All-from_recursion (λ n. n ≤ 63) listed small)) in
-    absurd (cc (sym (c.are_channel_ids.ensures.bounds.1 bounds) ∙ c.if-are_channel_ids.false))
+    absurd (cc (sym (c.are_channel_ids.ensures.bounds.1 (
+      subst AreChannels (sym same) are,
+      subst (All (λ n. n ≤ 63)) (sym same) (All-from_recursion (λ n. n ≤ 63) listed small),
+    )) ∙ c.if-are_channel_ids.false))
