@@ -24,6 +24,7 @@ use Rattle.unit_image.specs.Shows.{Shows, ShowsNone}
 use Rattle.run_promise.specs.Log.{entries_of}
 use Rattle.run_promise.specs.Call.{SiteSeen}
 use Rattle.unit_book.specs.Book.{BookView, IsKept, Serves, with_put}
+use Rattle.unit_book.proofs.Serving.{serves_shows}
 use Rattle.sdls_plain.specs.declared.stat.StatEnd.{StatEnd}
 use Rattle.sdls_plain.specs.declared.stat.StatEnd.TheVariants.{Told, SiteFault, NoMemory, NoState}
 use Rattle.sdls_outside.specs.Output.{OnlySinks, SinksFront}
@@ -35,7 +36,7 @@ use Rattle.sdls_plain.proofs.Sinking.{sinks_leave}
 pub serves_alone : (start : State) (piece : List ℕ) (standing : ℕ) (before image sunk : List ℕ)
     → Serves start (logged.Piece piece ∷ []) standing before image sunk → IsAtRest image → ShowsAlone start image
 serves_alone start piece standing before image sunk serves rests =
-    let shown = serves.shows in
+    let shown = serves_shows start (logged.Piece piece ∷ []) standing before image sunk serves in
     let after = shown.2 in
     let none : shown.0 ≡ 0 = (let low = after.within in omega arith) in
     let first : after_first start [] shown.0 ≡ start = ap (after_first start []) none in
