@@ -1,5 +1,7 @@
 -- Look-ups in tables of sixteen, and what the tables of the S-box give for each octet.
-use Rattle.std.proofs.Common.{◌≡◌, ℕ, zero, suc, ◌+◌, ◌*◌, ◌/◌, ◌%◌, ◌^◌, ◌<◌, List, [], ◌∷◌, Bool, true, false, cond, leb, T, length, map, replicate, get_or, slice_index, bit_xor, bit_and, w8, Fits, refl, sym, ap, ◌∙◌, subst, arith}
+use Rattle.std.proofs.Common.{◌≡◌, ℕ, zero, suc, ◌+◌, ◌*◌, ◌/◌, ◌%◌, ◌^◌, ◌<◌, List, [], ◌∷◌, Bool, true, false, cond}
+use Rattle.std.proofs.Common.{leb, T, length, map, replicate, get_or, slice_index, bit_xor, bit_and, w8, Fits, refl}
+use Rattle.std.proofs.Common.{sym, ap, ◌∙◌, subst, arith}
 use Rattle.std.specs.List.{range_with_len}
 use Rattle.std.specs.Int.{bit_at}
 use Rattle.std.specs.Simd.Lanes.{zip2, Each1}
@@ -7,10 +9,14 @@ use Rattle.std.proofs.lemmas.List.{length-map, ext_get_or}
 use Rattle.std.proofs.lemmas.List.FromFn.{get_or-map-range_with_len}
 use Rattle.std.proofs.lemmas.Nat.{and_mask}
 use Rattle.std.proofs.lemmas.Nat.Bits.{bit_at-lt, bit_at_xor}
-use Rattle.std.proofs.lemmas.Simd.{swz_l, SwzOk, SwzOk-from_Each1, length-swz_l, get_or-swz_l, zip2_splat, zip2_of_maps, map-map}
+use Rattle.std.proofs.lemmas.Simd.{swz_l, SwzOk, SwzOk-from_Each1, length-swz_l, get_or-swz_l, zip2_splat, zip2_of_maps}
+use Rattle.std.proofs.lemmas.Simd.{map-map}
 use Rattle.aes_block.specs.Aes.{sub_byte, times_low, inverse, from_bits}
-use Rattle.aes_block.specs.Basis.{basis, sum_of, element, is_place, look, first_place, second_place, sub_linear, sub_linear_doubled}
-use Rattle.aes_block.specs.declared.substitution.TheConstants.{BY_LOWER, BY_UPPER, ONE_OVER, A_OVER, OCTET_FIRST, OCTET_SECOND, ONCE_FIRST, ONCE_SECOND, TWICE_FIRST, TWICE_SECOND}
+use Rattle.aes_block.specs.Basis.{basis, sum_of, element, is_place, look, first_place, second_place, sub_linear}
+use Rattle.aes_block.specs.Basis.{sub_linear_doubled}
+use Rattle.aes_block.specs.declared.substitution.TheConstants.{BY_LOWER, BY_UPPER, ONE_OVER, A_OVER, OCTET_FIRST}
+use Rattle.aes_block.specs.declared.substitution.TheConstants.{OCTET_SECOND, ONCE_FIRST, ONCE_SECOND, TWICE_FIRST}
+use Rattle.aes_block.specs.declared.substitution.TheConstants.{TWICE_SECOND}
 use Rattle.aes_block.proofs.OctetFacts.{same_at}
 use Rattle.aes_block.proofs.XorFacts.{sum_scale, xor_four}
 

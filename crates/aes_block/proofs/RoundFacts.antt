@@ -1,12 +1,14 @@
 -- A round on the basis, by the octets of its state.
-use Rattle.std.proofs.Common.{◌≡◌, ℕ, zero, suc, ◌+◌, ◌-◌, ◌*◌, ◌%◌, ◌<◌, List, [], ◌∷◌, length, map, replicate, get_or, bit_xor, refl, sym, ap, ◌∙◌, arith}
+use Rattle.std.proofs.Common.{◌≡◌, ℕ, zero, suc, ◌+◌, ◌-◌, ◌*◌, ◌%◌, ◌<◌, List, [], ◌∷◌, length, map, replicate, get_or}
+use Rattle.std.proofs.Common.{bit_xor, refl, sym, ap, ◌∙◌, arith}
 use Rattle.std.specs.Int.Bits.{xor_zero_l, xor_zero_r, xor_assoc, xor_self, xor_comm}
 use Rattle.std.specs.Simd.Lanes.{zip2}
 use Rattle.std.proofs.Math.Nat.{zero-mul, one-mul}
 use Rattle.std.proofs.lemmas.List.{length-map}
 use Rattle.std.proofs.lemmas.List.FromFn.{fill_by_all}
 use Rattle.std.proofs.lemmas.Simd.{map-map, zip2_splat}
-use Rattle.aes_block.specs.Aes.{add_round_key, after, at, cipher, doubled, mix_columns, mixed, round_key, shift_rows, state, sub_byte, sub_bytes, times, times_low}
+use Rattle.aes_block.specs.Aes.{add_round_key, after, at, cipher, doubled, mix_columns, mixed, round_key, shift_rows}
+use Rattle.aes_block.specs.Aes.{state, sub_byte, sub_bytes, times, times_low}
 use Rattle.aes_block.specs.Basis.{element, sub_linear, sub_linear_doubled, sum_of, with_constant}
 use Rattle.aes_block.specs.Vectors.{row_below}
 use Rattle.aes_block.proofs.BasisFacts.{element_sum, map_same}

@@ -1,7 +1,8 @@
 -- GF(2^8) over GF(16) (*profile*): an octet is k + w i, for k and i in GF(16). The basis of GF(16) is 1, g, g^2 and
 -- g^3, with g = 0x0d; w is 0x34, and w^2 + a w + a = 0 for a = 0x0c. The lower four bits of a number stand for k, and
 -- the upper four for i.
-use Rattle.std.specs.Prelude.{ℕ, zero, suc, ◌*◌, ◌/◌, ◌%◌, ◌||◌, Bool, List, [], ◌∷◌, map, slice_index, bit_xor, nat_lt, nat_le}
+use Rattle.std.specs.Prelude.{ℕ, zero, suc, ◌*◌, ◌/◌, ◌%◌, ◌||◌, Bool, List, [], ◌∷◌, map, slice_index, bit_xor, nat_lt}
+use Rattle.std.specs.Prelude.{nat_le}
 use Rattle.std.specs.Prelude.{if◌then◌else◌}
 use Rattle.std.specs.Int.{bit_at}
 use Rattle.aes_block.specs.Aes.{doubled, sub_byte}

@@ -1,5 +1,7 @@
 -- The strings of a line in JSON need no escape, for the law of that.
-use Rattle.std.proofs.Common.{◌≡◌, ℕ, zero, suc, ◌<◌, ◌/◌, ◌%◌, ◌==◌, ◌∷◌, [], ◌++◌, List, Option, Some, None, Bool, true, false, IsTrue, if◌then◌else◌, slice_index, drop, length, refl, sym, ap, ◌∙◌, arith, All, inl, inr}
+use Rattle.std.proofs.Common.{◌≡◌, ℕ, zero, suc, ◌<◌, ◌/◌, ◌%◌, ◌==◌, ◌∷◌, [], ◌++◌, List, Option, Some, None, Bool}
+use Rattle.std.proofs.Common.{true, false, IsTrue, if◌then◌else◌, slice_index, drop, length, refl, sym, ap, ◌∙◌, arith}
+use Rattle.std.proofs.Common.{All, inl, inr}
 use Rattle.std.proofs.lemmas.Bool.{cases_lt}
 use Rattle.std.specs.Prelude.{◌&&◌, IsSomeAnd, MatchOption, codes}
 use Rattle.std.proofs.lemmas.List.Elements.{All-head, All-tail}
@@ -18,7 +20,10 @@ use Rattle.ep_codec.specs.declared.reply_pdu.ReplyPdu.TheVariants as replies
 use Rattle.replay_window.specs.WindowField.{back_of}
 use Rattle.record_io.specs.declared.answers.Answer.{Answer}
 use Rattle.record_io.specs.declared.codes.AnswerCode.{AnswerCode}
-use Rattle.record_io.specs.declared.codes.AnswerCode.TheVariants.{Protected, Accepted, Clear, Done, Refused, Monitored, MonitorFault, Layout, Channel, Spi, Direction, State, Coverage, Mac, Number, Exhausted, SiteFault, Stopped, NoMemory, End}
+use Rattle.record_io.specs.declared.codes.AnswerCode.TheVariants.{Protected, Accepted, Clear, Done, Refused, Monitored}
+use Rattle.record_io.specs.declared.codes.AnswerCode.TheVariants.{MonitorFault, Layout, Channel, Spi, Direction, State}
+use Rattle.record_io.specs.declared.codes.AnswerCode.TheVariants.{Coverage, Mac, Number, Exhausted, SiteFault, Stopped}
+use Rattle.record_io.specs.declared.codes.AnswerCode.TheVariants.{NoMemory, End}
 use Rattle.answer_text.specs.Code.{code_word, word_of, layout_details, state_details, refusal_details, end_numbers}
 use Rattle.record_io.specs.Codes.{code_at}
 use Rattle.answer_text.specs.Part.{Part, word_of_code}
@@ -31,7 +36,8 @@ use Rattle.sdls_base.specs.Places.{octet_at}
 use Rattle.answer_text.specs.Monitor.{monitor_reply}
 use Rattle.answer_text.specs.Line.{HasValues, done_parts, drawn, monitored_parts, numbered, window_parts}
 use Rattle.answer_text.proofs.ValueParts.{values_more}
-use Rattle.answer_text.specs.Plain.{are_plain_events, are_plain_parts, are_plain_rows, is_plain_octet, is_plain_part, is_plain_text}
+use Rattle.answer_text.specs.Plain.{are_plain_events, are_plain_parts, are_plain_rows, is_plain_octet, is_plain_part}
+use Rattle.answer_text.specs.Plain.{is_plain_text}
 
 both : (a b : Bool) → a ≡ true → b ≡ true → (a && b) ≡ true
 both a b left right = rw (left, right) refl
@@ -79,7 +85,8 @@ plain_suite Gcm = refl
 
 plain_rows : (keys : List (ℕ × KeyState)) → are_plain_rows keys ≡ true
 plain_rows [] = refl
-plain_rows (row ∷ keys) = both (is_plain_text (key_state_word row.1)) (are_plain_rows keys) (plain_key_state row.1) (plain_rows keys)
+plain_rows (row ∷ keys) = both (is_plain_text (key_state_word row.1)) (are_plain_rows keys) (plain_key_state row.1)
+    (plain_rows keys)
 
 and_left : (a b : Bool) → (a && b) ≡ true → a ≡ true
 and_left true b is = refl
@@ -90,7 +97,8 @@ and_right true b is = is
 and_right false true is = refl
 and_right false false is = is
 
-plain_append : (xs ys : List Part) → are_plain_parts xs ≡ true → are_plain_parts ys ≡ true → are_plain_parts (xs ++ ys) ≡ true
+plain_append : (xs ys : List Part) → are_plain_parts xs ≡ true → are_plain_parts ys ≡ true
+    → are_plain_parts (xs ++ ys) ≡ true
 plain_append [] ys left right = right
 plain_append (x ∷ xs) ys left right =
     both (is_plain_part x) (are_plain_parts (xs ++ ys)) (and_left (is_plain_part x) (are_plain_parts xs) left)
@@ -141,7 +149,12 @@ plain_reply_values (replies.Inventory total keys) = both (are_plain_rows keys) t
 plain_reply_values (replies.Compose master vector sealed tag) = refl
 plain_reply_values (replies.ReadNumber spi count) = refl
 plain_reply_values (replies.Status spi state direction suite key window) =
-    rw (plain_direction direction, plain_suite suite, plain_sa_state state, plain_back (back_of window == 0) (back_of window)) refl
+    rw (
+      plain_direction direction,
+      plain_suite suite,
+      plain_sa_state state,
+      plain_back (back_of window == 0) (back_of window),
+    ) refl
 
 plain_drawn_if : (bare : Bool) (key count : ℕ) → are_plain_parts (if bare then [] else Part.drawn key count ∷ []) ≡ true
 plain_drawn_if true key count = refl
@@ -151,7 +164,8 @@ plain_done : (answer : Answer) (reply : ReplyPdu) → are_plain_parts (done_part
 plain_done answer reply =
     let behind = drawn answer ++ reply_values reply in
     let is_behind : are_plain_parts behind ≡ true =
-    plain_append (drawn answer) (reply_values reply) (plain_drawn_if (answer.key == 0) answer.key answer.number) (plain_reply_values reply) in
+    plain_append (drawn answer) (reply_values reply) (plain_drawn_if (answer.key == 0) answer.key answer.number)
+    (plain_reply_values reply) in
     plain_append (reply_name reply) (named (codes "entry") answer.position ∷ behind) (plain_reply_name reply) is_behind
 
 plain_event_word : (code : Option AnswerCode) → is_plain_text (word_of_code code) ≡ true
@@ -185,7 +199,8 @@ are_plain_words [] = true
 are_plain_words (row ∷ table) = is_plain_text row.1 && are_plain_words table
 
 some_step : (here : Bool) (own : List ℕ) (rest : Option (List ℕ)) (P Q : List ℕ → Type 0) → (P own → Q own)
-    → (IsSomeAnd rest P → IsSomeAnd rest Q) → IsSomeAnd (if here then Some own else rest) P → IsSomeAnd (if here then Some own else rest) Q
+    → (IsSomeAnd rest P → IsSomeAnd rest Q) → IsSomeAnd (if here then Some own else rest) P
+    → IsSomeAnd (if here then Some own else rest) Q
 some_step true own rest P Q more later has = more has
 some_step false own rest P Q more later has = later has
 
@@ -194,24 +209,29 @@ some_plain : (table : List (ℕ × List ℕ)) (octet : ℕ) (P Q : List ℕ → 
     → IsSomeAnd (word_of table octet) P → IsSomeAnd (word_of table octet) Q
 some_plain [] octet P Q plain more has = has
 some_plain (row ∷ table) octet P Q plain more has =
-    some_step (row.0 == octet) row.1 (word_of table octet) P Q (more row.1 (and_left (is_plain_text row.1) (are_plain_words table) plain))
+    some_step (row.0 == octet) row.1 (word_of table octet) P Q
+    (more row.1 (and_left (is_plain_text row.1) (are_plain_words table) plain))
     (some_plain table octet P Q (and_right (is_plain_text row.1) (are_plain_words table) plain) more) has
 
-match_step : (here : Bool) (own : List ℕ) (rest : Option (List ℕ)) (A B : Type 0) (P Q : List ℕ → Type 0) → (P own → Q own)
+match_step : (here : Bool) (own : List ℕ) (rest : Option (List ℕ)) (A B : Type 0) (P Q : List ℕ → Type 0)
+    → (P own → Q own)
     → (MatchOption rest A P → MatchOption rest B Q) → MatchOption (if here then Some own else rest) A P
     → MatchOption (if here then Some own else rest) B Q
 match_step true own rest A B P Q more later has = more has
 match_step false own rest A B P Q more later has = later has
 
-match_plain : (table : List (ℕ × List ℕ)) (octet : ℕ) (A B : Type 0) (P Q : List ℕ → Type 0) → are_plain_words table ≡ true → (A → B)
+match_plain : (table : List (ℕ × List ℕ)) (octet : ℕ) (A B : Type 0) (P Q : List ℕ → Type 0)
+    → are_plain_words table ≡ true → (A → B)
     → ((text : List ℕ) → is_plain_text text ≡ true → P text → Q text)
     → MatchOption (word_of table octet) A P → MatchOption (word_of table octet) B Q
 match_plain [] octet A B P Q plain none more has = none has
 match_plain (row ∷ table) octet A B P Q plain none more has =
-    match_step (row.0 == octet) row.1 (word_of table octet) A B P Q (more row.1 (and_left (is_plain_text row.1) (are_plain_words table) plain))
+    match_step (row.0 == octet) row.1 (word_of table octet) A B P Q
+    (more row.1 (and_left (is_plain_text row.1) (are_plain_words table) plain))
     (match_plain table octet A B P Q (and_right (is_plain_text row.1) (are_plain_words table) plain) none more) has
 
-every_plain : {X : Type 0} (o : Option X) (P Q : X → Type 0) → ((x : X) → Q x) → IsSomeAnd o P → IsSomeAnd o (λ x. P x × Q x)
+every_plain : {X : Type 0} (o : Option X) (P Q : X → Type 0) → ((x : X) → Q x) → IsSomeAnd o P
+    → IsSomeAnd o (λ x. P x × Q x)
 every_plain None P Q all has = has
 every_plain (Some x) P Q all has = (has, all x)
 
@@ -223,10 +243,12 @@ with_plain Accepted answer P has = (has.0, (has.1, refl))
 with_plain Clear answer P has = (has.0, (has.1, refl))
 with_plain Done answer P has = (has.0, has.1, (has.2.0, has.2.1, (has.2.2, plain_done answer has.2.0)))
 with_plain Refused answer P has =
-    let parts : List ℕ → List Part = λ refusal. word (codes "refusal") refusal ∷ number (codes "number") answer.number ∷ named (codes "entry") answer.position ∷ [] in (
+    let parts : List ℕ → List Part = λ refusal. word (codes "refusal") refusal ∷ number (codes "number") answer.number
+    ∷ named (codes "entry") answer.position ∷ [] in (
       has.0,
       some_plain refusal_details answer.detail (λ refusal. P (parts refusal))
-          (λ refusal. P (parts refusal) × (are_plain_parts (parts refusal) ≡ true)) refl (λ refusal plain is. (is, rw plain refl)) has.1,
+          (λ refusal. P (parts refusal) × (are_plain_parts (parts refusal) ≡ true)) refl
+          (λ refusal plain is. (is, rw plain refl)) has.1,
     )
 with_plain Monitored answer P has = (
   has.0,
@@ -235,25 +257,33 @@ with_plain Monitored answer P has = (
 )
 with_plain MonitorFault answer P has = (has.0, (has.1, refl))
 with_plain Layout answer P has =
-    let parts : List ℕ → List Part = λ fault. word (codes "fault") fault ∷ named (codes "position") answer.position ∷ [] in (
+    let parts : List ℕ → List Part = λ fault. word (codes "fault") fault ∷ named (codes "position") answer.position
+    ∷ [] in (
       has.0,
       has.1,
       some_plain layout_details answer.detail (λ fault. P (parts fault))
-          (λ fault. P (parts fault) × (are_plain_parts (parts fault) ≡ true)) refl (λ fault plain is. (is, rw plain refl)) has.2,
+          (λ fault. P (parts fault) × (are_plain_parts (parts fault) ≡ true)) refl
+          (λ fault plain is. (is, rw plain refl)) has.2,
     )
 with_plain Channel answer P has = (has.0, (has.1, refl))
 with_plain Spi answer P has = (has.0, (has.1, refl))
 with_plain Direction answer P has = (has.0, (has.1, refl))
 with_plain State answer P has =
-    let parts : List ℕ → List Part = λ state. word (codes "state") state ∷ named (codes "position") answer.position ∷ [] in (
+    let parts : List ℕ → List Part = λ state. word (codes "state") state ∷ named (codes "position") answer.position
+    ∷ [] in (
       has.0,
       has.1,
       some_plain state_details answer.detail (λ state. P (parts state))
-          (λ state. P (parts state) × (are_plain_parts (parts state) ≡ true)) refl (λ state plain is. (is, rw plain refl)) has.2,
+          (λ state. P (parts state) × (are_plain_parts (parts state) ≡ true)) refl
+          (λ state plain is. (is, rw plain refl)) has.2,
     )
 with_plain Coverage answer P has = (has.0, (has.1, refl))
 with_plain Mac answer P has = (has.0, (has.1, refl))
-with_plain Number answer P has = (has.0, has.1, (has.2, plain_append (numbered answer (codes "entry")) (window_parts answer.body) refl (plain_window answer.body)))
+with_plain Number answer P has = (
+  has.0,
+  has.1,
+  (has.2, plain_append (numbered answer (codes "entry")) (window_parts answer.body) refl (plain_window answer.body)),
+)
 with_plain Exhausted answer P has = (has.0, has.1, (has.2, refl))
 with_plain SiteFault answer P has = (has.0, (has.1, refl))
 with_plain Stopped answer P has = (has.0, (has.1, refl))
@@ -265,7 +295,8 @@ with_plain End answer P has =
       has.0,
       has.1,
       match_plain end_numbers answer.detail A B (λ name. P (known ++ named name answer.number ∷ []))
-          (λ name. P (known ++ named name answer.number ∷ []) × (are_plain_parts (known ++ named name answer.number ∷ []) ≡ true)) refl
+          (λ name. P (known ++ named name answer.number ∷ [])
+          × (are_plain_parts (known ++ named name answer.number ∷ []) ≡ true)) refl
           (λ is. (is.0, (is.1, refl))) (λ name plain is. (is, rw plain refl)) has.2,
     )
 
@@ -301,11 +332,13 @@ fact_of Stopped answer C has = has.1
 fact_of NoMemory answer C has = has.2
 fact_of End answer C has = match_fact (word_of end_numbers answer.detail) (answer.number ≡ 0) C has.2
 
-pub plain_values : (code : AnswerCode) (answer : Answer) (values : List Part) → HasValues code answer (λ found. found ≡ values)
+pub plain_values : (code : AnswerCode) (answer : Answer) (values : List Part)
+    → HasValues code answer (λ found. found ≡ values)
     → IsTrue (are_plain_parts values)
 plain_values code answer values has =
     fact_of code answer (are_plain_parts values ≡ true)
-    (values_more code answer (λ found. (found ≡ values) × IsTrue (are_plain_parts found)) (λ _. are_plain_parts values ≡ true)
+    (values_more code answer (λ found. (found ≡ values) × IsTrue (are_plain_parts found))
+    (λ _. are_plain_parts values ≡ true)
     (λ found is. ap are_plain_parts (sym is.0) ∙ is.1) (with_plain code answer (λ found. found ≡ values) has))
 
 -- ---- the digits of octets
@@ -336,6 +369,8 @@ plain_digits [] are = refl
 plain_digits (octet ∷ body) are =
     let below : octet < 256 = All-head (λ octet. octet < 256) octet body are in
     both (is_plain_octet (slice_index lower_digits (octet / 16)))
-    (is_plain_octet (slice_index lower_digits (octet % 16)) && is_plain_text (encode_lower body)) (plain_lower (octet / 16) (omega arith))
-    (both (is_plain_octet (slice_index lower_digits (octet % 16))) (is_plain_text (encode_lower body)) (plain_lower (octet % 16) (omega arith))
+    (is_plain_octet (slice_index lower_digits (octet % 16)) && is_plain_text (encode_lower body))
+    (plain_lower (octet / 16) (omega arith))
+    (both (is_plain_octet (slice_index lower_digits (octet % 16))) (is_plain_text (encode_lower body))
+    (plain_lower (octet % 16) (omega arith))
     (plain_digits body (All-tail (λ octet. octet < 256) octet body are)))

@@ -3,7 +3,10 @@ use Rattle.std.proofs.Common.{◌≡◌, ◌∷◌, [], ◌++◌, ℕ, List, Opt
 use Rattle.std.specs.Prelude.{IsSomeAnd, MatchOption, codes}
 use Rattle.record_io.specs.declared.answers.Answer.{Answer}
 use Rattle.record_io.specs.declared.codes.AnswerCode.{AnswerCode}
-use Rattle.record_io.specs.declared.codes.AnswerCode.TheVariants.{Protected, Accepted, Clear, Done, Refused, Monitored, MonitorFault, Layout, Channel, Spi, Direction, State, Coverage, Mac, Number, Exhausted, SiteFault, Stopped, NoMemory, End}
+use Rattle.record_io.specs.declared.codes.AnswerCode.TheVariants.{Protected, Accepted, Clear, Done, Refused, Monitored}
+use Rattle.record_io.specs.declared.codes.AnswerCode.TheVariants.{MonitorFault, Layout, Channel, Spi, Direction, State}
+use Rattle.record_io.specs.declared.codes.AnswerCode.TheVariants.{Coverage, Mac, Number, Exhausted, SiteFault, Stopped}
+use Rattle.record_io.specs.declared.codes.AnswerCode.TheVariants.{NoMemory, End}
 use Rattle.answer_text.specs.declared.error.TextError.{TextError}
 use Rattle.answer_text.specs.declared.error.TextError.TheVariants as errors
 use Rattle.answer_text.specs.declared.form.Form.{Form}
@@ -24,7 +27,8 @@ match_more None A B P Q none more has = none has
 match_more (Some x) A B P Q none more has = more x has
 
 -- what follows from P holds where P does
-pub values_more : (code : AnswerCode) (answer : Answer) (P Q : List Part → Type 0) → ((values : List Part) → P values → Q values)
+pub values_more : (code : AnswerCode) (answer : Answer) (P Q : List Part → Type 0)
+    → ((values : List Part) → P values → Q values)
     → HasValues code answer P → HasValues code answer Q
 unfolding HasValues
 values_more Protected answer P Q more has = (has.0, more _ has.1)
@@ -32,19 +36,22 @@ values_more Accepted answer P Q more has = (has.0, more _ has.1)
 values_more Clear answer P Q more has = (has.0, more _ has.1)
 values_more Done answer P Q more has = (has.0, has.1, (has.2.0, has.2.1, more _ has.2.2))
 values_more Refused answer P Q more has =
-    let parts : List ℕ → List Part = λ refusal. word (codes "refusal") refusal ∷ number (codes "number") answer.number ∷ named (codes "entry") answer.position ∷ [] in (
+    let parts : List ℕ → List Part = λ refusal. word (codes "refusal") refusal ∷ number (codes "number") answer.number
+    ∷ named (codes "entry") answer.position ∷ [] in (
       has.0,
       some_more {X = List ℕ} (word_of refusal_details answer.detail) (λ refusal. P (parts refusal))
           (λ refusal. Q (parts refusal)) (λ refusal is. more (parts refusal) is) has.1,
     )
 values_more Monitored answer P Q more has = (
   has.0,
-  some_more (monitor_reply answer.body) (λ reply. P (monitored_parts answer reply)) (λ reply. Q (monitored_parts answer reply))
+  some_more (monitor_reply answer.body) (λ reply. P (monitored_parts answer reply))
+      (λ reply. Q (monitored_parts answer reply))
       (λ reply is. more (monitored_parts answer reply) is) has.1,
 )
 values_more MonitorFault answer P Q more has = (has.0, more _ has.1)
 values_more Layout answer P Q more has =
-    let parts : List ℕ → List Part = λ fault. word (codes "fault") fault ∷ named (codes "position") answer.position ∷ [] in (
+    let parts : List ℕ → List Part = λ fault. word (codes "fault") fault ∷ named (codes "position") answer.position
+    ∷ [] in (
       has.0,
       has.1,
       some_more {X = List ℕ} (word_of layout_details answer.detail) (λ fault. P (parts fault))
@@ -54,7 +61,8 @@ values_more Channel answer P Q more has = (has.0, more _ has.1)
 values_more Spi answer P Q more has = (has.0, more _ has.1)
 values_more Direction answer P Q more has = (has.0, more _ has.1)
 values_more State answer P Q more has =
-    let parts : List ℕ → List Part = λ state. word (codes "state") state ∷ named (codes "position") answer.position ∷ [] in (
+    let parts : List ℕ → List Part = λ state. word (codes "state") state ∷ named (codes "position") answer.position
+    ∷ [] in (
       has.0,
       has.1,
       some_more {X = List ℕ} (word_of state_details answer.detail) (λ state. P (parts state))
@@ -78,14 +86,17 @@ values_more End answer P Q more has =
     )
 
 -- the same of a line
-pub line_more : (form : Form) (index : ℕ) (answer : Answer) (P Q : List ℕ → Type 0) → ((line : List ℕ) → P line → Q line)
+pub line_more : (form : Form) (index : ℕ) (answer : Answer) (P Q : List ℕ → Type 0)
+    → ((line : List ℕ) → P line → Q line)
     → HasLine form index answer P → HasLine form index answer Q
 line_more form index answer P Q more has =
-    match_more (code_at answer.code) ⊥ ⊥ (λ code. HasValues code answer (λ values. P (line_text form index code values)))
+    match_more (code_at answer.code) ⊥ ⊥
+    (λ code. HasValues code answer (λ values. P (line_text form index code values)))
     (λ code. HasValues code answer (λ values. Q (line_text form index code values))) (λ none. none)
     (λ code is. values_more code answer (λ values. P (line_text form index code values))
     (λ values. Q (line_text form index code values)) (λ values. more (line_text form index code values)) is) has
 
 -- what is said not to be an answer is none of the formats
-pub no_line : (error : TextError) (answer : Answer) → error ≡ errors.NoAnswer → LacksLine answer error → ¬ IsOfFormats answer
+pub no_line : (error : TextError) (answer : Answer) → error ≡ errors.NoAnswer → LacksLine answer error
+    → ¬ IsOfFormats answer
 no_line error answer is lacks = let fact : LacksLine answer errors.NoAnswer = rw is at lacks in fact

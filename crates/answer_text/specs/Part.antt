@@ -90,7 +90,8 @@ event_object event = codes "{" ++ (member (codes "record") (decimal event.index)
 -- events behind another
 abbrev pub further_events : ℕ → List ℕ → List ℕ
 further_events zero carried = []
-further_events (suc count) carried = (codes "," ++ event_object (event_at carried)) ++ further_events count (drop 18 carried)
+further_events (suc count) carried =
+    (codes "," ++ event_object (event_at carried)) ++ further_events count (drop 18 carried)
 
 -- events as JSON objects, a comma between two of them
 abbrev pub event_objects : ℕ → List ℕ → List ℕ

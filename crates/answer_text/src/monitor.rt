@@ -2,7 +2,8 @@
 ghost use Rattle.std.specs.Prelude.{◌≡◌, ◌+◌, ◌*◌, ◌≤◌, ◌<◌, ◌++◌, codes, drop, length, IfSome, IsTrue, OnOk};
 ghost use Rattle.record_io.specs.Codes.{code_at};
 ghost use Rattle.text_words.specs.declared.names.MessageName.TheVariants as names;
-ghost use Rattle.answer_text.specs.Part.{Part, event_at, event_members, event_object, event_objects, event_words, events_words};
+ghost use Rattle.answer_text.specs.Part.{Part, event_at, event_members, event_object, event_objects, event_words};
+ghost use Rattle.answer_text.specs.Part.{events_words};
 ghost use Rattle.answer_text.specs.Part.{further_events};
 ghost use Rattle.answer_text.specs.Part.{part_text, parts_text, word_of_code};
 ghost use Rattle.answer_text.specs.Monitor.{are_events, count_parts, has_form, monitor_reply};

@@ -1,5 +1,7 @@
 -- A record is read again, and what may stand at its places is a change that has a record.
-use Rattle.std.proofs.Common.{◌≡◌, ℕ, zero, suc, ◌+◌, ◌*◌, ◌^◌, ◌<◌, ◌≤◌, Bool, true, false, List, [], ◌∷◌, ◌++◌, length, get_or, take, drop, replicate, Option, Some, None, refl, sym, ap, ◌∙◌, subst, arith, append_assoc}
+use Rattle.std.proofs.Common.{◌≡◌, ℕ, zero, suc, ◌+◌, ◌*◌, ◌^◌, ◌<◌, ◌≤◌, Bool, true, false, List, [], ◌∷◌, ◌++◌}
+use Rattle.std.proofs.Common.{length, get_or, take, drop, replicate, Option, Some, None, refl, sym, ap, ◌∙◌, subst}
+use Rattle.std.proofs.Common.{arith, append_assoc}
 use Rattle.std.specs.Prelude.{◌≢◌, ◌-◌, if◌then◌else◌, ◌==◌}
 use Rattle.std.specs.List.{flat_map, AllByRecursion}
 use Rattle.std.specs.Int.{w16, w64, from_be_bytes, to_be_bytes}
@@ -16,7 +18,8 @@ use Rattle.sdls_base.specs.Spelling.{item_octets, association_octets}
 use Rattle.sdls_base.proofs.Codes.{key_state_again, new_state_again, direction_again, suite_again}
 use Rattle.sdls_base.proofs.PlaceFacts.{word_in_front}
 use Rattle.sdls_base.specs.declared.change.Change.{Change}
-use Rattle.sdls_base.specs.declared.change.Change.TheVariants.{Marks, Load, KeyStates, Create, Rekey, SaTo, SetNumber, SetWindow, Accepted, Nothing}
+use Rattle.sdls_base.specs.declared.change.Change.TheVariants.{Marks, Load, KeyStates, Create, Rekey, SaTo, SetNumber}
+use Rattle.sdls_base.specs.declared.change.Change.TheVariants.{SetWindow, Accepted, Nothing}
 use Rattle.sdls_base.specs.declared.key_item.KeyItem.{KeyItem}
 use Rattle.sdls_base.specs.declared.states.Direction.{Direction}
 use Rattle.sdls_base.specs.declared.states.Direction.TheVariants.{Send, Receive}
@@ -33,7 +36,8 @@ use Rattle.book_record.specs.declared.record_error.RecordError.TheVariants.{Malf
 use Rattle.book_record.specs.Kind.{kind_of}
 use Rattle.book_record.specs.Record.{body_of, record_octets, HasRecord, HasTypes, IsRecord, IsKey, IsSpi}
 use Rattle.sdls_base.specs.Places.{octet_at, word_at, number_at}
-use Rattle.book_record.specs.Reading.{HasCause, IsWithin, keys_in, AreKeys, item_at, behind_item, items_in, AreItems, channels_at, change_at, MayStand}
+use Rattle.book_record.specs.Reading.{HasCause, IsWithin, keys_in, AreKeys, item_at, behind_item, items_in, AreItems}
+use Rattle.book_record.specs.Reading.{channels_at, change_at, MayStand}
 use Rattle.book_record.proofs.Lists.{item_end, item_length}
 
 -- ---- codes
@@ -79,8 +83,10 @@ keys_again : (ids : List ℕ) (at : ℕ) (octets back : List ℕ) → AllByRecur
     → drop at octets ≡ flat_map (to_be_bytes w16) ids ++ back → KeysAgain ids at octets
 keys_again [] at octets back are stands = record { may = tt; same = refl }
 keys_again (key ∷ ids) at octets back are stands =
-    let head : word_at at octets ≡ key = word_in_front at octets (flat_map (to_be_bytes w16) (key ∷ ids) ++ back) stands ∙ key_again key are.0 in
-    let rest : drop (at + 2) octets ≡ flat_map (to_be_bytes w16) ids ++ back = sym (drop-drop 2 at octets) ∙ ap (λ (s : List ℕ). drop 2 s) stands in
+    let head : word_at at octets ≡ key = word_in_front at octets (flat_map (to_be_bytes w16) (key ∷ ids) ++ back) stands
+    ∙ key_again key are.0 in
+    let rest : drop (at + 2) octets ≡ flat_map (to_be_bytes w16) ids ++ back =
+    sym (drop-drop 2 at octets) ∙ ap (λ (s : List ℕ). drop 2 s) stands in
     let tail = keys_again ids (at + 2) octets back are.1 rest in
     let others = tail.same in
     record { may = (subst IsKey (sym head) are.0, tail.may); same = cc }
@@ -99,12 +105,16 @@ items_again [] at octets back ids lengths stands = record { may = tt; same = ref
 items_again (item ∷ items) at octets back ids lengths stands =
     let bytes = item.bytes in
     let after = flat_map item_octets items ++ back in
-    let head : word_at at octets ≡ item.id = word_in_front at octets (flat_map item_octets (item ∷ items) ++ back) stands ∙ key_again item.id ids.0 in
-    let size : octet_at (at + 2) octets ≡ length bytes = sym (get_or-drop at octets 2 0) ∙ ap (λ (s : List ℕ). get_or s 2 0) stands in
+    let head : word_at at octets ≡ item.id =
+    word_in_front at octets (flat_map item_octets (item ∷ items) ++ back) stands ∙ key_again item.id ids.0 in
+    let size : octet_at (at + 2) octets ≡ length bytes =
+    sym (get_or-drop at octets 2 0) ∙ ap (λ (s : List ℕ). get_or s 2 0) stands in
     let third : drop (at + 3) octets ≡ bytes ++ after =
-    sym (drop-drop 3 at octets) ∙ ap (λ (s : List ℕ). drop 3 s) stands ∙ append_assoc bytes (flat_map item_octets items) back in
+    sym (drop-drop 3 at octets) ∙ ap (λ (s : List ℕ). drop 3 s) stands ∙ append_assoc bytes (flat_map item_octets items)
+    back in
     let key : take (octet_at (at + 2) octets) (drop (at + 3) octets) ≡ bytes =
-    ap (λ (n : ℕ). take n (drop (at + 3) octets)) size ∙ ap (λ (s : List ℕ). take (length bytes) s) third ∙ take-append_seam bytes after in
+    ap (λ (n : ℕ). take n (drop (at + 3) octets)) size ∙ ap (λ (s : List ℕ). take (length bytes) s) third
+    ∙ take-append_seam bytes after in
     let rest : drop (behind_item at octets) octets ≡ after =
     sym (drop-drop (octet_at (at + 2) octets) (at + 3) octets) ∙ ap (λ (n : ℕ). drop n (drop (at + 3) octets)) size
     ∙ ap (λ (s : List ℕ). drop (length bytes) s) third ∙ drop-append_seam bytes after in
@@ -142,10 +152,16 @@ again (Load items) is bounds =
 again (KeyStates ids to) is bounds =
     let data_octets = key_state_code to ∷ length ids ∷ flat_map (to_be_bytes w16) ids in
     let body = body_of 3 data_octets in
-    let read = keys_again ids 5 body (replicate (511 - (3 + length data_octets)) 0) (recursion_from_All IsKey ids is) refl in
+    let read = keys_again ids 5 body (replicate (511 - (3 + length data_octets)) 0) (recursion_from_All IsKey ids is)
+    refl in
     let f = read.same in
     let g = key_state_again to in
-    record { kind = kinds.KeyStates; found = refl; may = (key_state_within to bounds.0, bounds.1, read.may); value = λ i. KeyStates (f i) (g i) }
+    record {
+      kind = kinds.KeyStates;
+      found = refl;
+      may = (key_state_within to bounds.0, bounds.1, read.may);
+      value = λ i. KeyStates (f i) (g i);
+    }
 again (Create new) is bounds =
     let data_octets = association_octets new in
     let body = body_of 4 data_octets in
@@ -153,11 +169,17 @@ again (Create new) is bounds =
     let f : number_at 7 body ≡ new.window = number_again new.window is.1 in
     let g = direction_again new.direction in
     let h = suite_again new.suite in
-    let k : channels_at 15 body ≡ new.channels = take-append_seam new.channels (replicate (511 - (3 + length data_octets)) 0) in
+    let k : channels_at 15 body ≡ new.channels =
+    take-append_seam new.channels (replicate (511 - (3 + length data_octets)) 0) in
     record {
       kind = kinds.Create;
       found = refl;
-      may = (subst IsSpi (sym e) is.0, direction_within new.direction, suite_within new.suite, subst AreChannels (sym k) bounds);
+      may = (
+        subst IsSpi (sym e) is.0,
+        direction_within new.direction,
+        suite_within new.suite,
+        subst AreChannels (sym k) bounds,
+      );
       value = λ i. Create (record { spi = e i; direction = g i; suite = h i; window = f i; channels = k i });
     }
 again (Rekey spi key number) is bounds =
@@ -170,7 +192,12 @@ again (SaTo spi to) is bounds =
     let body = record_octets (SaTo spi to) in
     let e : word_at 3 body ≡ spi = spi_again spi is in
     let f = new_state_again to in
-    record { kind = kinds.SaTo; found = refl; may = (subst IsSpi (sym e) is, new_state_within to); value = λ i. SaTo (e i) (f i) }
+    record {
+      kind = kinds.SaTo;
+      found = refl;
+      may = (subst IsSpi (sym e) is, new_state_within to);
+      value = λ i. SaTo (e i) (f i);
+    }
 again (SetNumber spi number) is bounds =
     let body = record_octets (SetNumber spi number) in
     let e : word_at 3 body ≡ spi = spi_again spi is.0 in
@@ -195,7 +222,8 @@ pub record Says (change : Change) (kind : Kind) (body : List ℕ) : Type 0 where
 same_kind : (a b : Kind) → Some a ≡ Some b → a ≡ b
 same_kind a b e = cc
 
-pub record_says : (change : Change) (body : List ℕ) (kind : Kind) → kind_of (octet_at 0 body) ≡ Some kind → IsRecord change body → Says change kind body
+pub record_says : (change : Change) (body : List ℕ) (kind : Kind) → kind_of (octet_at 0 body) ≡ Some kind
+    → IsRecord change body → Says change kind body
 record_says change body kind e is =
     let found = record_found change body is in
     let same : found.kind ≡ kind = same_kind found.kind kind (sym found.found ∙ e) in
@@ -243,19 +271,22 @@ items_lengths (suc n) at octets room are = (
 
 no_pre_active : (n : ℕ) → 2 ≤ n → key_state_of n ≢ PreActive
 no_pre_active n least = later (n == 1) (n == 2) (n == 3) (ne_eqb n 1 (λ e. omega (arith, e, least))) where
-  later : (a b c : Bool) → a ≡ false → (if a then PreActive else (if b then Active else (if c then Deactivated else Destroyed))) ≢ PreActive
+  later : (a b c : Bool) → a ≡ false
+      → (if a then PreActive else (if b then Active else (if c then Deactivated else Destroyed))) ≢ PreActive
   later true b c first e = absurd cc
   later false true c first e = absurd cc
   later false false true first e = absurd cc
   later false false false first e = absurd cc
 
-pub has_record : (kind : Kind) (body : List ℕ) → length body ≡ 511 → MayStand kind body → HasRecord (change_at kind body)
+pub has_record : (kind : Kind) (body : List ℕ) → length body ≡ 511 → MayStand kind body
+    → HasRecord (change_at kind body)
 unfolding HasRecord MayStand change_at
 has_record kinds.Marks body n may = tt
 has_record kinds.Load body n may =
     let count = octet_at 3 body in (
       subst IsKeyCount (sym (items_count count 4 body)) may.0,
-      All-from_recursion (λ item. IsKeyLength (length item.bytes)) (items_in count 4 body) (items_lengths count 4 body (omega (arith, may.0.most)) may.1),
+      All-from_recursion (λ item. IsKeyLength (length item.bytes)) (items_in count 4 body)
+          (items_lengths count 4 body (omega (arith, may.0.most)) may.1),
     )
 has_record kinds.KeyStates body n may =
     (no_pre_active (octet_at 3 body) may.0.from, subst IsKeyCount (sym (keys_count (octet_at 4 body) 5 body)) may.1)

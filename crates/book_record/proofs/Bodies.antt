@@ -1,5 +1,6 @@
 -- A body is what was put into octets of 0.
-use Rattle.std.proofs.Common.{◌≡◌, ℕ, ◌+◌, ◌-◌, ◌≤◌, List, ◌∷◌, ◌++◌, length, take, drop, replicate, sym, ap, ◌∙◌, arith, append_assoc}
+use Rattle.std.proofs.Common.{◌≡◌, ℕ, ◌+◌, ◌-◌, ◌≤◌, List, ◌∷◌, ◌++◌, length, take, drop, replicate, sym, ap, ◌∙◌}
+use Rattle.std.proofs.Common.{arith, append_assoc}
 use Rattle.std.specs.Int.{w16, to_be_bytes}
 use Rattle.std.proofs.lemmas.List.{drop-drop, drop-replicate, take-append-drop}
 use Rattle.sdls_base.specs.declared.TheConstants.{BODY_LENGTH}
@@ -22,4 +23,5 @@ body_put kind data_octets body end e front rest =
     sym (take-append-drop end body)
     ∙ ap (λ (s : List ℕ). s ++ drop end body) front
     ∙ ap (λ (s : List ℕ). ((kind ∷ to_be_bytes w16 (length data_octets)) ++ data_octets) ++ s) zeros
-    ∙ append_assoc (kind ∷ to_be_bytes w16 (length data_octets)) data_octets (replicate (BODY_LENGTH - (3 + length data_octets)) 0)
+    ∙ append_assoc (kind ∷ to_be_bytes w16 (length data_octets)) data_octets
+    (replicate (BODY_LENGTH - (3 + length data_octets)) 0)

@@ -18,9 +18,17 @@ at_most_32 : (n : ℕ) → IsKeyLength n → n ≤ 32
 at_most_32 n (inl e) = omega (arith, e)
 at_most_32 n (inr e) = omega (arith, e)
 
-each_small : (items : List KeyItem) → AllByRecursion HasKeyLength items → length (flat_map item_octets items) ≤ 35 * length items
+each_small : (items : List KeyItem) → AllByRecursion HasKeyLength items
+    → length (flat_map item_octets items) ≤ 35 * length items
 each_small [] are = omega arith
-each_small (item ∷ items) are = omega (arith, each_small items are.1, at_most_32 (length item.bytes) are.0, length-append (item_octets item) (flat_map item_octets items))
+each_small (item ∷ items) are =
+    omega (
+      arith,
+      each_small items are.1,
+      at_most_32 (length item.bytes) are.0,
+      length-append (item_octets item) (flat_map item_octets items),
+    )
 
-pub items_length : (items : List KeyItem) → All HasKeyLength items → length (flat_map item_octets items) ≤ 35 * length items
+pub items_length : (items : List KeyItem) → All HasKeyLength items
+    → length (flat_map item_octets items) ≤ 35 * length items
 items_length items are = each_small items (recursion_from_All HasKeyLength items are)

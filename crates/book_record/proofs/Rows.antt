@@ -1,10 +1,12 @@
 -- A row is read again, and what may stand at its places has a row: for `only` of `read_key_row` and `read_sa_row`.
-use Rattle.std.proofs.Common.{◌≡◌, ℕ, ◌≤◌, inl, inr, List, ◌∷◌, ◌++◌, length, take, drop, replicate, Option, Some, None, refl, sym, ap, ◌∙◌, subst, arith, append_assoc, length-append}
+use Rattle.std.proofs.Common.{◌≡◌, ℕ, ◌≤◌, inl, inr, List, ◌∷◌, ◌++◌, length, take, drop, replicate, Option, Some, None}
+use Rattle.std.proofs.Common.{refl, sym, ap, ◌∙◌, subst, arith, append_assoc, length-append}
 use Rattle.std.specs.Prelude.{◌-◌, if◌then◌else◌, IfSome}
 use Rattle.std.specs.Int.{w16, w64, from_be_bytes, to_be_bytes}
 use Rattle.std.proofs.Math.Seq.{take-append_seam}
 use Rattle.std.proofs.lemmas.Bool.{ne_eqb}
-use Rattle.std.proofs.lemmas.List.{drop-drop, drop-replicate, take-append-drop, length-replicate, length-take-le, length-take, length-drop}
+use Rattle.std.proofs.lemmas.List.{drop-drop, drop-replicate, take-append-drop, length-replicate, length-take-le}
+use Rattle.std.proofs.lemmas.List.{length-take, length-drop}
 use Rattle.sdls_base.proofs.Codes.{key_state_again, sa_state_again, direction_again, suite_again}
 use Rattle.sdls_base.proofs.Endings.{drop_front}
 use Rattle.sdls_base.proofs.PlaceFacts.{number_in_front}
@@ -37,13 +39,19 @@ row_put n end octets row e front rest =
 pub padded_length : (width : ℕ) (octets : List ℕ) → length octets ≤ width → length (padded width octets) ≡ width
 padded_length width octets fits =
     let none : ℕ = 0 in
-    omega (arith, fits, length-append octets (replicate (width - length octets) none), length-replicate (width - length octets) none)
+    omega (
+      arith,
+      fits,
+      length-append octets (replicate (width - length octets) none),
+      length-replicate (width - length octets) none,
+    )
 
 -- the octets in front of the zeros
 pub padded_front : (width : ℕ) (octets rest : List ℕ) → take (length octets) (padded width octets ++ rest) ≡ octets
 padded_front width octets rest =
     let zeros = replicate (width - length octets) 0 in
-    ap (λ (s : List ℕ). take (length octets) s) (append_assoc octets zeros rest) ∙ take-append_seam octets (zeros ++ rest)
+    ap (λ (s : List ℕ). take (length octets) s) (append_assoc octets zeros rest)
+    ∙ take-append_seam octets (zeros ++ rest)
 
 -- ---- a key's row
 
@@ -62,14 +70,16 @@ pub record KeyRowSays (parts : KeyParts) (row : List ℕ) : Type 0 where
   pub may : MayBeKeyRow row
   pub value : key_parts_at row ≡ parts
 
-key_row_again : (parts : KeyParts) → HasKeyTypes parts → IsRowKeyLength (length parts.bytes) → KeyRowSays parts (key_row_octets parts)
+key_row_again : (parts : KeyParts) → HasKeyTypes parts → IsRowKeyLength (length parts.bytes)
+    → KeyRowSays parts (key_row_octets parts)
 unfolding key_row_octets
 key_row_again parts types fits =
     let row = key_row_octets parts in
     let room = padded KEY_ROOM parts.bytes in
     let marked = to_be_bytes w64 parts.mark in
     let floored = to_be_bytes w64 parts.floor in
-    let front = to_be_bytes w16 parts.id ++ key_state_code parts.state ∷ length parts.bytes ∷ (room ++ parts.digest ++ marked ++ floored) in
+    let front = to_be_bytes w16 parts.id ++ key_state_code parts.state ∷ length parts.bytes
+    ∷ (room ++ parts.digest ++ marked ++ floored) in
     let zeros = replicate (KEY_ROW_LENGTH - length front) 0 in
     let numbers = marked ++ (floored ++ zeros) in
     let rest = parts.digest ++ numbers in
@@ -78,28 +88,42 @@ key_row_again parts types fits =
     ∙ append_assoc (room ++ parts.digest) marked (floored ++ zeros) ∙ append_assoc room parts.digest numbers in
     let from_digest : drop 36 row ≡ rest =
     sym (drop-drop 32 4 row) ∙ ap (λ (s : List ℕ). drop 32 s) from_key
-    ∙ drop_front room rest 32 (sym (padded_length KEY_ROOM parts.bytes (row_key_length_small (length parts.bytes) fits))) in
+    ∙ drop_front room rest 32
+    (sym (padded_length KEY_ROOM parts.bytes (row_key_length_small (length parts.bytes) fits))) in
     let from_mark : drop 68 row ≡ numbers =
-    sym (drop-drop 32 36 row) ∙ ap (λ (s : List ℕ). drop 32 s) from_digest ∙ drop_front parts.digest numbers 32 (sym types.digest) in
-    let from_floor : drop 76 row ≡ floored ++ zeros = sym (drop-drop 8 68 row) ∙ ap (λ (s : List ℕ). drop 8 s) from_mark in
+    sym (drop-drop 32 36 row) ∙ ap (λ (s : List ℕ). drop 32 s) from_digest ∙ drop_front parts.digest numbers 32
+    (sym types.digest) in
+    let from_floor : drop 76 row ≡ floored ++ zeros =
+    sym (drop-drop 8 68 row) ∙ ap (λ (s : List ℕ). drop 8 s) from_mark in
     let id : word_at 0 row ≡ parts.id = key_again parts.id types.id in
     let state = key_state_again parts.state in
     let bytes : take (length parts.bytes) (drop 4 row) ≡ parts.bytes =
     ap (λ (s : List ℕ). take (length parts.bytes) s) from_key ∙ padded_front KEY_ROOM parts.bytes rest in
     let digest : take 32 (drop 36 row) ≡ parts.digest =
-    ap (λ (s : List ℕ). take 32 s) from_digest ∙ ap (λ (n : ℕ). take n rest) (sym types.digest) ∙ take-append_seam parts.digest numbers in
-    let mark : number_at 68 row ≡ parts.mark = number_in_front 68 row numbers from_mark ∙ number_again parts.mark types.mark in
-    let floor : number_at 76 row ≡ parts.floor = number_in_front 76 row (floored ++ zeros) from_floor ∙ number_again parts.floor types.floor in
+    ap (λ (s : List ℕ). take 32 s) from_digest ∙ ap (λ (n : ℕ). take n rest) (sym types.digest)
+    ∙ take-append_seam parts.digest numbers in
+    let mark : number_at 68 row ≡ parts.mark =
+    number_in_front 68 row numbers from_mark ∙ number_again parts.mark types.mark in
+    let floor : number_at 76 row ≡ parts.floor =
+    number_in_front 76 row (floored ++ zeros) from_floor ∙ number_again parts.floor types.floor in
     record {
       may = (subst IsKey (sym id) types.id, any_state_within parts.state, fits);
-      value = λ i. record { id = id i; state = state i; bytes = bytes i; digest = digest i; mark = mark i; floor = floor i };
+      value = λ i. record {
+        id = id i;
+        state = state i;
+        bytes = bytes i;
+        digest = digest i;
+        mark = mark i;
+        floor = floor i;
+      };
     }
 
 pub key_row_says : (parts : KeyParts) (row : List ℕ) → IsKeyRow parts row → KeyRowSays parts row
 key_row_says parts row is = subst (KeyRowSays parts) (sym is.spelled) (key_row_again parts is.types is.fits)
 
 -- the key that may stand there has a length that a row may have
-pub row_bytes_fit : (row : List ℕ) → length row ≡ KEY_ROW_LENGTH → MayBeKeyRow row → IsRowKeyLength (length (key_parts_at row).bytes)
+pub row_bytes_fit : (row : List ℕ) → length row ≡ KEY_ROW_LENGTH → MayBeKeyRow row
+    → IsRowKeyLength (length (key_parts_at row).bytes)
 row_bytes_fit row size may =
     subst IsRowKeyLength (sym (length-take-le (octet_at 3 row) (drop 4 row)
     (omega (arith, size, row_key_length_small (octet_at 3 row) may.2, length-drop 4 row)))) may.2
@@ -110,7 +134,8 @@ key_row_length parts row is =
     let room = padded KEY_ROOM parts.bytes in
     let marked = to_be_bytes w64 parts.mark in
     let floored = to_be_bytes w64 parts.floor in
-    let front = to_be_bytes w16 parts.id ++ key_state_code parts.state ∷ length parts.bytes ∷ (room ++ parts.digest ++ marked ++ floored) in
+    let front = to_be_bytes w16 parts.id ++ key_state_code parts.state ∷ length parts.bytes
+    ∷ (room ++ parts.digest ++ marked ++ floored) in
     let short : length front ≤ KEY_ROW_LENGTH =
     omega (
       arith,
@@ -142,19 +167,22 @@ pub record SaRowSays (parts : SaParts) (row : List ℕ) : Type 0 where
   pub may : MayBeSaRow row
   pub value : sa_parts_at row ≡ parts
 
-sa_row_again : (parts : SaParts) → HasSaTypes parts → AreChannels parts.sa.channels → SaRowSays parts (sa_row_octets parts)
+sa_row_again : (parts : SaParts) → HasSaTypes parts → AreChannels parts.sa.channels
+    → SaRowSays parts (sa_row_octets parts)
 unfolding sa_row_octets
 sa_row_again parts types fits =
     let row = sa_row_octets parts in
     let new = parts.sa in
     let room = padded CHANNEL_ROOM new.channels in
-    let front = to_be_bytes w16 new.spi ++ direction_code new.direction ∷ suite_code new.suite ∷ sa_state_code parts.state
+    let front = to_be_bytes w16 new.spi ++ direction_code new.direction ∷ suite_code new.suite
+    ∷ sa_state_code parts.state
     ∷ (to_be_bytes w16 (held_code parts.key) ++ length new.channels ∷ (room ++ to_be_bytes w64 new.window)) in
     let zeros = replicate (SA_ROW_LENGTH - length front) 0 in
     let rest = to_be_bytes w64 new.window ++ zeros in
     let from_channels : drop 8 row ≡ room ++ rest = append_assoc room (to_be_bytes w64 new.window) zeros in
     let from_window : drop 16 row ≡ rest =
-    sym (drop-drop 8 8 row) ∙ ap (λ (s : List ℕ). drop 8 s) from_channels ∙ drop_front room rest 8 (sym (padded_length CHANNEL_ROOM new.channels fits.most)) in
+    sym (drop-drop 8 8 row) ∙ ap (λ (s : List ℕ). drop 8 s) from_channels ∙ drop_front room rest 8
+    (sym (padded_length CHANNEL_ROOM new.channels fits.most)) in
     let spi : word_at 0 row ≡ new.spi = spi_again new.spi types.spi in
     let direction = direction_again new.direction in
     let suite = suite_again new.suite in
@@ -162,7 +190,8 @@ sa_row_again parts types fits =
     let key : held_of (word_at 5 row) ≡ parts.key = held_again parts.key types.key in
     let channels : channels_at 7 row ≡ new.channels =
     ap (λ (s : List ℕ). take (length new.channels) s) from_channels ∙ padded_front CHANNEL_ROOM new.channels rest in
-    let window : number_at 16 row ≡ new.window = number_in_front 16 row rest from_window ∙ number_again new.window types.window in
+    let window : number_at 16 row ≡ new.window =
+    number_in_front 16 row rest from_window ∙ number_again new.window types.window in
     record {
       may = (
         subst IsSpi (sym spi) types.spi,
@@ -186,10 +215,15 @@ unfolding sa_row_octets
 sa_row_length parts row is =
     let new = parts.sa in
     let room = padded CHANNEL_ROOM new.channels in
-    let front = to_be_bytes w16 new.spi ++ direction_code new.direction ∷ suite_code new.suite ∷ sa_state_code parts.state
+    let front = to_be_bytes w16 new.spi ++ direction_code new.direction ∷ suite_code new.suite
+    ∷ sa_state_code parts.state
     ∷ (to_be_bytes w16 (held_code parts.key) ++ length new.channels ∷ (room ++ to_be_bytes w64 new.window)) in
     let short : length front ≤ SA_ROW_LENGTH =
-    omega (arith, padded_length CHANNEL_ROOM new.channels is.fits.most, length-append room (to_be_bytes w64 new.window)) in
+    omega (
+      arith,
+      padded_length CHANNEL_ROOM new.channels is.fits.most,
+      length-append room (to_be_bytes w64 new.window),
+    ) in
     ap length is.spelled ∙ padded_length SA_ROW_LENGTH front short
 
 -- no two associations have one row

@@ -34,7 +34,8 @@ fn write_tc_parts(
     let (prefix, room) = (Digits(parts.prefix), Digits(parts.room));
     write!(
         answer,
-        "bypass {bypass} control {control} {spacecraft}/{channel} sequence {sequence} segment {segment:?} prefix {prefix} room {room} again {again}"
+        "bypass {bypass} control {control} {spacecraft}/{channel} sequence {sequence} \
+         segment {segment:?} prefix {prefix} room {room} again {again}"
     )
 }
 
@@ -67,7 +68,8 @@ fn write_tm_parts(
     let (prefix, room) = (Digits(parts.prefix), Digits(parts.room));
     write!(
         answer,
-        "{spacecraft}/{channel} counts {master} {own} status {status:04x} secondary {secondary} prefix {prefix} room {room} ocf "
+        "{spacecraft}/{channel} counts {master} {own} status {status:04x} \
+         secondary {secondary} prefix {prefix} room {room} ocf "
     )?;
     write_optional(answer, parts.ocf)?;
     write!(answer, " again {again}")
@@ -106,7 +108,8 @@ fn write_aos_parts(
     );
     write!(
         answer,
-        "{spacecraft}/{channel} count {count:06x} replay {replay} use {cycle_use} cycle {cycle} insert {insert} prefix {prefix} room {room} ocf "
+        "{spacecraft}/{channel} count {count:06x} replay {replay} use {cycle_use} cycle {cycle} \
+         insert {insert} prefix {prefix} room {room} ocf "
     )?;
     write_optional(answer, parts.ocf)?;
     write!(answer, " again {again}")

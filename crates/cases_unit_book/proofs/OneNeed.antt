@@ -20,5 +20,6 @@ module _ (octets : List ℕ) (one : (a b : Command) → IsCommandPdu a octets �
 
   pub same_need : (state : State) (a b : Need) → HasNeed state octets a → HasNeed state octets b → a ≡ b
   same_need state a b h k = ⊎_elim
-      (λ x. ⊎_elim (λ y. x.2 ∙ ap (need_of state) (one x.0 y.0 x.1 y.1) ∙ sym y.2) (λ y. absurd (clash x.0 x.1 y.0 y.1)) k)
+      (λ x. ⊎_elim (λ y. x.2 ∙ ap (need_of state) (one x.0 y.0 x.1 y.1) ∙ sym y.2) (λ y. absurd (clash x.0 x.1 y.0 y.1))
+      k)
       (λ x. ⊎_elim (λ y. absurd (clash y.0 y.1 x.0 x.1)) (λ y. x.2 ∙ sym y.2) k) h

@@ -1,4 +1,5 @@
-use Rattle.std.proofs.Common.{◌≡◌, ℕ, ◌≤◌, ◌+◌, ◌-◌, List, [], ◌++◌, length, take, drop, Option, Some, None, ap, sym, ◌∙◌, arith, append-nil}
+use Rattle.std.proofs.Common.{◌≡◌, ℕ, ◌≤◌, ◌+◌, ◌-◌, List, [], ◌++◌, length, take, drop, Option, Some, None, ap, sym}
+use Rattle.std.proofs.Common.{◌∙◌, arith, append-nil}
 use Rattle.std.specs.Option.{option_map, unwrap_or}
 use Rattle.std.proofs.lemmas.List.{drop_at, drop-drop, drop-take, length-drop}
 use Rattle.std.proofs.lemmas.Bool.Decides.{nat_tests}
@@ -7,7 +8,8 @@ use Rattle.check_run.specs.Check.{trailer, data_field}
 use Rattle.aos_frame.specs.FirstFault.{first_fault, version_of, spare_of}
 
 -- the room of a frame without a control field: all that stands behind the prefix
-pub room_behind : (frame prefix room : List ℕ) (ocf : Option (List ℕ)) → option_map length ocf ≡ None → length prefix ≡ 6
+pub room_behind : (frame prefix room : List ℕ) (ocf : Option (List ℕ)) → option_map length ocf ≡ None
+    → length prefix ≡ 6
     → frame ≡ prefix ++ room ++ unwrap_or ocf [] → room ≡ drop 6 frame
 room_behind frame prefix room None none sized whole =
     let all : frame ≡ prefix ++ room = whole ∙ append-nil (prefix ++ room) in

@@ -18,11 +18,13 @@ encode_lower-append xs ys = encode_with-append lower_digits xs ys
 pub parts_of : (octets done rest piece others : List ℕ) (n : ℕ) → octets ≡ done ++ rest → piece ≡ take n rest
     → others ≡ drop n rest → octets ≡ (done ++ piece) ++ others
 parts_of octets done rest piece others n all is_piece is_others =
-    all ∙ ap (λ (tail : List ℕ). done ++ tail) (sym (take-append-drop n rest) ∙ ap₂ (λ (p q : List ℕ). p ++ q) (sym is_piece) (sym is_others))
+    all ∙ ap (λ (tail : List ℕ). done ++ tail)
+    (sym (take-append-drop n rest) ∙ ap₂ (λ (p q : List ℕ). p ++ q) (sym is_piece) (sym is_others))
     ∙ sym (append_assoc done piece others)
 
 -- one more piece was spelled
-pub spelled_more : (done piece : List ℕ) (a b c : Trace) → Sinks (encode_lower done) a b → Sinks (encode_lower piece) b c
+pub spelled_more : (done piece : List ℕ) (a b c : Trace) → Sinks (encode_lower done) a b
+    → Sinks (encode_lower piece) b c
     → Sinks (encode_lower (done ++ piece)) a c
 spelled_more done piece a b c ab bc =
     subst (λ (text : List ℕ). Sinks text a c) (sym (encode_lower-append done piece))

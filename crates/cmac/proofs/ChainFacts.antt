@@ -1,6 +1,8 @@
 -- More octets in a text: what they leave of the chain and of the octets held back.
-use Rattle.std.proofs.Common.{◌≡◌, ℕ, zero, suc, ◌+◌, ◌-◌, ◌*◌, ◌/◌, ◌<◌, ◌≤◌, List, [], ◌++◌, length, take, drop, refl, sym, ap, ◌∙◌, arith}
-use Rattle.std.proofs.lemmas.List.{length-append, length-drop, take-append-le, take_all, drop-append-le, drop-drop, drop_at}
+use Rattle.std.proofs.Common.{◌≡◌, ℕ, zero, suc, ◌+◌, ◌-◌, ◌*◌, ◌/◌, ◌<◌, ◌≤◌, List, [], ◌++◌, length, take, drop, refl}
+use Rattle.std.proofs.Common.{sym, ap, ◌∙◌, arith}
+use Rattle.std.proofs.lemmas.List.{length-append, length-drop, take-append-le, take_all, drop-append-le, drop-drop}
+use Rattle.std.proofs.lemmas.List.{drop_at}
 use Rattle.aes_block.specs.Aes.{encrypted}
 use Rattle.cmac.specs.Cmac.{xored, zero_block, before_last, last_block, chain, mac}
 use Rattle.cmac.specs.Running.{Kept, Holds}
@@ -51,7 +53,8 @@ holds_more kept m more holds room =
     let longer : length (m ++ more) ≡ length m + length more = length-append m more in
     let same : before_last (length (m ++ more)) ≡ b = omega arith in
     record {
-      chained = holds.chained ∙ sym (chain-append kept.key m more b (omega arith)) ∙ sym (ap (chain kept.key (m ++ more)) same);
+      chained = holds.chained ∙ sym (chain-append kept.key m more b (omega arith))
+          ∙ sym (ap (chain kept.key (m ++ more)) same);
       rest = ap (λ (l : List ℕ). l ++ more) holds.rest ∙ sym (drop-append-le (16 * b) m more (omega arith))
           ∙ sym (ap (λ (n : ℕ). drop (16 * n) (m ++ more)) same);
     }
@@ -107,7 +110,8 @@ pub closed_is : (kept : Kept) (m : List ℕ) → Holds kept m
 unfolding mac
 closed_is kept m holds =
     ap (λ (c : List ℕ). encrypted kept.key (xored c (last_block kept.key kept.rest))) holds.chained
-    ∙ ap (λ (r : List ℕ). encrypted kept.key (xored (chain kept.key m (before_last (length m))) (last_block kept.key r))) holds.rest
+    ∙ ap (λ (r : List ℕ).
+    encrypted kept.key (xored (chain kept.key m (before_last (length m))) (last_block kept.key r))) holds.rest
 
 -- octets written to the front of a buffer
 pub put_front : (x y z m : List ℕ) (k : ℕ) → y ≡ x → x ≡ drop k m → take (length x) (y ++ z) ≡ drop k m

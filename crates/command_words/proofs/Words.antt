@@ -1,5 +1,6 @@
 -- What the words are, from those that were found at their places: for `command_of`.
-use Rattle.std.proofs.Common.{◌≡◌, ◌<◌, ◌≤◌, ℕ, List, [], ◌∷◌, length, get_or, map, String, string_bytes, refl, sym, ◌∙◌, ap, arith}
+use Rattle.std.proofs.Common.{◌≡◌, ◌<◌, ◌≤◌, ℕ, List, [], ◌∷◌, length, get_or, map, String, string_bytes, refl, sym}
+use Rattle.std.proofs.Common.{◌∙◌, ap, arith}
 use Rattle.std.specs.declared.alloc.Global.{Global}
 use Rattle.command_words.specs.declared.command.Command.TheVariants.{Usage}
 use Rattle.command_words.specs.Words.{command_of, of_one, of_three, of_two, of_words}
@@ -13,10 +14,12 @@ one_item (x ∷ y ∷ rest) a least below first = absurd (omega arith)
 -- one word, by its octets
 pub one_word : (words : List (String Global)) (a : String Global) (first : List ℕ) → 1 ≤ length words → length words < 2
     → a ≡ get_or words 0 a → first ≡ string_bytes a → map string_bytes words ≡ first ∷ []
-one_word words a first least below at_first is_first = ap (map string_bytes) (one_item words a least below at_first) ∙ cc
+one_word words a first least below at_first is_first =
+    ap (map string_bytes) (one_item words a least below at_first) ∙ cc
 
 -- a list of three, by its items
-three_items : {X : Type 0} (xs : List X) (a b c : X) → 3 ≤ length xs → length xs < 4 → a ≡ get_or xs 0 a → b ≡ get_or xs 1 b
+three_items : {X : Type 0} (xs : List X) (a b c : X) → 3 ≤ length xs → length xs < 4 → a ≡ get_or xs 0 a
+    → b ≡ get_or xs 1 b
     → c ≡ get_or xs 2 c → xs ≡ a ∷ b ∷ c ∷ []
 three_items [] a b c least below first second third = absurd (omega arith)
 three_items (x ∷ []) a b c least below first second third = absurd (omega arith)
@@ -34,7 +37,8 @@ three_words words a b c first second third least below at_first at_second at_thi
 
 -- What words ask for, by how many there are.
 
-pub asks_one : (words : List (String Global)) (first : List ℕ) → map string_bytes words ≡ first ∷ [] → of_one first ≡ command_of words
+pub asks_one : (words : List (String Global)) (first : List ℕ) → map string_bytes words ≡ first ∷ []
+    → of_one first ≡ command_of words
 unfolding command_of
 asks_one words first are = sym (ap of_words are)
 
@@ -43,7 +47,8 @@ pub asks_two : (words : List (String Global)) (first second : List ℕ) → map 
 unfolding command_of
 asks_two words first second are = sym (ap of_words are)
 
-pub asks_three : (words : List (String Global)) (first second third : List ℕ) → map string_bytes words ≡ first ∷ second ∷ third ∷ []
+pub asks_three : (words : List (String Global)) (first second third : List ℕ)
+    → map string_bytes words ≡ first ∷ second ∷ third ∷ []
     → of_three first second third ≡ command_of words
 unfolding command_of
 asks_three words first second third are = sym (ap of_words are)

@@ -1,5 +1,6 @@
 -- The words after the program's name, and what they ask for (profile).
-use Rattle.std.specs.Prelude.{⊤, ℕ, ◌≤◌, ◌==◌, nat_le, ◌&&◌, ◌||◌, List, [], ◌∷◌, length, codes, Option, Some, None, Result}
+use Rattle.std.specs.Prelude.{⊤, ℕ, ◌≤◌, ◌==◌, nat_le, ◌&&◌, ◌||◌, List, [], ◌∷◌, length, codes, Option, Some, None}
+use Rattle.std.specs.Prelude.{Result}
 use Rattle.std.specs.Prelude.{Ok, Err, if◌then◌else◌, map, String, string_bytes}
 use Rattle.std.specs.declared.alloc.Global.{Global}
 use Rattle.std.specs.Str.{bytes_eq}
@@ -62,7 +63,8 @@ of_two word digits =
 -- three words: `drill link` and a number
 abbrev pub of_three : List ℕ → List ℕ → List ℕ → Command
 of_three word second digits =
-    if bytes_eq word (codes "drill") && bytes_eq second (codes "link") then asked LinkDrill (frames_of digits) else Usage
+    if bytes_eq word (codes "drill") && bytes_eq second (codes "link") then asked LinkDrill (frames_of digits)
+    else Usage
 
 -- what words ask for, by their octets
 abbrev pub of_words : List (List ℕ) → Command

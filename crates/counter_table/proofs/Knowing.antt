@@ -1,5 +1,7 @@
 -- What stays known of a book while it goes on, and the places of a log.
-use Rattle.std.proofs.Common.{◌≡◌, ◌⊎◌, ℕ, zero, suc, ◌+◌, ◌<◌, ◌≤◌, max, ltb, true, false, Bool, List, [], ◌∷◌, ◌++◌, length, sym, refl, ap, ◌∙◌, subst, inl, inr, ⊎_elim, le_trans, append_assoc, length-append, arith, if◌then◌else◌, ◌==◌}
+use Rattle.std.proofs.Common.{◌≡◌, ◌⊎◌, ℕ, zero, suc, ◌+◌, ◌<◌, ◌≤◌, max, ltb, true, false, Bool, List, [], ◌∷◌, ◌++◌}
+use Rattle.std.proofs.Common.{length, sym, refl, ap, ◌∙◌, subst, inl, inr, ⊎_elim, le_trans, append_assoc}
+use Rattle.std.proofs.Common.{length-append, arith, if◌then◌else◌, ◌==◌}
 use Rattle.std.proofs.lemmas.Bool.{cases_lt}
 use Rattle.std.proofs.lemmas.Bool.Decides.{nat_tests}
 use Rattle.sdls_base.specs.declared.entry.Logged.{Logged}
@@ -26,7 +28,10 @@ entries_shorter [] ys r s e h = omega arith
 entries_shorter (x ∷ xs) [] r s e h = absurd (omega arith)
 entries_shorter (x ∷ xs) (y ∷ ys) r s e h =
     let head : x ≡ y = cc in let tail : xs ++ r ≡ ys ++ s = cc in
-    let t = entries_shorter xs ys r s tail (omega arith) in let i : (if is_entry x then 1 else 0) ≡ (if is_entry y then 1 else 0) = ap (λ z. if is_entry z then 1 else 0) head in let P : ℕ → Type 0 = λ k. k + entries xs ≤ (if is_entry y then 1 else 0) + entries ys in subst P (sym i) (omega arith)
+    let t = entries_shorter xs ys r s tail (omega arith) in
+    let i : (if is_entry x then 1 else 0) ≡ (if is_entry y then 1 else 0) =
+    ap (λ z. if is_entry z then 1 else 0) head in let P : ℕ → Type 0 =
+    λ k. k + entries xs ≤ (if is_entry y then 1 else 0) + entries ys in subst P (sym i) (omega arith)
 
 rose_later : (before mid now : ℕ) → mid ≤ now → Rose before mid → Rose before now
 rose_later before mid now later rose = omega arith
@@ -39,15 +44,34 @@ rose_either before one other rose = elim (cases_lt one other) [
 ]
 
 pub earlier_itself : (k : Known) → Earlier k k
-earlier_itself k = record { log = ([], sym (append-nil k.log)); changes = omega arith; faults = omega arith; standing = omega arith; put_faults = omega arith; stopped = λ r. refl; stood = λ r. refl }
+earlier_itself k = record {
+  log = ([], sym (append-nil k.log));
+  changes = omega arith;
+  faults = omega arith;
+  standing = omega arith;
+  put_faults = omega arith;
+  stopped = λ r. refl;
+  stood = λ r. refl;
+}
 
 pub earlier_unknown : (k : Known) → Earlier unknown k
-earlier_unknown k = record { log = (k.log, refl); changes = omega arith; faults = omega arith; standing = omega arith; put_faults = omega arith; stopped = λ r. absurd (omega arith); stood = λ r. absurd (omega arith) }
+earlier_unknown k = record {
+  log = (k.log, refl);
+  changes = omega arith;
+  faults = omega arith;
+  standing = omega arith;
+  put_faults = omega arith;
+  stopped = λ r. absurd (omega arith);
+  stood = λ r. absurd (omega arith);
+}
 
 pub earlier_further : (a b c : Known) → Earlier a b → Earlier b c → c.opening ≡ b.opening → Earlier a c
 earlier_further a b c ab bc same =
     record {
-      log = (ab.log.0 ++ bc.log.0, bc.log.1 ∙ (ap (λ z. z ++ bc.log.0) ab.log.1 ∙ append_assoc a.log ab.log.0 bc.log.0));
+      log = (
+        ab.log.0 ++ bc.log.0,
+        bc.log.1 ∙ (ap (λ z. z ++ bc.log.0) ab.log.1 ∙ append_assoc a.log ab.log.0 bc.log.0),
+      );
       changes = le_trans ab.changes bc.changes;
       faults = le_trans ab.faults bc.faults;
       standing = le_trans ab.standing bc.standing;
@@ -58,14 +82,16 @@ earlier_further a b c ab bc same =
           bc.stopped (rose_later c.opening.faults a.faults b.faults ab.faults r) ∙ ab.stopped r';
       stood = λ r.
           let o : c.opening.faults ≡ b.opening.faults = ap (λ z. z.faults) same in
-          bc.stood (rose_later c.opening.faults a.faults b.faults ab.faults r) ∙ ab.stood (subst (λ z. Rose z a.faults) o r);
+          bc.stood (rose_later c.opening.faults a.faults b.faults ab.faults r)
+          ∙ ab.stood (subst (λ z. Rose z a.faults) o r);
     }
 
 -- no more puts failed than pieces were put
 pub sparing_itself : (k : Known) → IsSparing k k
 sparing_itself k = (omega arith, λ rose low all. rose)
 
-pub sparing_further : (a b c : Known) → Earlier a b → Earlier b c → c.opening ≡ b.opening → IsSparing a b → IsSparing b c → IsSparing a c
+pub sparing_further : (a b c : Known) → Earlier a b → Earlier b c → c.opening ≡ b.opening → IsSparing a b
+    → IsSparing b c → IsSparing a c
 sparing_further a b c first next same ab bc =
     let one = ab.0 in
     let two = bc.0 in
@@ -77,7 +103,8 @@ sparing_further a b c first next same ab bc =
           let mid : Rose c.opening.faults b.faults = bc.1 rose (omega arith) all in
           let log = next.stopped mid in
           let stood = next.stood mid in
-          subst (λ (z : ℕ). Rose z a.faults) (sym o) (ab.1 (subst (λ (z : ℕ). Rose z b.faults) o mid) (omega arith) (omega arith)),
+          subst (λ (z : ℕ). Rose z a.faults) (sym o)
+          (ab.1 (subst (λ (z : ℕ). Rose z b.faults) o mid) (omega arith) (omega arith)),
     )
 
 -- a log with no line has no piece
@@ -86,8 +113,11 @@ no_pieces [] e = refl
 no_pieces (line ∷ log) e = absurd (omega arith)
 
 -- also by what two workers know together
-pub sparing_later : (o : Opening) (a b k : Known) → (length b.log ≤ length a.log → k.put_faults + pieces a.log ≤ max a.put_faults b.put_faults + pieces k.log) → (length a.log < length b.log → IsSparing b k)
-    → (Rose k.opening.faults k.faults → k.put_faults ≤ max a.put_faults b.put_faults → entries k.log ≤ k.standing → Rose k.opening.faults (max a.faults b.faults))
+pub sparing_later : (o : Opening) (a b k : Known)
+    → (length b.log ≤ length a.log → k.put_faults + pieces a.log ≤ max a.put_faults b.put_faults + pieces k.log)
+    → (length a.log < length b.log → IsSparing b k)
+    → (Rose k.opening.faults k.faults → k.put_faults ≤ max a.put_faults b.put_faults → entries k.log ≤ k.standing
+    → Rose k.opening.faults (max a.faults b.faults))
     → IsSparing (later o a b) k
 sparing_later o a b k ak bk calm = (go (ltb (length a.log) (length b.log)) refl, calm)
   where
@@ -104,7 +134,8 @@ pub rose_right : (before one other : ℕ) → Rose before other → Rose before 
 rose_right before one other rose = omega arith
 
 pub earlier_length : (a b : Known) → Earlier a b → length a.log ≤ length b.log
-earlier_length a b e = let h : length b.log ≡ length (a.log ++ e.log.0) = ap length e.log.1 in let l = length-append a.log e.log.0 in omega arith
+earlier_length a b e = let h : length b.log ≡ length (a.log ++ e.log.0) = ap length e.log.1 in
+    let l = length-append a.log e.log.0 in omega arith
 
 no_rest : (xs r : List Logged) → [] ≡ xs ++ r → xs ≡ []
 no_rest [] r e = refl
@@ -140,14 +171,16 @@ earlier_between a b k ak bk same shorter fewer less low put =
           let r' : Rose k.opening.faults a.faults = subst (λ (z : ℕ). Rose z a.faults) o r in
           let e = ak.stopped r' in
           let low = entries_shorter a.log b.log ak.log.0 bk.log.0 (sym ak.log.1 ∙ bk.log.1) shorter in
-          let whole : entries k.log ≡ entries b.log + entries bk.log.0 = ap entries bk.log.1 ∙ entries-append b.log bk.log.0 in omega arith;
+          let whole : entries k.log ≡ entries b.log + entries bk.log.0 =
+          ap entries bk.log.1 ∙ entries-append b.log bk.log.0 in omega arith;
       stood = λ r.
           let o : b.opening.faults ≡ k.opening.faults = ap (λ (z : Opening). z.faults) same in
           let e = ak.stood (subst (λ (z : ℕ). Rose z a.faults) o r) in
           let most = bk.standing in omega arith;
     }
   where
-    prefix : (xs ys r s : List Logged) → xs ++ r ≡ ys ++ s → length xs ≤ length ys → (rest : List Logged) × (ys ≡ xs ++ rest)
+    prefix : (xs ys r s : List Logged) → xs ++ r ≡ ys ++ s → length xs ≤ length ys
+        → (rest : List Logged) × (ys ≡ xs ++ rest)
     prefix [] ys r s e h = (ys, refl)
     prefix (x ∷ xs) [] r s e h = absurd (omega arith)
     prefix (x ∷ xs) (y ∷ ys) r s e h =
@@ -162,8 +195,17 @@ earlier_later o a b k ak bk = go (ltb (length a.log) (length b.log)) refl
     same : a.log ++ ak.log.0 ≡ b.log ++ bk.log.0
     same = sym ak.log.1 ∙ bk.log.1
 
-    fits : (log : List Logged) → ((rest : List Logged) × (k.log ≡ log ++ rest)) → entries a.log ≤ entries log → entries b.log ≤ entries log
-        → Earlier record { marks = a.marks; log = log; changes = max a.changes b.changes; faults = max a.faults b.faults; standing = max a.standing b.standing; put_faults = max a.put_faults b.put_faults; opening = o } k
+    fits : (log : List Logged) → ((rest : List Logged) × (k.log ≡ log ++ rest)) → entries a.log ≤ entries log
+        → entries b.log ≤ entries log
+        → Earlier record {
+          marks = a.marks;
+          log = log;
+          changes = max a.changes b.changes;
+          faults = max a.faults b.faults;
+          standing = max a.standing b.standing;
+          put_faults = max a.put_faults b.put_faults;
+          opening = o;
+        } k
     fits log p ea eb =
         record {
           log = p;
@@ -173,22 +215,35 @@ earlier_later o a b k ak bk = go (ltb (length a.log) (length b.log)) refl
           put_faults = let x = ak.put_faults in let y = bk.put_faults in omega arith;
           stopped = λ r.
               let whole : entries k.log ≡ entries log + entries p.0 = ap entries p.1 ∙ entries-append log p.0 in
-              ⊎_elim (λ x. let s = ak.stopped x in omega arith) (λ y. let s = bk.stopped y in omega arith) (rose_either k.opening.faults a.faults b.faults r);
+              ⊎_elim (λ x. let s = ak.stopped x in omega arith) (λ y. let s = bk.stopped y in
+              omega arith) (rose_either k.opening.faults a.faults b.faults r);
           stood = λ r.
               let x = ak.standing in
               let y = bk.standing in
-              ⊎_elim (λ z. let s = ak.stood z in omega arith) (λ z. let s = bk.stood z in omega arith) (rose_either k.opening.faults a.faults b.faults r);
+              ⊎_elim (λ z. let s = ak.stood z in omega arith) (λ z. let s = bk.stood z in
+              omega arith) (rose_either k.opening.faults a.faults b.faults r);
         }
 
     go : (t : Bool) → ltb (length a.log) (length b.log) ≡ t
-        → Earlier record { marks = a.marks; log = (if t then b.log else a.log); changes = max a.changes b.changes; faults = max a.faults b.faults; standing = max a.standing b.standing; put_faults = max a.put_faults b.put_faults; opening = o } k
-    go true is = let lt : length a.log < length b.log = grind (arith, nat_tests) in fits b.log bk.log (entries_shorter a.log b.log ak.log.0 bk.log.0 same (omega arith)) (omega arith)
-    go false is = let le : length b.log ≤ length a.log = grind (arith, nat_tests) in fits a.log ak.log (omega arith) (entries_shorter b.log a.log bk.log.0 ak.log.0 (sym same) le)
+        → Earlier record {
+          marks = a.marks;
+          log = (if t then b.log else a.log);
+          changes = max a.changes b.changes;
+          faults = max a.faults b.faults;
+          standing = max a.standing b.standing;
+          put_faults = max a.put_faults b.put_faults;
+          opening = o;
+        } k
+    go true is = let lt : length a.log < length b.log = grind (arith, nat_tests) in
+        fits b.log bk.log (entries_shorter a.log b.log ak.log.0 bk.log.0 same (omega arith)) (omega arith)
+    go false is = let le : length b.log ≤ length a.log = grind (arith, nat_tests) in
+        fits a.log ak.log (omega arith) (entries_shorter b.log a.log bk.log.0 ak.log.0 (sym same) le)
 
 pub longer_length : (xs ys : List Logged) → (length xs ≤ length (longer xs ys)) × (length ys ≤ length (longer xs ys))
 longer_length xs ys = go (ltb (length xs) (length ys)) refl
   where
-    go : (t : Bool) → ltb (length xs) (length ys) ≡ t → (length xs ≤ length (if t then ys else xs)) × (length ys ≤ length (if t then ys else xs))
+    go : (t : Bool) → ltb (length xs) (length ys) ≡ t → (length xs ≤ length (if t then ys else xs))
+        × (length ys ≤ length (if t then ys else xs))
     go true is = let lt : length xs < length ys = grind (arith, nat_tests) in (omega arith, omega arith)
     go false is = let le : length ys ≤ length xs = grind (arith, nat_tests) in (omega arith, omega arith)
 
@@ -199,7 +254,8 @@ stands-append p (x ∷ xs) ys = let h = stands-append p xs ys in omega arith
 
 pub places_next : (p from count : ℕ) → stands p (places from count) + once_below p from ≡ once_below p (from + count)
 places_next p from zero = grind (arith, nat_tests)
-places_next p from (suc count) = let h = places_next p (suc from) count in let o = one p from in let e : suc from + count ≡ from + suc count = omega arith in let k = ap (once_below p) e in omega arith
+places_next p from (suc count) = let h = places_next p (suc from) count in let o = one p from in
+    let e : suc from + count ≡ from + suc count = omega arith in let k = ap (once_below p) e in omega arith
   where
     one : (p n : ℕ) → (if n == p then 1 else 0) + once_below p n ≡ once_below p (suc n)
     one p n = grind (arith, nat_tests)
@@ -213,11 +269,30 @@ places_low p from count h = let e = places_next p from count in lemma (stands p 
 -- a worker that ended
 pub ended_knows : (book : Known) (filled : Bool) → KnowsBook book filled no_turn
 ended_knows book filled =
-    record { earlier = earlier_unknown book; sparing = λ e. absurd (false≢true e); epoch = omega arith; opening = λ e. absurd (false≢true e); blank = λ e. refl; made = λ p h. absurd (omega arith); one = earlier_unknown book; other = earlier_unknown book }
+    record {
+      earlier = earlier_unknown book;
+      sparing = λ e. absurd (false≢true e);
+      epoch = omega arith;
+      opening = λ e. absurd (false≢true e);
+      blank = λ e. refl;
+      made = λ p h. absurd (omega arith);
+      one = earlier_unknown book;
+      other = earlier_unknown book;
+    }
   where
     false≢true : false ≡ true → ⊥
     false≢true e = cc
 
 -- a worker that was split off
-pub beginner_knows : (book : Known) (filled : Bool) (v : Turn) → KnowsBook book filled v → KnowsBook book filled (beginner v)
-beginner_knows book filled v k = record { earlier = k.earlier; sparing = k.sparing; epoch = k.epoch; opening = k.opening; blank = k.blank; made = λ p h. absurd (omega arith); one = earlier_unknown book; other = earlier_unknown book }
+pub beginner_knows : (book : Known) (filled : Bool) (v : Turn) → KnowsBook book filled v
+    → KnowsBook book filled (beginner v)
+beginner_knows book filled v k = record {
+  earlier = k.earlier;
+  sparing = k.sparing;
+  epoch = k.epoch;
+  opening = k.opening;
+  blank = k.blank;
+  made = λ p h. absurd (omega arith);
+  one = earlier_unknown book;
+  other = earlier_unknown book;
+}

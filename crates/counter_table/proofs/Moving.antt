@@ -1,11 +1,14 @@
 -- What each step does to its own row, to the other rows, and to what its maker knows of its own numbers.
-use Rattle.std.proofs.Common.{◌≡◌, ◌≢◌, ◌⊎◌, ℕ, ◌+◌, ◌-◌, ◌<◌, ◌≤◌, max, eqb, ltb, nat_lt, true, false, cond, ◌&&◌, List, [], ◌∷◌, ◌++◌, sym, refl, ap, ◌∙◌, subst, inl, inr, ⊎_elim, le_trans, arith, eq-eqb, ne_eqb, Some, None, ◌==◌, if◌then◌else◌}
+use Rattle.std.proofs.Common.{◌≡◌, ◌≢◌, ◌⊎◌, ℕ, ◌+◌, ◌-◌, ◌<◌, ◌≤◌, max, eqb, ltb, nat_lt, true, false, cond, ◌&&◌}
+use Rattle.std.proofs.Common.{List, [], ◌∷◌, ◌++◌, sym, refl, ap, ◌∙◌, subst, inl, inr, ⊎_elim, le_trans, arith, eq-eqb}
+use Rattle.std.proofs.Common.{ne_eqb, Some, None, ◌==◌, if◌then◌else◌}
 use Rattle.std.proofs.lemmas.Bool.Decides.{nat_tests}
 use Rattle.counter_table.specs.declared.view.Numbers.{Numbers}
 use Rattle.sdls_base.specs.Numbers.{times, once_below}
 use Rattle.counter_table.specs.Numbers.{top, is_armed, is_last, arming, drawing, spending, returning, raising, lifting}
 use Rattle.counter_table.specs.Rule.{SeatFits, IsSane}
-use Rattle.counter_table.proofs.Sums.{times-append, top-append, times_here, count_of_here, amount_here, top_here, times_else, count_of_else, amount_else, top_else}
+use Rattle.counter_table.proofs.Sums.{times-append, top-append, times_here, count_of_here, amount_here, top_here}
+use Rattle.counter_table.proofs.Sums.{times_else, count_of_else, amount_else, top_else}
 use Rattle.counter_table.proofs.Rows.{once_below_more, Moves, Quiet}
 
 once_below_next : (x n : ℕ) → (if n == x then 1 else 0) + once_below x n ≡ once_below x (n + 1)
@@ -25,7 +28,11 @@ module _ (row n l : ℕ) (v : Numbers) (fits : SeatFits row n l v) (alive : 0 < 
         bound = omega arith;
         up = omega arith;
         lifted = omega arith;
-        seat = record { nexts = rw (top_here row n v.nexts) (let f = fits.nexts in omega arith); limits = fits.limits; spent = fits.spent };
+        seat = record {
+          nexts = rw (top_here row n v.nexts) (let f = fits.nexts in omega arith);
+          limits = fits.limits;
+          spent = fits.spent;
+        };
         last = inl (rw (top_here row n v.nexts) (let f = fits.nexts in omega arith));
         alive = alive;
       }
@@ -40,7 +47,11 @@ module _ (row n l : ℕ) (v : Numbers) (fits : SeatFits row n l v) (alive : 0 < 
         bound = let e = count_of_here row n v.drawn in omega arith;
         up = omega arith;
         lifted = omega arith;
-        seat = record { nexts = rw (top_here row (n + 1) v.nexts) (let f = fits.nexts in omega arith); limits = fits.limits; spent = fits.spent };
+        seat = record {
+          nexts = rw (top_here row (n + 1) v.nexts) (let f = fits.nexts in omega arith);
+          limits = fits.limits;
+          spent = fits.spent;
+        };
         last = inl (rw (top_here row (n + 1) v.nexts) (let f = fits.nexts in omega arith));
         alive = alive;
       }
@@ -48,7 +59,8 @@ module _ (row n l : ℕ) (v : Numbers) (fits : SeatFits row n l v) (alive : 0 < 
   pub raise_moves : (number : ℕ) → Moves row n l (max n number) l v (raising row number n v)
   raise_moves number =
       let nexts : top row (v.nexts ++ (row, n) ∷ (row, max n number) ∷ []) ≡ max n number =
-      rw (top-append row v.nexts ((row, n) ∷ (row, max n number) ∷ []), eq-eqb row row refl) (let f = fits.nexts in omega arith) in
+      rw (top-append row v.nexts ((row, n) ∷ (row, max n number) ∷ []), eq-eqb row row refl) (let f = fits.nexts in
+      omega arith) in
       record {
         once = λ x. let o = once_below_more x n (max n number) (omega arith) in omega arith;
         grown = let e = amount_here row (number - n) v.added in omega arith;
@@ -91,12 +103,17 @@ module _ (row n l : ℕ) (v : Numbers) (fits : SeatFits row n l v) (alive : 0 < 
         bound = omega arith;
         up = omega arith;
         lifted = omega arith;
-        seat = record { nexts = fits.nexts; limits = rw (top_here row l v.limits) (let f = fits.limits in omega arith); spent = fits.spent };
+        seat = record {
+          nexts = fits.nexts;
+          limits = rw (top_here row l v.limits) (let f = fits.limits in omega arith);
+          spent = fits.spent;
+        };
         last = inr (refl, refl);
         alive = alive;
       }
 
-  module _ (sane : IsSane v) (x : ℕ) (last : v.last ≡ Some (row, x)) (one : (y : ℕ) → times row y v.drawn ≤ 1) (funded : x < l) where
+  module _ (sane : IsSane v) (x : ℕ) (last : v.last ≡ Some (row, x)) (one : (y : ℕ) → times row y v.drawn ≤ 1)
+      (funded : x < l) where
     spent_once : (y : ℕ) → times row y (v.spent ++ (row, x) ∷ []) ≤ once_below y l
     spent_once y =
         let here : is_last row y v.last ≡ (if x == y then 1 else 0) = rw (last, eq-eqb row row refl) refl in
@@ -108,7 +125,8 @@ module _ (row n l : ℕ) (v : Numbers) (fits : SeatFits row n l v) (alive : 0 < 
         ◌∙≤◌ : {a b c : ℕ} → b ≤ c → a ≡ b → a ≤ c
         ◌∙≤◌ h e = omega arith
 
-        lemma : (s d y : ℕ) → s + (if x == y then 1 else 0) ≤ d → d ≤ 1 → s ≤ once_below y l → s + (if x == y then 1 else 0) ≤ once_below y l
+        lemma : (s d y : ℕ) → s + (if x == y then 1 else 0) ≤ d → d ≤ 1 → s ≤ once_below y l
+            → s + (if x == y then 1 else 0) ≤ once_below y l
         lemma s d y a b c = grind (arith, nat_tests)
 
     pub spend_moves : Moves row n l n l v (spending row x l v)
@@ -121,7 +139,12 @@ module _ (row n l : ℕ) (v : Numbers) (fits : SeatFits row n l v) (alive : 0 < 
           bound = omega arith;
           up = omega arith;
           lifted = omega arith;
-          seat = record { nexts = fits.nexts; limits = rw (top_here row l v.limits) (let f = fits.limits in omega arith); spent = spent_once };
+          seat = record {
+            nexts = fits.nexts;
+            limits =
+                rw (top_here row l v.limits) (let f = fits.limits in omega arith);
+            spent = spent_once;
+          };
           last = inr (refl, refl);
           alive = alive;
         }
@@ -129,7 +152,9 @@ module _ (row n l : ℕ) (v : Numbers) (fits : SeatFits row n l v) (alive : 0 < 
     pub spend_sane : IsSane (spending row x l v)
     spend_sane =
         record {
-          drawn = λ q y. rw (times-append q y v.spent ((row, x) ∷ [])) (let s : times q y v.spent + is_last q y (Some (row, x)) ≤ times q y v.drawn = rw last at (sane.drawn q y) in omega arith);
+          drawn = λ q y. rw (times-append q y v.spent ((row, x) ∷ []))
+              (let s : times q y v.spent + is_last q y (Some (row, x)) ≤ times q y v.drawn =
+              rw last at (sane.drawn q y) in omega arith);
           alive = inr alive;
         }
 

@@ -1,5 +1,6 @@
 -- What a step leaves of a row's part of the rule.
-use Rattle.std.proofs.Common.{◌≡◌, ◌⊎◌, ℕ, ◌+◌, ◌<◌, ◌≤◌, max, List, set, sym, refl, ap, ◌∙◌, subst, inl, inr, ⊎_elim, le_trans, arith}
+use Rattle.std.proofs.Common.{◌≡◌, ◌⊎◌, ℕ, ◌+◌, ◌<◌, ◌≤◌, max, List, set, sym, refl, ap, ◌∙◌, subst, inl, inr, ⊎_elim}
+use Rattle.std.proofs.Common.{le_trans, arith}
 use Rattle.std.proofs.lemmas.Bool.Decides.{nat_tests}
 use mathlib.Core.Option.{some, some-injective}
 use mathlib.Core.Logic.{dite}
@@ -42,7 +43,8 @@ pub record Quiet (row : ℕ) (v w : Numbers) : Type 0 where
   pub limits : top row w.limits ≡ top row v.limits
   pub armed : is_armed row w.armed ≤ is_armed row v.armed
 
-pub quiet_moves : (row n l : ℕ) (v w : Numbers) → SeatFits row n l v → Quiet row v w → 0 < w.shares → Moves row n l n l v w
+pub quiet_moves : (row n l : ℕ) (v w : Numbers) → SeatFits row n l v → Quiet row v w → 0 < w.shares
+    → Moves row n l n l v w
 quiet_moves row n l v w fits q alive =
     record {
       once = λ x. let e = q.drawn x in omega arith;
@@ -70,7 +72,8 @@ seats_up row n l n' l' u a b fits =
       spent = λ x. le_trans (fits.spent x) (once_below_more x l l' b);
     }
 
-module _ (row n l n' l' : ℕ) (views : List Numbers) (id : ℕ) (v w : Numbers) (at : get_elem? views id ≡ some v) (fits : RowFits row n l views) (moves : Moves row n l n' l' v w) where
+module _ (row n l n' l' : ℕ) (views : List Numbers) (id : ℕ) (v w : Numbers) (at : get_elem? views id ≡ some v)
+    (fits : RowFits row n l views) (moves : Moves row n l n' l' v w) where
   here : get_elem? (set views id w) id ≡ some w
   here = set_here views id w (at_below views id v at)
 
@@ -83,7 +86,8 @@ module _ (row n l n' l' : ℕ) (views : List Numbers) (id : ℕ) (v w : Numbers)
   raised : greatest (λ u. top row u.raised) views ≤ greatest (λ u. top row u.raised) (set views id w)
   raised = greatest_least (λ u. top row u.raised) views _ (λ j u e. dite (ℕ_discrete j id)
       (λ same. let is : u ≡ v = some-injective u v (sym e ∙ (ap (get_elem? views) same ∙ at)) in
-      le_trans (subst (λ z. top row z.raised ≤ top row w.raised) (sym is) moves.raised) (greatest_at (λ u. top row u.raised) (set views id w) id w here))
+      le_trans (subst (λ z. top row z.raised ≤ top row w.raised) (sym is) moves.raised)
+      (greatest_at (λ u. top row u.raised) (set views id w) id w here))
       (λ apart. greatest_at (λ u. top row u.raised) (set views id w) j u (set_else views id j w apart ∙ e)))
 
   known : (next : ℕ) → next ≡ n → top row w.nexts ≡ top row v.nexts
@@ -97,9 +101,11 @@ module _ (row n l n' l' : ℕ) (views : List Numbers) (id : ℕ) (v w : Numbers)
   pub row_step : n' + total (λ u. is_armed row u.armed) (set views id w) ≤ most → RowFits row n' l' (set views id w)
   row_step room =
       record {
-        once = λ x. let t = total_set (λ u. times row x u.drawn) views id v w at in let o = fits.once x in let m = moves.once x in omega arith;
+        once = λ x. let t = total_set (λ u. times row x u.drawn) views id v w at in let o = fits.once x in
+            let m = moves.once x in omega arith;
         room = room;
-        grown = let t = total_set (λ u. amount row u.added) views id v w at in let o = fits.grown in let m = moves.grown in omega arith;
+        grown = let t = total_set (λ u. amount row u.added) views id v w at in let o = fits.grown in
+            let m = moves.grown in omega arith;
         bound =
             let t = total_set (λ u. count_of row u.drawn) views id v w at in
             let c = total_at (λ u. count_of row u.drawn) views id v at in

@@ -1,5 +1,6 @@
 -- Cutting a worker's numbers in two and joining those of two workers keep the rule's part on numbers.
-use Rattle.std.proofs.Common.{◌≡◌, ◌≢◌, ℕ, ◌+◌, ◌<◌, ◌≤◌, List, [], ◌∷◌, ◌++◌, set, sym, refl, ap, ◌∙◌, subst, inl, inr, ⊎_elim, arith}
+use Rattle.std.proofs.Common.{◌≡◌, ◌≢◌, ℕ, ◌+◌, ◌<◌, ◌≤◌, List, [], ◌∷◌, ◌++◌, set, sym, refl, ap, ◌∙◌, subst, inl, inr}
+use Rattle.std.proofs.Common.{⊎_elim, arith}
 use mathlib.Core.Option.{some, some-injective}
 use mathlib.Core.Logic.{dite}
 use native.Mathlib.Decide.{ℕ_discrete}
@@ -9,7 +10,8 @@ use Rattle.counter_table.specs.declared.view.Numbers.{Numbers}
 use Rattle.sdls_base.specs.Numbers.{times, total, once_below}
 use Rattle.counter_table.specs.Numbers.{count_of, amount, top, is_armed, no_numbers, keeper, newcomer, joined}
 use Rattle.counter_table.specs.Rule.{greatest, SeatFits, RowFits, IsSane, NumbersFit}
-use Rattle.counter_table.proofs.Sums.{at_below, total-append, total_set, total_two, greatest_at, greatest_least, times-append, count_of-append, amount-append, top-append}
+use Rattle.counter_table.proofs.Sums.{at_below, total-append, total_set, total_two, greatest_at, greatest_least}
+use Rattle.counter_table.proofs.Sums.{times-append, count_of-append, amount-append, top-append}
 use Rattle.counter_table.proofs.Rows.{once_below_one}
 
 module _ (views : List Numbers) (id : ℕ) (v : Numbers) (at : get_elem? views id ≡ some v) where
@@ -21,7 +23,8 @@ module _ (views : List Numbers) (id : ℕ) (v : Numbers) (at : get_elem? views i
 
   -- a sum to which the keeper adds as before and the newcomer nothing
   cut_total : (f : Numbers → ℕ) → f (keeper v) ≡ f v → f (newcomer v) ≡ 0 → total f cut ≡ total f views
-  cut_total f a b = let t = total_set f views id v (keeper v) at in let e = total-append f (set views id (keeper v)) (newcomer v ∷ []) in omega arith
+  cut_total f a b = let t = total_set f views id v (keeper v) at in
+      let e = total-append f (set views id (keeper v)) (newcomer v ∷ []) in omega arith
 
   keeper_there : get_elem? cut id ≡ some (keeper v)
   keeper_there = at_longer _ _ id (keeper v) (set_here views id (keeper v) (at_below views id v at))
@@ -36,14 +39,23 @@ module _ (views : List Numbers) (id : ℕ) (v : Numbers) (at : get_elem? views i
     cut_each : (j : ℕ) (u : Numbers) → get_elem? cut j ≡ some u → SeatFits row n l u
     cut_each j u e =
         ⊎_elim
-        (λ k. ⊎_elim (λ s. subst (SeatFits row n l) s.1 record { nexts = seat.nexts; limits = seat.limits; spent = seat.spent }) (λ o. fits.each j u o.1) (at_set views id j (keeper v) u k))
-        (λ same. subst (SeatFits row n l) same record { nexts = seat.nexts; limits = seat.limits; spent = λ x. omega arith })
+        (λ k. ⊎_elim (λ s. subst (SeatFits row n l) s.1 record {
+          nexts = seat.nexts;
+          limits = seat.limits;
+          spent = seat.spent;
+        }) (λ o. fits.each j u o.1) (at_set views id j (keeper v) u k))
+        (λ same. subst (SeatFits row n l) same record {
+          nexts = seat.nexts;
+          limits = seat.limits;
+          spent = λ x. omega arith;
+        })
         (at_snoc _ (newcomer v) u j e)
 
     cut_raised : greatest (λ u. top row u.raised) views ≤ greatest (λ u. top row u.raised) cut
     cut_raised = greatest_least (λ u. top row u.raised) views _ (λ j u e. dite (ℕ_discrete j id)
         (λ same. let is : u ≡ v = some-injective u v (sym e ∙ (ap (get_elem? views) same ∙ at)) in
-        subst (λ z. top row z.raised ≤ greatest (λ u. top row u.raised) cut) (sym is) (greatest_at (λ u. top row u.raised) cut id (keeper v) keeper_there))
+        subst (λ z. top row z.raised ≤ greatest (λ u. top row u.raised) cut) (sym is)
+        (greatest_at (λ u. top row u.raised) cut id (keeper v) keeper_there))
         (λ apart. greatest_at (λ u. top row u.raised) cut j u (other_there j u apart e)))
 
     pub row_cut : RowFits row n l cut
@@ -52,7 +64,8 @@ module _ (views : List Numbers) (id : ℕ) (v : Numbers) (at : get_elem? views i
           once = λ x. let t = cut_total (λ u. times row x u.drawn) refl refl in let o = fits.once x in omega arith;
           room = let t = cut_total (λ u. is_armed row u.armed) refl refl in let o = fits.room in omega arith;
           grown = let t = cut_total (λ u. amount row u.added) refl refl in let o = fits.grown in omega arith;
-          bound = let t = cut_total (λ u. count_of row u.drawn) refl refl in let r = cut_raised in let o = fits.bound in omega arith;
+          bound = let t = cut_total (λ u. count_of row u.drawn) refl refl in let r = cut_raised in let o = fits.bound in
+              omega arith;
           each = cut_each;
           last = ⊎_elim inl (λ k. inr (dite (ℕ_discrete k.0 id)
               (λ is. let same : k.1 ≡ v = some-injective k.1 v (sym k.2 ∙ (ap (get_elem? views) is ∙ at)) in
@@ -64,7 +77,8 @@ module _ (views : List Numbers) (id : ℕ) (v : Numbers) (at : get_elem? views i
     cut_sane : (j : ℕ) (u : Numbers) → get_elem? cut j ≡ some u → IsSane u
     cut_sane j u e =
         ⊎_elim
-        (λ k. ⊎_elim (λ s. subst IsSane s.1 record { drawn = (fits.sane id v at).drawn; alive = inr (omega arith) }) (λ o. fits.sane j u o.1) (at_set views id j (keeper v) u k))
+        (λ k. ⊎_elim (λ s. subst IsSane s.1 record { drawn = (fits.sane id v at).drawn; alive = inr (omega arith) })
+        (λ o. fits.sane j u o.1) (at_set views id j (keeper v) u k))
         (λ same. subst IsSane same record { drawn = λ q x. omega arith; alive = inr (omega arith) })
         (at_snoc _ (newcomer v) u j e)
 
@@ -73,12 +87,14 @@ module _ (views : List Numbers) (id : ℕ) (v : Numbers) (at : get_elem? views i
         record {
           size = fits.size;
           rows = λ row b. row_cut row _ _ (fits.rows row b) two;
-          shares = let t = total_set (λ u. u.shares) views id v (keeper v) at in let e = total-append (λ (u : Numbers). u.shares) (set views id (keeper v)) (newcomer v ∷ []) in
+          shares = let t = total_set (λ u. u.shares) views id v (keeper v) at in
+              let e = total-append (λ (u : Numbers). u.shares) (set views id (keeper v)) (newcomer v ∷ []) in
               let s = fits.shares in omega arith;
           sane = cut_sane;
         }
 
-module _ (views : List Numbers) (id other : ℕ) (v w : Numbers) (at : get_elem? views id ≡ some v) (there : get_elem? views other ≡ some w) (apart : other ≢ id) where
+module _ (views : List Numbers) (id other : ℕ) (v w : Numbers) (at : get_elem? views id ≡ some v)
+    (there : get_elem? views other ≡ some w) (apart : other ≢ id) where
   abbrev pub met : List Numbers
   met = set (set views id (joined v w)) other no_numbers
 
@@ -86,16 +102,20 @@ module _ (views : List Numbers) (id other : ℕ) (v w : Numbers) (at : get_elem?
   there_too = set_else views id other (joined v w) apart ∙ there
 
   met_total : (f : Numbers → ℕ) → f no_numbers ≡ 0 → total f met + f v + f w ≡ total f views + f (joined v w)
-  met_total f z = let a = total_set f views id v (joined v w) at in let b = total_set f (set views id (joined v w)) other w no_numbers there_too in omega arith
+  met_total f z = let a = total_set f views id v (joined v w) at in
+      let b = total_set f (set views id (joined v w)) other w no_numbers there_too in omega arith
 
   joined_there : get_elem? met id ≡ some (joined v w)
-  joined_there = set_else _ other id no_numbers (λ e. apart (sym e)) ∙ set_here views id (joined v w) (at_below views id v at)
+  joined_there = set_else _ other id no_numbers (λ e. apart (sym e)) ∙ set_here views id (joined v w)
+      (at_below views id v at)
 
   third_there : (j : ℕ) (u : Numbers) → j ≢ id → j ≢ other → get_elem? views j ≡ some u → get_elem? met j ≡ some u
   third_there j u a b e = set_else _ other j no_numbers b ∙ (set_else views id j (joined v w) a ∙ e)
 
   -- what each of the views met is
-  met_each : (P : Numbers → Type 0) → P no_numbers → P (joined v w) → ((j : ℕ) (u : Numbers) → get_elem? views j ≡ some u → P u) → (j : ℕ) (u : Numbers) → get_elem? met j ≡ some u → P u
+  met_each : (P : Numbers → Type 0) → P no_numbers → P (joined v w)
+      → ((j : ℕ) (u : Numbers) → get_elem? views j ≡ some u → P u) → (j : ℕ) (u : Numbers) → get_elem? met j ≡ some u
+      → P u
   met_each P none both each j u e =
       ⊎_elim (λ k. subst P k.1 none)
       (λ k. ⊎_elim (λ s. subst P s.1 both) (λ o. each j u o.1) (at_set views id j (joined v w) u k.1))
@@ -112,7 +132,8 @@ module _ (views : List Numbers) (id other : ℕ) (v w : Numbers) (at : get_elem?
         let a = (fits.each id v at).spent x in let b = (fits.each other w there).spent x in
         let c = sane_v.drawn row x in let d = sane_w.drawn row x in let two = drawn_two x in
         let sum = times row x v.spent + times row x w.spent in
-        let h : sum ≤ once_below x l = lemma (times row x v.spent) (times row x w.spent) (once_below x l) a b (omega arith) in omega arith
+        let h : sum ≤ once_below x l =
+        lemma (times row x v.spent) (times row x w.spent) (once_below x l) a b (omega arith) in omega arith
       where
         lemma : (s t o : ℕ) → s ≤ o → t ≤ o → s + t ≤ 1 → s + t ≤ o
         lemma s t o a b c = omega arith
@@ -120,8 +141,10 @@ module _ (views : List Numbers) (id other : ℕ) (v w : Numbers) (at : get_elem?
     met_seat : SeatFits row n l (joined v w)
     met_seat =
         record {
-          nexts = rw (top-append row v.nexts w.nexts) (let a = (fits.each id v at).nexts in let b = (fits.each other w there).nexts in omega arith);
-          limits = rw (top-append row v.limits w.limits) (let a = (fits.each id v at).limits in let b = (fits.each other w there).limits in omega arith);
+          nexts = rw (top-append row v.nexts w.nexts) (let a = (fits.each id v at).nexts in
+              let b = (fits.each other w there).nexts in omega arith);
+          limits = rw (top-append row v.limits w.limits) (let a = (fits.each id v at).limits in
+              let b = (fits.each other w there).limits in omega arith);
           spent = both_spent;
         }
 
@@ -137,7 +160,8 @@ module _ (views : List Numbers) (id other : ℕ) (v w : Numbers) (at : get_elem?
         subst (λ z. top row z.raised ≤ greatest (λ u. top row u.raised) met) (sym is) (omega arith))
         (λ not_other. greatest_at (λ u. top row u.raised) met j u (third_there j u not_id not_other k))))
 
-    met_last : (0 < v.shares) → ((j : ℕ) × (u : Numbers) × (get_elem? views j ≡ some u) × (0 < u.shares) × (top row u.nexts ≡ n))
+    met_last : (0 < v.shares)
+        → ((j : ℕ) × (u : Numbers) × (get_elem? views j ≡ some u) × (0 < u.shares) × (top row u.nexts ≡ n))
         → (j : ℕ) × (u : Numbers) × (get_elem? met j ≡ some u) × (0 < u.shares) × (top row u.nexts ≡ n)
     met_last alive k =
         let e = top-append row v.nexts w.nexts in
@@ -155,11 +179,18 @@ module _ (views : List Numbers) (id other : ℕ) (v w : Numbers) (at : get_elem?
     pub row_met : 0 < v.shares → RowFits row n l met
     row_met alive =
         record {
-          once = λ x. let t = met_total (λ u. times row x u.drawn) refl in let e = times-append row x v.drawn w.drawn in let o = fits.once x in omega arith;
+          once = λ x. let t = met_total (λ u. times row x u.drawn) refl in let e = times-append row x v.drawn w.drawn in
+              let o = fits.once x in omega arith;
           room = let t = met_total (λ u. is_armed row u.armed) refl in let o = fits.room in omega arith;
-          grown = let t = met_total (λ u. amount row u.added) refl in let e = amount-append row v.added w.added in let o = fits.grown in omega arith;
-          bound = let t = met_total (λ u. count_of row u.drawn) refl in let e = count_of-append row v.drawn w.drawn in let r = met_raised in let o = fits.bound in omega arith;
-          each = met_each (SeatFits row n l) record { nexts = omega arith; limits = omega arith; spent = λ x. omega arith } met_seat fits.each;
+          grown = let t = met_total (λ u. amount row u.added) refl in let e = amount-append row v.added w.added in
+              let o = fits.grown in omega arith;
+          bound = let t = met_total (λ u. count_of row u.drawn) refl in let e = count_of-append row v.drawn w.drawn in
+              let r = met_raised in let o = fits.bound in omega arith;
+          each = met_each (SeatFits row n l) record {
+            nexts = omega arith;
+            limits = omega arith;
+            spent = λ x. omega arith;
+          } met_seat fits.each;
           last = ⊎_elim inl (λ k. inr (met_last alive k)) fits.last;
         }
 
@@ -172,7 +203,8 @@ module _ (views : List Numbers) (id other : ℕ) (v w : Numbers) (at : get_elem?
         shares = let t = met_total (λ u. u.shares) refl in let s = fits.shares in omega arith;
         sane = met_each IsSane record { drawn = λ q x. omega arith; alive = inl refl }
             record {
-              drawn = λ q x. rw (times-append q x v.spent w.spent, times-append q x v.drawn w.drawn) (let a = sane_v.drawn q x in let b = sane_w.drawn q x in omega arith);
+              drawn = λ q x. rw (times-append q x v.spent w.spent, times-append q x v.drawn w.drawn) (let a =
+                  sane_v.drawn q x in let b = sane_w.drawn q x in omega arith);
               alive = inr (omega arith);
             }
             fits.sane;

@@ -1,5 +1,6 @@
 -- Sums and greatest values over all workers, and over lists of pairs.
-use Rattle.std.proofs.Common.{◌≡◌, ◌≢◌, ℕ, zero, suc, ◌+◌, ◌<◌, ◌≤◌, max, eqb, false, List, [], ◌∷◌, ◌++◌, set, length, sym, refl, ap, subst, ⊎_elim, arith, eq-eqb, if◌then◌else◌, ◌==◌}
+use Rattle.std.proofs.Common.{◌≡◌, ◌≢◌, ℕ, zero, suc, ◌+◌, ◌<◌, ◌≤◌, max, eqb, false, List, [], ◌∷◌, ◌++◌, set, length}
+use Rattle.std.proofs.Common.{sym, refl, ap, subst, ⊎_elim, arith, eq-eqb, if◌then◌else◌, ◌==◌}
 use mathlib.Core.Option.{some, some-injective, some-ne-none}
 use lib.ListN.{get_elem?}
 use Rattle.atomic_table.proofs.Lists.{at_set, at_snoc}
@@ -17,7 +18,8 @@ module _ {V : Type 0} (f : V → ℕ) where
   total-append [] ys = omega arith
   total-append (x ∷ xs) ys = omega (arith, total-append xs ys)
 
-  pub total_set : (xs : List V) (i : ℕ) (v w : V) → get_elem? xs i ≡ some v → total f (set xs i w) + f v ≡ total f xs + f w
+  pub total_set : (xs : List V) (i : ℕ) (v w : V) → get_elem? xs i ≡ some v
+      → total f (set xs i w) + f v ≡ total f xs + f w
   total_set [] i v w e = absurd (some-ne-none v (sym e))
   total_set (x ∷ xs) zero v w e = let h : f x ≡ f v = ap f (some-injective x v e) in omega arith
   total_set (x ∷ xs) (suc i) v w e = let h = total_set xs i v w e in omega arith
@@ -27,11 +29,14 @@ module _ {V : Type 0} (f : V → ℕ) where
   total_at (x ∷ xs) zero v e = let h : f x ≡ f v = ap f (some-injective x v e) in omega arith
   total_at (x ∷ xs) (suc i) v e = let h = total_at xs i v e in omega arith
 
-  pub total_two : (xs : List V) (i j : ℕ) (v w : V) → get_elem? xs i ≡ some v → get_elem? xs j ≡ some w → i ≢ j → f v + f w ≤ total f xs
+  pub total_two : (xs : List V) (i j : ℕ) (v w : V) → get_elem? xs i ≡ some v → get_elem? xs j ≡ some w → i ≢ j
+      → f v + f w ≤ total f xs
   total_two [] i j v w a b n = absurd (some-ne-none v (sym a))
   total_two (x ∷ xs) zero zero v w a b n = absurd (n refl)
-  total_two (x ∷ xs) zero (suc j) v w a b n = let h : f x ≡ f v = ap f (some-injective x v a) in let k = total_at xs j w b in omega arith
-  total_two (x ∷ xs) (suc i) zero v w a b n = let h : f x ≡ f w = ap f (some-injective x w b) in let k = total_at xs i v a in omega arith
+  total_two (x ∷ xs) zero (suc j) v w a b n = let h : f x ≡ f v = ap f (some-injective x v a) in
+      let k = total_at xs j w b in omega arith
+  total_two (x ∷ xs) (suc i) zero v w a b n = let h : f x ≡ f w = ap f (some-injective x w b) in
+      let k = total_at xs i v a in omega arith
   total_two (x ∷ xs) (suc i) (suc j) v w a b n = let h = total_two xs i j v w a b (λ e. n (ap suc e)) in omega arith
 
   pub total_none : (xs : List V) → ((i : ℕ) (v : V) → get_elem? xs i ≡ some v → f v ≡ 0) → total f xs ≡ 0
@@ -39,12 +44,15 @@ module _ {V : Type 0} (f : V → ℕ) where
   total_none (x ∷ xs) h = let a = h 0 x refl in let b = total_none xs (λ i. h (suc i)) in omega arith
 
   -- a sum to which one worker alone adds
-  pub total_only : (xs : List V) (i : ℕ) (v : V) → get_elem? xs i ≡ some v → ((j : ℕ) (w : V) → get_elem? xs j ≡ some w → j ≢ i → f w ≡ 0) → total f xs ≡ f v
+  pub total_only : (xs : List V) (i : ℕ) (v : V) → get_elem? xs i ≡ some v
+      → ((j : ℕ) (w : V) → get_elem? xs j ≡ some w → j ≢ i → f w ≡ 0) → total f xs ≡ f v
   total_only [] i v e h = absurd (some-ne-none v (sym e))
   total_only (x ∷ xs) zero v e h =
-      let a : f x ≡ f v = ap f (some-injective x v e) in let b = total_none xs (λ j w k. h (suc j) w k (λ z. omega arith)) in omega arith
+      let a : f x ≡ f v = ap f (some-injective x v e) in
+      let b = total_none xs (λ j w k. h (suc j) w k (λ z. omega arith)) in omega arith
   total_only (x ∷ xs) (suc i) v e h =
-      let a : f x ≡ 0 = h 0 x refl (λ z. omega arith) in let b = total_only xs i v e (λ j w k n. h (suc j) w k (λ z. n (omega arith))) in omega arith
+      let a : f x ≡ 0 = h 0 x refl (λ z. omega arith) in
+      let b = total_only xs i v e (λ j w k n. h (suc j) w k (λ z. n (omega arith))) in omega arith
 
   pub greatest_at : (xs : List V) (i : ℕ) (v : V) → get_elem? xs i ≡ some v → f v ≤ greatest f xs
   greatest_at [] i v e = absurd (some-ne-none v (sym e))
@@ -106,13 +114,16 @@ module _ (row r n : ℕ) (apart : eqb r row ≡ false) (ps : List (ℕ × ℕ)) 
 
 -- what each of the workers is, after one of them changed, and after one came
 module _ {V : Type 0} (P : V → Type 0) (views : List V) where
-  pub each_set : (id : ℕ) (w : V) → P w → ((j : ℕ) (u : V) → get_elem? views j ≡ some u → P u) → (j : ℕ) (u : V) → get_elem? (set views id w) j ≡ some u → P u
+  pub each_set : (id : ℕ) (w : V) → P w → ((j : ℕ) (u : V) → get_elem? views j ≡ some u → P u) → (j : ℕ) (u : V)
+      → get_elem? (set views id w) j ≡ some u → P u
   each_set id w new each j u e = ⊎_elim (λ k. subst P k.1 new) (λ k. each j u k.1) (at_set views id j w u e)
 
-  pub each_snoc : (w : V) → P w → ((j : ℕ) (u : V) → get_elem? views j ≡ some u → P u) → (j : ℕ) (u : V) → get_elem? (views ++ w ∷ []) j ≡ some u → P u
+  pub each_snoc : (w : V) → P w → ((j : ℕ) (u : V) → get_elem? views j ≡ some u → P u) → (j : ℕ) (u : V)
+      → get_elem? (views ++ w ∷ []) j ≡ some u → P u
   each_snoc w new each j u e = ⊎_elim (each j u) (λ k. subst P k new) (at_snoc views w u j e)
 
-  pub each_apart : (id : ℕ) (w : V) → P w → ((j : ℕ) (u : V) → get_elem? views j ≡ some u → j ≢ id → P u) → (j : ℕ) (u : V) → get_elem? (set views id w) j ≡ some u → P u
+  pub each_apart : (id : ℕ) (w : V) → P w → ((j : ℕ) (u : V) → get_elem? views j ≡ some u → j ≢ id → P u)
+      → (j : ℕ) (u : V) → get_elem? (set views id w) j ≡ some u → P u
   each_apart id w new each j u e = ⊎_elim (λ k. subst P k.1 new) (λ k. each j u k.1 k.0) (at_set views id j w u e)
 
 pub zero_of : (n : ℕ) → (0 < n → ⊥) → n ≡ 0

@@ -28,7 +28,8 @@ abbrev pub pieces : List Logged → ℕ
 pieces [] = 0
 pieces (line ∷ log) = (if is_entry line then 0 else 1) + pieces log
 
--- the one is the other at an earlier time. Once the count of faults had risen since the opening, no entry was added, and
+-- the one is the other at an earlier time. Once the count of faults had risen since the opening, no entry was added,
+-- and
 -- none stands that did not
 pub record Earlier (one other : Known) : Type 0 where
   pub log : (rest : List Logged) × (other.log ≡ one.log ++ rest)
@@ -44,7 +45,8 @@ abbrev pub RiseHasCause : Known → Known → Type 0
 RiseHasCause one other = Rose other.opening.faults other.faults → other.put_faults ≤ one.put_faults
     → entries other.log ≤ other.standing → Rose other.opening.faults one.faults
 
--- from the one to the other no more puts failed than pieces were put, and only so, or by an entry that was left out, did
+-- from the one to the other no more puts failed than pieces were put, and only so, or by an entry that was left out,
+-- did
 -- a fault come
 abbrev pub IsSparing : Known → Known → Type 0
 IsSparing one other = (other.put_faults + pieces one.log ≤ one.put_faults + pieces other.log) × RiseHasCause one other

@@ -1,5 +1,6 @@
 -- A command that was written is read again.
-use Rattle.std.proofs.Common.{◌≡◌, ℕ, ◌+◌, ◌-◌, ◌*◌, ◌%◌, ◌^◌, ◌<◌, true, List, [], ◌∷◌, ◌++◌, length, take, None, refl, sym, ap, ◌∙◌, arith, append_assoc, length-append}
+use Rattle.std.proofs.Common.{◌≡◌, ℕ, ◌+◌, ◌-◌, ◌*◌, ◌%◌, ◌^◌, ◌<◌, true, List, [], ◌∷◌, ◌++◌, length, take, None, refl}
+use Rattle.std.proofs.Common.{sym, ap, ◌∙◌, arith, append_assoc, length-append}
 use Rattle.std.specs.Prelude.{◌&&◌, ◌==◌, IsTrue, slice_range}
 use Rattle.std.specs.Int.{w16, w64, to_be_bytes, is_in_range}
 use Rattle.std.proofs.lemmas.Bool.{and_from, le-leb, eq-eqb}
@@ -12,7 +13,10 @@ use Rattle.ep_codec.specs.declared.procedure.PduType.TheVariants as types
 use Rattle.ep_codec.specs.declared.procedure.Procedure.{Procedure}
 use Rattle.ep_codec.specs.declared.procedure.Procedure.TheVariants as procedures
 use Rattle.ep_codec.specs.declared.command.Command.{Command}
-use Rattle.ep_codec.specs.declared.command.Command.TheVariants.{Rekeying, Activate, Deactivate, Verify, Destroy, Inventory, Compose, ReadNumber, Create, Delete, SetWindow, Rekey, Expire, SetNumber, Start, Stop, Status}
+use Rattle.ep_codec.specs.declared.command.Command.TheVariants.{Rekeying, Activate, Deactivate, Verify, Destroy}
+use Rattle.ep_codec.specs.declared.command.Command.TheVariants.{Inventory, Compose, ReadNumber, Create, Delete}
+use Rattle.ep_codec.specs.declared.command.Command.TheVariants.{SetWindow, Rekey, Expire, SetNumber, Start, Stop}
+use Rattle.ep_codec.specs.declared.command.Command.TheVariants.{Status}
 use Rattle.sdls_base.specs.FirstFailing.{Check, first_failing}
 use Rattle.sdls_base.specs.Bounds.{IsKeyCount}
 use Rattle.sdls_base.specs.Spelling.{association_octets}
@@ -44,15 +48,22 @@ pub record SealedAgain (octets vector sealed tag : List ℕ) (at : ℕ) : Type 0
   pub sealed_again : slice_range octets (at + 12) (length octets - 16) ≡ sealed
   pub tag_again : slice_range octets (length octets - 16) (length octets) ≡ tag
 
-pub sealed_again : (front vector sealed tag : List ℕ) (at : ℕ) → at ≡ length front → length vector ≡ 12 → length tag ≡ 16
+pub sealed_again : (front vector sealed tag : List ℕ) (at : ℕ) → at ≡ length front → length vector ≡ 12
+    → length tag ≡ 16
     → SealedAgain (front ++ (vector ++ (sealed ++ tag))) vector sealed tag at
 sealed_again front vector sealed tag at p v t =
     let octets = front ++ (vector ++ (sealed ++ tag)) in
     let second : octets ≡ (front ++ vector) ++ (sealed ++ tag) = sym (append_assoc front vector (sealed ++ tag)) in
     let third : octets ≡ ((front ++ vector) ++ sealed) ++ (tag ++ []) =
-    second ∙ sym (append_assoc (front ++ vector) sealed tag) ∙ ap (λ (s : List ℕ). ((front ++ vector) ++ sealed) ++ s) (sym (append-nil tag)) in
+    second ∙ sym (append_assoc (front ++ vector) sealed tag) ∙ ap (λ (s : List ℕ). ((front ++ vector) ++ sealed) ++ s)
+    (sym (append-nil tag)) in
     let n : length octets ≡ at + 12 + length sealed + 16 =
-    omega (arith, length-append front (vector ++ (sealed ++ tag)), length-append vector (sealed ++ tag), length-append sealed tag) in
+    omega (
+      arith,
+      length-append front (vector ++ (sealed ++ tag)),
+      length-append vector (sealed ++ tag),
+      length-append sealed tag,
+    ) in
     let m = length-append front vector in
     let k = length-append (front ++ vector) sealed in
     record {
@@ -60,16 +71,19 @@ sealed_again front vector sealed tag at p v t =
       sealed_again = ap (λ (s : List ℕ). slice_range s (at + 12) (length octets - 16)) second
           ∙ range_at (front ++ vector) sealed tag (at + 12) (length octets - 16) (omega arith) (omega arith);
       tag_again = ap (λ (s : List ℕ). slice_range s (length octets - 16) (length octets)) third
-          ∙ range_at ((front ++ vector) ++ sealed) tag [] (length octets - 16) (length octets) (omega arith) (omega arith);
+          ∙ range_at ((front ++ vector) ++ sealed) tag [] (length octets - 16) (length octets) (omega arith)
+          (omega arith);
     }
 
 -- ---- fields that are read again
 
-pub spi_again : (spi : ℕ) → IsTrue (is_spi spi) → (octets : List ℕ) → word_at 3 octets ≡ spi → (checks : List (Check ℕ)) → first_failing checks ≡ None
+pub spi_again : (spi : ℕ) → IsTrue (is_spi spi) → (octets : List ℕ) → word_at 3 octets ≡ spi → (checks : List (Check ℕ))
+    → first_failing checks ≡ None
     → first_failing (spi_check 3 octets ∷ checks) ≡ None
 spi_again spi is octets e checks none = keeps (is_spi (word_at 3 octets)) 3 checks (ap is_spi e ∙ is) none
 
-pub key_passes : (at key : ℕ) → IsTrue (is_key key) → (octets : List ℕ) → word_at at octets ≡ key → (checks : List (Check ℕ)) → first_failing checks ≡ None
+pub key_passes : (at key : ℕ) → IsTrue (is_key key) → (octets : List ℕ) → word_at at octets ≡ key
+    → (checks : List (Check ℕ)) → first_failing checks ≡ None
     → first_failing (key_check at octets ∷ checks) ≡ None
 key_passes at key is octets e checks none = keeps (is_key (word_at at octets)) at checks (ap is_key e ∙ is) none
 
@@ -80,7 +94,8 @@ pub key_small : (key : ℕ) → IsTrue (is_key key) → key < 2 ^ 16
 key_small key is = omega (arith, high_bound 1 65535 key is)
 
 pub window_passes : (window : ℕ) → IsWindowField window → is_window window ≡ true
-window_passes window is = and_from _ _ (le-leb _ _ is.back) (in_bounds 1 MOST_WINDOW (width_of window) is.width.least is.width.most)
+window_passes window is =
+    and_from _ _ (le-leb _ _ is.back) (in_bounds 1 MOST_WINDOW (width_of window) is.width.least is.width.most)
 
 -- ---- commands
 
@@ -90,7 +105,8 @@ pub record ReadAgain (p : Procedure) (command : Command) (octets : List ℕ) : T
   pub fields : first_failing (command_checks p octets) ≡ None
   pub value : command_at p octets ≡ command
 
-keys_header : (p : Procedure) (keys : List ℕ) → ((n : ℕ) → has_command_length p n ≡ (is_in_range 2 16 n && n % 2 == 0)) → IsKeyCount (length keys)
+keys_header : (p : Procedure) (keys : List ℕ) → ((n : ℕ) → has_command_length p n ≡ (is_in_range 2 16 n && n % 2 == 0))
+    → IsKeyCount (length keys)
     → Passes types.Command p (message (tag_of p) (keys_data keys))
 keys_header p keys fits count =
     let n = keys_length keys in
@@ -99,9 +115,11 @@ keys_header p keys fits count =
     let m = length (keys_data keys) in
     let even : m % 2 ≡ 0 = omega arith in
     header_again types.Command p (keys_data keys)
-    (fits m ∙ and_from (is_in_range 2 16 m) (m % 2 == 0) (in_bounds 2 16 m (omega arith) (omega arith)) (eq-eqb (m % 2) 0 even)) (omega arith)
+    (fits m ∙ and_from (is_in_range 2 16 m) (m % 2 == 0) (in_bounds 2 16 m (omega arith) (omega arith))
+    (eq-eqb (m % 2) 0 even)) (omega arith)
 
-again : (command : Command) → HasTypes command → IsInBounds command → ReadAgain (command_procedure command) command (command_octets command)
+again : (command : Command) → HasTypes command → IsInBounds command
+    → ReadAgain (command_procedure command) command (command_octets command)
 unfolding command_checks command_at command_octets HasTypes IsInBounds
 again (Rekeying master vector sealed tag) is bounds =
     let body = sealed_data master vector sealed tag in
@@ -116,7 +134,8 @@ again (Rekeying master vector sealed tag) is bounds =
     let g = parts.sealed_again in
     let h = parts.tag_again in
     record {
-      header = header_again types.Command procedures.Rekeying body (in_bounds 49 310 (length body) (omega arith) (omega arith)) (omega arith);
+      header = header_again types.Command procedures.Rekeying body
+          (in_bounds 49 310 (length body) (omega arith) (omega arith)) (omega arith);
       fields = key_passes 3 master is.0 octets e [] refl;
       value = cc;
     }
@@ -151,8 +170,10 @@ again (Inventory first last) is bounds =
     let e : word_at 3 octets ≡ first = from_be_bytes-to_be_bytes_2 first is.0 in
     let f : word_at 5 octets ≡ last = from_be_bytes-to_be_bytes_2 last is.1 in
     record {
-      header = header_again types.Command procedures.Inventory (to_be_bytes w16 first ++ to_be_bytes w16 last) refl (omega arith);
-      fields = keeps (is_in_range (word_at 3 octets) 65535 (word_at 5 octets)) 5 [] (in_bounds (word_at 3 octets) 65535 (word_at 5 octets) (omega (arith, is.1)) (omega (arith, is.1))) refl;
+      header = header_again types.Command procedures.Inventory (to_be_bytes w16 first ++ to_be_bytes w16 last) refl
+          (omega arith);
+      fields = keeps (is_in_range (word_at 3 octets) 65535 (word_at 5 octets)) 5 []
+          (in_bounds (word_at 3 octets) 65535 (word_at 5 octets) (omega (arith, is.1)) (omega (arith, is.1))) refl;
       value = cc;
     }
 again (Compose master keys) is bounds =
@@ -166,7 +187,8 @@ again (Compose master keys) is bounds =
     let f = keys_read_again keys is.1 in
     record {
       header = header_again types.Command procedures.Compose body
-          (and_from (is_in_range 4 18 (length body)) (length body % 2 == 0) (in_bounds 4 18 (length body) (omega arith) (omega arith)) (eq-eqb (length body % 2) 0 even)) (omega arith);
+          (and_from (is_in_range 4 18 (length body)) (length body % 2 == 0)
+          (in_bounds 4 18 (length body) (omega arith) (omega arith)) (eq-eqb (length body % 2) 0 even)) (omega arith);
       fields = key_passes 3 master is.0 octets e (key_checks 5 (keys_data keys)) (keys_pass 5 keys is.1);
       value = cc;
     }
@@ -188,14 +210,22 @@ again (Create sa) is bounds =
     let g = direction_again sa.direction in
     let h = suite_again sa.suite in
     let whole : length octets ≡ 16 + length channels = omega arith in
-    let count : (octet_at 15 octets == length octets - 16) ≡ true = eq-eqb (length channels) (length octets - 16) (omega arith) in
-    let pass : first_failing (channel_checks 16 0 channels) ≡ None = channels_pass 16 channels bounds.1.ascending bounds.2 in
+    let count : (octet_at 15 octets == length octets - 16) ≡ true =
+    eq-eqb (length channels) (length octets - 16) (omega arith) in
+    let pass : first_failing (channel_checks 16 0 channels) ≡ None =
+    channels_pass 16 channels bounds.1.ascending bounds.2 in
     record {
-      header = header_again types.Command procedures.Create body (in_bounds 14 21 (length body) (omega arith) (omega arith)) (omega arith);
-      fields = spi_again sa.spi is octets e (code_check 2 5 octets ∷ code_check 2 6 octets ∷ window_check 7 octets ∷ count_check 15 octets ∷ channel_checks 16 0 channels)
-          (keeps (is_in_range 1 2 (direction_code sa.direction)) 5 (code_check 2 6 octets ∷ window_check 7 octets ∷ count_check 15 octets ∷ channel_checks 16 0 channels) (direction_in sa.direction)
-          (keeps (is_in_range 1 2 (suite_code sa.suite)) 6 (window_check 7 octets ∷ count_check 15 octets ∷ channel_checks 16 0 channels) (suite_in sa.suite)
-          (keeps (is_window (number_at 7 octets)) 7 (count_check 15 octets ∷ channel_checks 16 0 channels) (ap is_window f ∙ window_passes sa.window bounds.0)
+      header = header_again types.Command procedures.Create body
+          (in_bounds 14 21 (length body) (omega arith) (omega arith)) (omega arith);
+      fields = spi_again sa.spi is octets e (code_check 2 5 octets ∷ code_check 2 6 octets ∷ window_check 7 octets
+          ∷ count_check 15 octets ∷ channel_checks 16 0 channels)
+          (keeps (is_in_range 1 2 (direction_code sa.direction)) 5
+          (code_check 2 6 octets ∷ window_check 7 octets ∷ count_check 15 octets ∷ channel_checks 16 0 channels)
+          (direction_in sa.direction)
+          (keeps (is_in_range 1 2 (suite_code sa.suite)) 6
+          (window_check 7 octets ∷ count_check 15 octets ∷ channel_checks 16 0 channels) (suite_in sa.suite)
+          (keeps (is_window (number_at 7 octets)) 7 (count_check 15 octets ∷ channel_checks 16 0 channels)
+          (ap is_window f ∙ window_passes sa.window bounds.0)
           (keeps (octet_at 15 octets == length octets - 16) 15 (channel_checks 16 0 channels) count pass))));
       value = λ i. Create (record { spi = e i; direction = g i; suite = h i; window = f i; channels = channels });
     }
@@ -213,7 +243,8 @@ again (SetWindow spi window) is bounds =
     let f : number_at 5 octets ≡ window = from_be_bytes-to_be_bytes_8 window (field_small window bounds) in
     record {
       header = header_again types.Command procedures.SetWindow body refl (omega arith);
-      fields = spi_again spi is octets e (window_check 5 octets ∷ []) (keeps (is_window (number_at 5 octets)) 5 [] (ap is_window f ∙ window_passes window bounds) refl);
+      fields = spi_again spi is octets e (window_check 5 octets ∷ [])
+          (keeps (is_window (number_at 5 octets)) 5 [] (ap is_window f ∙ window_passes window bounds) refl);
       value = cc;
     }
 again (Rekey spi key number) is bounds =
@@ -266,5 +297,6 @@ again (Status spi) is bounds =
       value = ap Status e;
     }
 
-pub command_again : (command : Command) (octets : List ℕ) → IsCommandPdu command octets → ReadAgain (command_procedure command) command octets
+pub command_again : (command : Command) (octets : List ℕ) → IsCommandPdu command octets
+    → ReadAgain (command_procedure command) command octets
 command_again command octets is = rw is.spelled (again command is.types is.bounds)

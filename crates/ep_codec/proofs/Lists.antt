@@ -1,5 +1,6 @@
 -- A list of fields, taken from its front.
-use Rattle.std.proofs.Common.{◌≡◌, ℕ, ◌+◌, ◌-◌, ◌≤◌, List, [], ◌∷◌, ◌++◌, length, get_or, take, drop, None, sym, ap, ◌∙◌, arith}
+use Rattle.std.proofs.Common.{◌≡◌, ℕ, ◌+◌, ◌-◌, ◌≤◌, List, [], ◌∷◌, ◌++◌, length, get_or, take, drop, None, sym, ap}
+use Rattle.std.proofs.Common.{◌∙◌, arith}
 use Rattle.std.specs.Prelude.{not}
 use Rattle.std.specs.Int.{w16, from_be_bytes, is_in_range}
 use Rattle.std.proofs.lemmas.List.{take_all, append_assoc}
@@ -23,7 +24,8 @@ three : (rest : List ℕ) → 3 ≤ length rest → rest ≡ get_or rest 0 0 ∷
 three [] h = absurd (omega arith)
 three (a ∷ []) h = absurd (omega arith)
 three (a ∷ b ∷ []) h = absurd (omega arith)
-three (a ∷ b ∷ c ∷ rest) h = ap (λ (s : List ℕ). a ∷ b ∷ c ∷ s) (sym (take_all (length (a ∷ b ∷ c ∷ rest) - 3) rest (omega arith)))
+three (a ∷ b ∷ c ∷ rest) h =
+    ap (λ (s : List ℕ). a ∷ b ∷ c ∷ s) (sym (take_all (length (a ∷ b ∷ c ∷ rest) - 3) rest (omega arith)))
 
 abbrev pub word_of : List ℕ → ℕ
 word_of rest = from_be_bytes w16 (get_or rest 0 0 ∷ get_or rest 1 0 ∷ [])
@@ -34,16 +36,20 @@ behind_two rest h = omega (arith, ap length (two rest h))
 pub behind_three : (rest : List ℕ) → 3 ≤ length rest → length rest ≡ 3 + length (behind 3 rest)
 behind_three rest h = omega (arith, ap length (three rest h))
 
-pub keys_faults : (at : ℕ) (rest : List ℕ) → 2 ≤ length rest → first_failing ((not (is_key (word_of rest)), at) ∷ []) ≡ None
+pub keys_faults : (at : ℕ) (rest : List ℕ) → 2 ≤ length rest → first_failing ((not (is_key (word_of rest)), at) ∷ [])
+    ≡ None
     → first_failing (key_checks (at + 2) (behind 2 rest)) ≡ first_failing (key_checks at rest)
 keys_faults at rest h none =
-    sym (ap (λ (s : List ℕ). first_failing (key_checks at s)) (two rest h) ∙ passed (not (is_key (word_of rest)), at) (key_checks (at + 2) (behind 2 rest)) none)
+    sym (ap (λ (s : List ℕ). first_failing (key_checks at s)) (two rest h) ∙ passed (not (is_key (word_of rest)), at)
+    (key_checks (at + 2) (behind 2 rest)) none)
 
 pub keys_read : (keys : List ℕ) (rest : List ℕ) → 2 ≤ length rest
     → (keys ++ word_of rest ∷ []) ++ keys_in (behind 2 rest) ≡ keys ++ keys_in rest
-keys_read keys rest h = append_assoc keys (word_of rest ∷ []) (keys_in (behind 2 rest)) ∙ ap (λ (s : List ℕ). keys ++ keys_in s) (sym (two rest h))
+keys_read keys rest h = append_assoc keys (word_of rest ∷ []) (keys_in (behind 2 rest))
+    ∙ ap (λ (s : List ℕ). keys ++ keys_in s) (sym (two rest h))
 
-pub rows_faults : (at : ℕ) (rest : List ℕ) → 3 ≤ length rest → first_failing ((not (is_key (word_of rest)), at) ∷ []) ≡ None
+pub rows_faults : (at : ℕ) (rest : List ℕ) → 3 ≤ length rest → first_failing ((not (is_key (word_of rest)), at) ∷ [])
+    ≡ None
     → first_failing ((not (is_in_range 1 4 (get_or rest 2 0)), at + 2) ∷ []) ≡ None
     → first_failing (row_checks (at + 3) (behind 3 rest)) ≡ first_failing (row_checks at rest)
 rows_faults at rest h key state =

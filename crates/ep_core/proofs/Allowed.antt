@@ -1,5 +1,7 @@
 -- The change of a step is one that its state allows.
-use Rattle.std.proofs.Common.{◌≡◌, ◌≢◌, ℕ, zero, suc, ◌+◌, ◌<◌, ◌≤◌, Bool, true, false, not, nat_eq, List, [], ◌∷◌, length, length-drop, get_or, take, drop, Option, Some, None, IsSome, IsSomeAnd, refl, sym, ap, ◌∙◌, subst, arith}
+use Rattle.std.proofs.Common.{◌≡◌, ◌≢◌, ℕ, zero, suc, ◌+◌, ◌<◌, ◌≤◌, Bool, true, false, not, nat_eq, List, [], ◌∷◌}
+use Rattle.std.proofs.Common.{length, length-drop, get_or, take, drop, Option, Some, None, IsSome, IsSomeAnd, refl, sym}
+use Rattle.std.proofs.Common.{ap, ◌∙◌, subst, arith}
 use Rattle.std.specs.Prelude.{MatchOption, if◌then◌else◌, is_none, is_some, IfSome, IsNone}
 use Rattle.std.specs.List.{AllByRecursion, Any}
 use Rattle.std.specs.Option.{option_map, option_map_or, option_and_then}
@@ -32,7 +34,8 @@ use Rattle.sa_book.specs.SaBook.{in_use}
 use Rattle.sa_book.specs.SaRefusal.{unless_unkeyed, if_unkeyed, number_refusal_of, set_number_refusal}
 use Rattle.unit_state.specs.declared.state.State.{State}
 use Rattle.unit_state.specs.State.{KeepsRules, HasKey, MayHold, key_row, association_row}
-use Rattle.unit_state.specs.Allows.{Allows, IsActiveMaster, AllowsLoad, AllowsStates, AllowsRekey, AllowsNumber, IsSessionKey}
+use Rattle.unit_state.specs.Allows.{Allows, IsActiveMaster, AllowsLoad, AllowsStates, AllowsRekey, AllowsNumber}
+use Rattle.unit_state.specs.Allows.{IsSessionKey}
 use Rattle.unit_state.specs.Taking.{least_with, taking_refusal}
 use Rattle.unit_state.proofs.Found.{found, found_passes, found_there}
 use Rattle.unit_state.proofs.KeyRules.{equal_number}
@@ -41,7 +44,10 @@ use Rattle.unit_state.proofs.SaRules.{judged}
 use Rattle.sdls_base.specs.Bounds.{IsKeyCount}
 use Rattle.ep_codec.specs.Command.{IsInBounds}
 use Rattle.ep_codec.specs.declared.command.Command.{Command}
-use Rattle.ep_codec.specs.declared.command.Command.TheVariants.{Rekeying, Activate, Deactivate, Verify, Destroy, Inventory, Compose, ReadNumber, Create, Delete, SetWindow, Rekey, Expire, SetNumber, Start, Stop, Status}
+use Rattle.ep_codec.specs.declared.command.Command.TheVariants.{Rekeying, Activate, Deactivate, Verify, Destroy}
+use Rattle.ep_codec.specs.declared.command.Command.TheVariants.{Inventory, Compose, ReadNumber, Create, Delete}
+use Rattle.ep_codec.specs.declared.command.Command.TheVariants.{SetWindow, Rekey, Expire, SetNumber, Start, Stop}
+use Rattle.ep_codec.specs.declared.command.Command.TheVariants.{Status}
 use Rattle.ep_codec.specs.declared.reply_pdu.ReplyPdu.{ReplyPdu}
 use Rattle.ep_codec.specs.declared.reply_pdu.ReplyPdu.TheVariants as replies
 use Rattle.ep_codec.proofs.FieldFacts.{low_bound}
@@ -50,13 +56,17 @@ use Rattle.ep_core.specs.declared.refusal.Refusal.{Refusal}
 use Rattle.ep_core.specs.declared.refusal.Refusal.TheVariants.{BadTag, BadItems, NotMaster}
 use Rattle.ep_core.specs.declared.reply.Reply.{Reply}
 use Rattle.ep_core.specs.Need.{sends, is_sending, sending_key, sending_key_of, need_of}
-use Rattle.ep_core.specs.Refusals.{by_state, from_keys, is_master, from_associations, refusal_of, opened, items_of, master_checks, text_checks, unless_free, unless_known, unless_takes, least_at, least_of, unless_active}
+use Rattle.ep_core.specs.Refusals.{by_state, from_keys, is_master, from_associations, refusal_of, opened, items_of}
+use Rattle.ep_core.specs.Refusals.{master_checks, text_checks, unless_free, unless_known, unless_takes, least_at}
+use Rattle.ep_core.specs.Refusals.{least_of, unless_active}
 use Rattle.ep_core.specs.Sealed.{front, item_fault, item_at, items_fault, items_in}
 use Rattle.ep_core.specs.Seen.{MeetsNeed, IsWord, word_of}
 use Rattle.ep_core.specs.Step.{IsStep, IsDone, refused, done}
 use Rattle.ep_core.proofs.Checks.{rekey_told}
 use Rattle.ep_core.proofs.ComposeFacts.{none_append}
-use Rattle.ep_core.proofs.Free.{told_load, told_moves, keys_free, associations_free, tells_free, tells_create, tells_rekey, tells_set_number, tells_start, tells_stop, tells_expire, tells_window, rekey_weaker, set_number_weaker}
+use Rattle.ep_core.proofs.Free.{told_load, told_moves, keys_free, associations_free, tells_free, tells_create}
+use Rattle.ep_core.proofs.Free.{tells_rekey, tells_set_number, tells_start, tells_stop, tells_expire, tells_window}
+use Rattle.ep_core.proofs.Free.{rekey_weaker, set_number_weaker}
 use Rattle.ep_core.proofs.ItemFacts.{whole, high_not_0, going, later, front_item}
 use Rattle.ep_core.proofs.Rules.{row_rules}
 use Rattle.ep_core.proofs.SealedFacts.{passed_both}
@@ -81,7 +91,8 @@ session_item at s none =
       length = subst IsKeyLength (sym octets) (item_length at s none);
     }
 
-session_items : (left at : ℕ) (s : List ℕ) → items_fault left at s ≡ None → AllByRecursion IsSessionKey (items_in left s)
+session_items : (left at : ℕ) (s : List ℕ) → items_fault left at s ≡ None
+    → AllByRecursion IsSessionKey (items_in left s)
 session_items zero at s none = tt
 session_items (suc k) at [] none = tt
 session_items (suc k) at (x ∷ s) none =
@@ -117,11 +128,13 @@ record Opened (opened : Option (List ℕ)) (sealed : List ℕ) : Type 0 where
   is : opened ≡ Some text
   same : length text ≡ length sealed
 
-gcm_opened : (key iv aad sealed tag : List ℕ) (o : Option (List ℕ)) → gcm_open key iv aad sealed tag ≡ o → is_none o ≡ false → Opened o sealed
+gcm_opened : (key iv aad sealed tag : List ℕ) (o : Option (List ℕ)) → gcm_open key iv aad sealed tag ≡ o
+    → is_none o ≡ false → Opened o sealed
 gcm_opened key iv aad sealed tag o e some =
     by (bytes_eq tag (tag_of key iv aad sealed)) o e some
   where
-    by : (b : Bool) (o : Option (List ℕ)) → (if b then Some (gctr key iv sealed) else None) ≡ o → is_none o ≡ false → Opened o sealed
+    by : (b : Bool) (o : Option (List ℕ)) → (if b then Some (gctr key iv sealed) else None) ≡ o → is_none o ≡ false
+        → Opened o sealed
     by true o e some = record { text = gctr key iv sealed; is = sym e; same = length-gctr key iv sealed }
     by false o e some = absurd (let none : true ≡ false = ap is_none e ∙ some in cc)
 
@@ -139,7 +152,8 @@ not_mapped : {A B : Type 0} (f : A → B) (o : Option A) → option_map f o ≡ 
 not_mapped f None none = refl
 not_mapped f (Some x) none = absurd cc
 
-load_allowed : (state : State) (text : Option (List ℕ)) (sealed : List ℕ) → Any IsActiveMaster state.keys → Opened text sealed → 0 < length sealed
+load_allowed : (state : State) (text : Option (List ℕ)) (sealed : List ℕ) → Any IsActiveMaster state.keys
+    → Opened text sealed → 0 < length sealed
     → first_told (text_checks state text) ≡ None → AllowsLoad state (items_of text)
 load_allowed state text sealed master is some none =
     let items_check = option_map BadItems (option_and_then (items_fault 8 0) text) in
@@ -148,7 +162,8 @@ load_allowed state text sealed master is some none =
     let checks = passed_both items_check (book_check ∷ []) behind in
     let book = (passed_both book_check [] checks.1).0 in
     let right : items_fault 8 0 is.text ≡ None =
-    sym (ap (λ (o : Option (List ℕ)). option_and_then (items_fault 8 0) o) is.is) ∙ not_mapped BadItems (option_and_then (items_fault 8 0) text) checks.0 in
+    sym (ap (λ (o : Option (List ℕ)). option_and_then (items_fault 8 0) o) is.is)
+    ∙ not_mapped BadItems (option_and_then (items_fault 8 0) text) checks.0 in
     let long : 0 < length is.text = omega (arith, is.same) in
     let items : items_of text ≡ items_in 8 is.text = ap items_of is.is in
     record {
@@ -157,7 +172,8 @@ load_allowed state text sealed master is some none =
         least = omega (arith, ap length items, items_least 7 0 is.text long right);
         most = omega (arith, ap length items, items_most 8 0 is.text right);
       };
-      each = each_of IsSessionKey (items_of text) (subst (AllByRecursion IsSessionKey) (sym items) (session_items 8 0 is.text right));
+      each = each_of IsSessionKey (items_of text)
+          (subst (AllByRecursion IsSessionKey) (sym items) (session_items 8 0 is.text right));
       book = keys_free _ (told_load state.keys (items_of text)) book;
     }
 
@@ -172,16 +188,22 @@ active_of Active none = refl
 active_of Deactivated none = absurd cc
 active_of Destroyed none = absurd cc
 
-master_there : (state : State) (master : ℕ) (row : Option KeyRow) → key_row state master ≡ row → unless_known master row ≡ None
+master_there : (state : State) (master : ℕ) (row : Option KeyRow) → key_row state master ≡ row
+    → unless_known master row ≡ None
     → fails_if (not (is_master (class_of master))) (NotMaster master) ≡ None → by_state unless_active row ≡ None
     → Any IsActiveMaster state.keys
 master_there state master None there known class active = absurd cc
 master_there state master (Some held) there known class active =
-    let same = equal_number held.id master (found_passes (λ (row : KeyRow). nat_eq row.id master) state.keys held there) in
+    let same =
+    equal_number held.id master (found_passes (λ (row : KeyRow). nat_eq row.id master) state.keys held there) in
     found_there IsActiveMaster (λ (row : KeyRow). nat_eq row.id master) state.keys held there
-    (record { class = ap class_of same ∙ master_of (class_of master) master class; state = active_of held.state active })
+    (record {
+      class = ap class_of same ∙ master_of (class_of master) master class;
+      state = active_of held.state active;
+    })
 
-active_master : (state : State) (master : ℕ) → first_told (master_checks state master) ≡ None → Any IsActiveMaster state.keys
+active_master : (state : State) (master : ℕ) → first_told (master_checks state master) ≡ None
+    → Any IsActiveMaster state.keys
 active_master state master none =
     let class = fails_if (not (is_master (class_of master))) (NotMaster master) in
     let active = by_state unless_active (key_row state master) in
@@ -198,8 +220,11 @@ rekeying_allowed state master vector sealed tag long known none =
     let text = opened state master vector sealed tag in
     let items_check = option_map BadItems (option_and_then (items_fault 8 0) text) in
     let book_check = from_keys (load_refusal state.keys (items_of text)) in
-    let some = there_is text BadTag (passed_both (fails_if (is_none text) BadTag) (items_check ∷ book_check ∷ []) none).0 in
-    load_allowed state text sealed (active_master state master known) (opened_text (key_row state master) vector (front master (length sealed)) sealed tag some) (omega (arith, long)) none
+    let some =
+    there_is text BadTag (passed_both (fails_if (is_none text) BadTag) (items_check ∷ book_check ∷ []) none).0 in
+    load_allowed state text sealed (active_master state master known)
+    (opened_text (key_row state master) vector (front master (length sealed)) sealed tag some) (omega (arith, long))
+    none
 
 -- ---- keys that take a state
 
@@ -219,8 +244,10 @@ is_word (seen.Word word) is = is
 is_word (seen.Number number) is = absurd is
 is_word (seen.Exhausted number) is = absurd is
 
-word_seen : (state : State) (command : Command) (s : Seen) (key number : ℕ) (o : Option Refusal) → refusal_of state command seen.Nothing ≡ o
-    → MeetsNeed state (if is_some o then needs.Nothing else needs.Raise key number) s → refusal_of state command s ≡ None → 1 ≤ word_of s
+word_seen : (state : State) (command : Command) (s : Seen) (key number : ℕ) (o : Option Refusal)
+    → refusal_of state command seen.Nothing ≡ o
+    → MeetsNeed state (if is_some o then needs.Nothing else needs.Raise key number) s
+    → refusal_of state command s ≡ None → 1 ≤ word_of s
 word_seen state command s key number None e fits none = is_word s fits
 word_seen state command s key number (Some refusal) e fits none =
     absurd (let wrong : Some refusal ≡ None = sym e ∙ sym (ap (refusal_of state command) fits) ∙ none in cc)
@@ -243,16 +270,20 @@ unkeyed Operational none = absurd cc
 
 -- the word behind a sending association that takes a key
 rekey_word : (state : State) (spi key number : ℕ) (s : Seen) (b : Bool) → b ≡ true
-    → MeetsNeed state (if is_some (refusal_of state (Rekey spi key number) seen.Nothing) then needs.Nothing else (if b then needs.Raise key number else needs.Nothing)) s
+    → MeetsNeed state (if is_some (refusal_of state (Rekey spi key number) seen.Nothing) then needs.Nothing
+    else (if b then needs.Raise key number else needs.Nothing)) s
     → refusal_of state (Rekey spi key number) s ≡ None → 1 ≤ word_of s
-rekey_word state spi key number s true sends fits none = word_seen state (Rekey spi key number) s key number _ refl fits none
+rekey_word state spi key number s true sends fits none =
+    word_seen state (Rekey spi key number) s key number _ refl fits none
 rekey_word state spi key number s false sends fits none = absurd cc
 
-sends_with : (state : State) (spi : ℕ) (row : SaRow) → association_row state spi ≡ Some row → row.direction ≡ Send → sends state spi ≡ true
+sends_with : (state : State) (spi : ℕ) (row : SaRow) → association_row state spi ≡ Some row → row.direction ≡ Send
+    → sends state spi ≡ true
 sends_with state spi row e send =
     ap (λ (o : Option SaRow). option_map_or (λ (row : SaRow). is_sending row.direction) o false) e ∙ ap is_sending send
 
-rekey_allowed : (state : State) (spi key number : ℕ) (s : Seen) → MeetsNeed state (need_of state (Rekey spi key number)) s
+rekey_allowed : (state : State) (spi key number : ℕ) (s : Seen)
+    → MeetsNeed state (need_of state (Rekey spi key number)) s
     → refusal_of state (Rekey spi key number) s ≡ None → AllowsRekey state spi key number
 rekey_allowed state spi key number s fits none =
     let free_check = from_associations spi None (unless_free state spi) in
@@ -264,23 +295,30 @@ rekey_allowed state spi key number s fits none =
     (associations_free spi None (unless_free state spi) (tells_free None (association_row state spi)) one.0) in
     let t = some_there (key_row state key) (known_key key (key_row state key) known) in
     let takes : taking_refusal state spi key number (word_of s) at.row t.row ≡ None =
-    associations_free spi (Some key) _ (tells_rekey state.associations spi key t.row.state number (least_with (word_of s) at.row.direction t.row))
-    (sym (rekey_told state spi key number (word_of s) at.row t.row at.there (unkeyed at.row.state at.free) t.is) ∙ none) in
+    associations_free spi (Some key)
+    _ (tells_rekey state.associations spi key t.row.state number (least_with (word_of s) at.row.direction t.row))
+    (sym (rekey_told state spi key number (word_of s) at.row t.row at.there (unkeyed at.row.state at.free) t.is)
+    ∙ none) in
     let least = least_below at.row.direction t.row (word_of s)
-    (λ send. rekey_word state spi key number s (sends state spi) (sends_with state spi at.row at.there send) fits none) in
+    (λ send. rekey_word state spi key number s (sends state spi) (sends_with state spi at.row at.there send) fits
+    none) in
     some_and _ at.row _ at.there
     (some_and _ t.row _ t.is
-    (rekey_weaker state.associations spi key t.row.state number (least_with 1 at.row.direction t.row) (least_with (word_of s) at.row.direction t.row) least takes))
+    (rekey_weaker state.associations spi key t.row.state number (least_with 1 at.row.direction t.row)
+    (least_with (word_of s) at.row.direction t.row) least takes))
 
 -- ---- a number for an association
 
 number_word : (state : State) (spi number : ℕ) (s : Seen) (o : Option ℕ) → IsSome o
-    → MeetsNeed state (if is_some (refusal_of state (SetNumber spi number) seen.Nothing) then needs.Nothing else option_map_or (λ key. needs.Raise key number) o needs.Nothing) s
+    → MeetsNeed state (if is_some (refusal_of state (SetNumber spi number) seen.Nothing) then needs.Nothing
+    else option_map_or (λ key. needs.Raise key number) o needs.Nothing) s
     → refusal_of state (SetNumber spi number) s ≡ None → 1 ≤ word_of s
 number_word state spi number s None some fits none = absurd cc
-number_word state spi number s (Some key) some fits none = word_seen state (SetNumber spi number) s key number _ refl fits none
+number_word state spi number s (Some key) some fits none =
+    word_seen state (SetNumber spi number) s key number _ refl fits none
 
-sends_key : (state : State) (spi key : ℕ) (row : SaRow) → association_row state spi ≡ Some row → row.key ≡ Some key → row.direction ≡ Send
+sends_key : (state : State) (spi key : ℕ) (row : SaRow) → association_row state spi ≡ Some row → row.key ≡ Some key
+    → row.direction ≡ Send
     → sending_key state spi ≡ Some key
 sends_key state spi key row e holds send =
     ap (λ (o : Option SaRow). option_and_then sending_key_of o) e
@@ -292,14 +330,17 @@ has_key row None is e none =
     let wrong : if_unkeyed Unkeyed ≡ None = sym (ap if_unkeyed state) ∙ none in cc)
 has_key row (Some key) is e none = refl
 
-least_is : (state : State) (spi key word : ℕ) (row : SaRow) (held : KeyRow) → association_row state spi ≡ Some row → row.key ≡ Some key
+least_is : (state : State) (spi key word : ℕ) (row : SaRow) (held : KeyRow) → association_row state spi ≡ Some row
+    → row.key ≡ Some key
     → key_row state key ≡ Some held → least_at state spi word ≡ least_with word row.direction held
 least_is state spi key word row held e holds is =
     ap (λ (o : Option SaRow). option_map_or (least_of state word) o word) e
-    ∙ ap (λ (o : Option ℕ). option_map_or (least_with word row.direction) (option_and_then (key_row state) o) word) holds
+    ∙ ap (λ (o : Option ℕ). option_map_or (least_with word row.direction) (option_and_then (key_row state) o) word)
+    holds
     ∙ ap (λ (o : Option KeyRow). option_map_or (least_with word row.direction) o word) is
 
-number_allowed : (state : State) (spi number : ℕ) (s : Seen) → KeepsRules state → MeetsNeed state (need_of state (SetNumber spi number)) s
+number_allowed : (state : State) (spi number : ℕ) (s : Seen) → KeepsRules state
+    → MeetsNeed state (need_of state (SetNumber spi number)) s
     → refusal_of state (SetNumber spi number) s ≡ None → AllowsNumber state spi number
 number_allowed state spi number s rules fits none =
     let least : ℕ = least_at state spi (word_of s) in
@@ -311,7 +352,8 @@ number_allowed state spi number s rules fits none =
     let keyed = (passed_both (if_unkeyed row.state) (number_refusal_of row.key number least ∷ []) at.free).0 in
     let k = some_there row.key (has_key row row.key (row_rules state spi row rules at.there) refl keyed) in
     let has : HasKey state.keys row = found (HasKey state.keys) _ state.associations row at.there rules.held in
-    let t = there (key_row state k.row) (MayHold row) (subst (λ (o : Option ℕ). IfSome o (λ key. IsSomeAnd (key_row state key) (MayHold row))) k.is has) in
+    let t = there (key_row state k.row) (MayHold row)
+    (subst (λ (o : Option ℕ). IfSome o (λ key. IsSomeAnd (key_row state key) (MayHold row))) k.is has) in
     let below = least_below row.direction t.row (word_of s)
     (λ send. number_word state spi number s (sending_key state spi)
     (subst IsSome (sym (sends_key state spi k.row row at.there k.is send)) refl) fits none) in
@@ -328,23 +370,30 @@ record Free (state : State) (command : Command) (s : Seen) (step : Change × Rep
   told : refusal_of state command s ≡ None
   is : IsDone state command s step
 
-step_free : (state : State) (command : Command) (s : Seen) (step : Change × Reply) (o : Option Refusal) → refusal_of state command s ≡ o
-    → MatchOption o (IsDone state command s step) (λ refusal. step ≡ refused refusal) → step.0 ≢ changes.Nothing → Free state command s step
+step_free : (state : State) (command : Command) (s : Seen) (step : Change × Reply) (o : Option Refusal)
+    → refusal_of state command s ≡ o
+    → MatchOption o (IsDone state command s step) (λ refusal. step ≡ refused refusal) → step.0 ≢ changes.Nothing
+    → Free state command s step
 step_free state command s step None e is some = record { told = e; is = is }
 step_free state command s step (Some refusal) e is some = absurd (some (ap (λ (step : Change × Reply). step.0) is))
 
 -- a step whose change is known
-with_change : (state : State) (change : Change) (pdu : ReplyPdu) (step : Change × Reply) → step ≡ done change pdu → Allows state change → Allows state step.0
-with_change state change pdu step is allowed = subst (Allows state) (sym (ap (λ (step : Change × Reply). step.0) is)) allowed
+with_change : (state : State) (change : Change) (pdu : ReplyPdu) (step : Change × Reply) → step ≡ done change pdu
+    → Allows state change → Allows state step.0
+with_change state change pdu step is allowed =
+    subst (Allows state) (sym (ap (λ (step : Change × Reply). step.0) is)) allowed
 
 -- or that changes nothing
-no_change : {A : Type 0} (o : Option A) (step : Change × Reply) (made : A → Change × Reply) → ((x : A) → (made x).0 ≡ changes.Nothing)
+no_change : {A : Type 0} (o : Option A) (step : Change × Reply) (made : A → Change × Reply)
+    → ((x : A) → (made x).0 ≡ changes.Nothing)
     → IsSomeAnd o (λ x. step ≡ made x) → step.0 ≡ changes.Nothing
 no_change None step made nothing is = absurd is
 no_change (Some x) step made nothing is = ap (λ (step : Change × Reply). step.0) is ∙ nothing x
 
-done_allowed : (state : State) (command : Command) (s : Seen) (step : Change × Reply) → KeepsRules state → IsInBounds command
-    → MeetsNeed state (need_of state command) s → refusal_of state command s ≡ None → IsDone state command s step → step.0 ≢ changes.Nothing
+done_allowed : (state : State) (command : Command) (s : Seen) (step : Change × Reply) → KeepsRules state
+    → IsInBounds command
+    → MeetsNeed state (need_of state command) s → refusal_of state command s ≡ None → IsDone state command s step
+    → step.0 ≢ changes.Nothing
     → Allows state step.0
 unfolding IsInBounds
 done_allowed state (Rekeying master vector sealed tag) s step rules bounds fits none is some =
@@ -396,14 +445,17 @@ done_allowed state (Stop spi) s step rules bounds fits none is some =
 done_allowed state (Status spi) s step rules bounds fits none is some =
     absurd (some (no_change (association_row state spi) step _ (λ _. refl) is))
 
-some_allowed : (state : State) (command : Command) (s : Seen) (step : Change × Reply) → KeepsRules state → IsInBounds command
-    → MeetsNeed state (need_of state command) s → IsStep state command s step → step.0 ≢ changes.Nothing → Allows state step.0
+some_allowed : (state : State) (command : Command) (s : Seen) (step : Change × Reply) → KeepsRules state
+    → IsInBounds command
+    → MeetsNeed state (need_of state command) s → IsStep state command s step → step.0 ≢ changes.Nothing
+    → Allows state step.0
 some_allowed state command s step rules bounds fits is some =
     let free = step_free state command s step (refusal_of state command s) refl is some in
     done_allowed state command s step rules bounds fits free.told free.is some
 
 -- nothing is allowed always
-allowed_always : (state : State) (change : Change) → (change ≢ changes.Nothing → Allows state change) → Allows state change
+allowed_always : (state : State) (change : Change) → (change ≢ changes.Nothing → Allows state change)
+    → Allows state change
 allowed_always state (changes.Marks key mark floor) some = some (λ e. absurd (cc))
 allowed_always state (changes.Load items) some = some (λ e. absurd (cc))
 allowed_always state (changes.KeyStates ids to) some = some (λ e. absurd (cc))
@@ -415,7 +467,8 @@ allowed_always state (changes.SetWindow spi window) some = some (λ e. absurd (c
 allowed_always state (changes.Accepted spi key number floor) some = some (λ e. absurd (cc))
 allowed_always state changes.Nothing some = tt
 
-pub change_allowed : (state : State) (command : Command) (s : Seen) (step : Change × Reply) → KeepsRules state → IsInBounds command
+pub change_allowed : (state : State) (command : Command) (s : Seen) (step : Change × Reply) → KeepsRules state
+    → IsInBounds command
     → MeetsNeed state (need_of state command) s → IsStep state command s step → Allows state step.0
 change_allowed state command s step rules bounds fits is =
     allowed_always state step.0 (some_allowed state command s step rules bounds fits is)

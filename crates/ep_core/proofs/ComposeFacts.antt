@@ -1,5 +1,6 @@
 -- The keys that are sealed for another unit: each has its octets, and all of them the length of a sealed text.
-use Rattle.std.proofs.Common.{◌≡◌, ℕ, ◌+◌, ◌*◌, ◌≤◌, not, List, [], ◌∷◌, ◌++◌, length, Option, Some, None, refl, sym, ap, ◌∙◌, arith, length-append}
+use Rattle.std.proofs.Common.{◌≡◌, ℕ, ◌+◌, ◌*◌, ◌≤◌, not, List, [], ◌∷◌, ◌++◌, length, Option, Some, None, refl, sym}
+use Rattle.std.proofs.Common.{ap, ◌∙◌, arith, length-append}
 use Rattle.std.specs.List.{flat_map}
 use Rattle.std.specs.Option.{option_or}
 use Rattle.sdls_base.specs.Bounds.{IsKeyLength}
@@ -13,7 +14,8 @@ use Rattle.unit_state.specs.declared.state.State.{State}
 use Rattle.unit_state.specs.State.{KeepsRules, key_row}
 use Rattle.unit_state.proofs.Found.{held_rules}
 use Rattle.ep_core.specs.declared.refusal.Refusal.TheVariants.{NotMaster, NotSession}
-use Rattle.ep_core.specs.Refusals.{by_state, unless_active, if_destroyed, unless_known, is_master, master_checks, session_checks}
+use Rattle.ep_core.specs.Refusals.{by_state, unless_active, if_destroyed, unless_known, is_master, master_checks}
+use Rattle.ep_core.specs.Refusals.{session_checks}
 use Rattle.sdls_base.specs.Spelling.{item_octets}
 use Rattle.ep_core.specs.Step.{octets_of, clear_text}
 use Rattle.ep_core.proofs.Checks.{told_append}
@@ -36,16 +38,19 @@ most_32 Active bytes digest has = grind arith
 most_32 Deactivated bytes digest has = grind arith
 most_32 Destroyed bytes digest has = omega (arith, ap length has)
 
-pub bytes_most : (state : State) (key : ℕ) (held : KeyRow) → KeepsRules state → key_row state key ≡ Some held → length held.bytes ≤ 32
+pub bytes_most : (state : State) (key : ℕ) (held : KeyRow) → KeepsRules state → key_row state key ≡ Some held
+    → length held.bytes ≤ 32
 bytes_most state key held rules e = most_32 held.state held.bytes held.digest (held_rules state key held rules e).bytes
 
-active_length : (state : KeyState) (bytes digest : List ℕ) → HasBytes state bytes digest → unless_active state ≡ None → IsKeyLength (length bytes)
+active_length : (state : KeyState) (bytes digest : List ℕ) → HasBytes state bytes digest → unless_active state ≡ None
+    → IsKeyLength (length bytes)
 active_length PreActive bytes digest has none = has.0
 active_length Active bytes digest has none = has.0
 active_length Deactivated bytes digest has none = has.0
 active_length Destroyed bytes digest has none = absurd cc
 
-kept_length : (state : KeyState) (bytes digest : List ℕ) → HasBytes state bytes digest → if_destroyed state ≡ None → IsKeyLength (length bytes)
+kept_length : (state : KeyState) (bytes digest : List ℕ) → HasBytes state bytes digest → if_destroyed state ≡ None
+    → IsKeyLength (length bytes)
 kept_length PreActive bytes digest has none = has.0
 kept_length Active bytes digest has none = has.0
 kept_length Deactivated bytes digest has none = has.0
@@ -84,16 +89,19 @@ pub record IsLong (count : ℕ) (text : List ℕ) : Type 0 where
   pub least : 19 * count ≤ length text
   pub most : length text ≤ 35 * count
 
-longer : (count n : ℕ) (item text : List ℕ) → IsKeyLength n → length item ≡ 3 + n → IsLong count text → IsLong (1 + count) (item ++ text)
+longer : (count n : ℕ) (item text : List ℕ) → IsKeyLength n → length item ≡ 3 + n → IsLong count text
+    → IsLong (1 + count) (item ++ text)
 longer count n item text is e long =
     record { least = grind (arith, length-append item text); most = grind (arith, length-append item text) }
 
-pub clear_length : (state : State) (keys : List ℕ) → KeepsRules state → first_told (flat_map (session_checks state) keys) ≡ None
+pub clear_length : (state : State) (keys : List ℕ) → KeepsRules state
+    → first_told (flat_map (session_checks state) keys) ≡ None
     → IsLong (length keys) (clear_text state keys)
 clear_length state [] rules none = record { least = omega arith; most = omega arith }
 clear_length state (key ∷ keys) rules none =
     let both = none_append (session_checks state key) (flat_map (session_checks state) keys) none in
     let item = item_octets (record { id = key; bytes = octets_of state key }) in
     let long = longer (length keys) (length (octets_of state key)) item (clear_text state keys)
-    (session_length state key (key_row state key) rules refl both.0) (omega arith) (clear_length state keys rules both.1) in
+    (session_length state key (key_row state key) rules refl both.0) (omega arith)
+    (clear_length state keys rules both.1) in
     record { least = omega arith; most = omega arith }

@@ -1,5 +1,6 @@
 -- What no book refuses: its refusals but lack of memory are told, so that nothing told is nothing refused.
-use Rattle.std.proofs.Common.{◌≡◌, ℕ, ◌+◌, ◌≤◌, length, Bool, true, false, not, nat_lt, nat_le, List, [], ◌∷◌, ◌++◌, Option, Some, None, IsSome, refl, sym, ap, ◌∙◌, arith}
+use Rattle.std.proofs.Common.{◌≡◌, ℕ, ◌+◌, ◌≤◌, length, Bool, true, false, not, nat_lt, nat_le, List, [], ◌∷◌, ◌++◌}
+use Rattle.std.proofs.Common.{Option, Some, None, IsSome, refl, sym, ap, ◌∙◌, arith}
 use Rattle.std.specs.Prelude.{⊤, is_some}
 use Rattle.std.specs.List.{AllByRecursion}
 use Rattle.std.specs.Option.{option_map, option_map_or, option_or}
@@ -29,7 +30,8 @@ use Rattle.sa_book.specs.declared.sa_refusal.SaRefusal.TheVariants as sa_book
 use Rattle.sa_book.specs.declared.sa_row.SaRow.{SaRow}
 use Rattle.sa_book.specs.SaBook.{row_of as found_row}
 use Rattle.sa_book.specs.SaRefusal as rows
-use Rattle.sa_book.specs.SaRefusal.{on_row, number_refusal, number_refusal_of, create_refusal, rekey_refusal, set_number_refusal}
+use Rattle.sa_book.specs.SaRefusal.{on_row, number_refusal, number_refusal_of, create_refusal, rekey_refusal}
+use Rattle.sa_book.specs.SaRefusal.{set_number_refusal}
 use Rattle.ep_core.specs.Refusals.{from_keys, from_associations}
 use Rattle.ep_core.proofs.Checks.{one_told}
 
@@ -72,7 +74,8 @@ told_items keys (item ∷ items) =
 pub told_load : (keys : List KeyRow) (items : List KeyItem) → IsTold (load_refusal keys items)
 told_load keys items =
     let full = nat_lt MOST_KEYS (length keys + length items) in
-    told_or (items_refusal keys items) (fails_if full key_book.BookFull) (told_items keys items) (told_if full key_book.BookFull tt)
+    told_or (items_refusal keys items) (fails_if full key_book.BookFull) (told_items keys items)
+    (told_if full key_book.BookFull tt)
 
 told_use : (to : KeyState) (holder : Option ℕ) → IsTold (moves.in_use_refusal to holder)
 told_use PreActive holder = tt
@@ -82,14 +85,16 @@ told_use Deactivated (Some spi) = tt
 told_use Destroyed holder = tt
 
 told_move : (row : Option KeyRow) (id : ℕ) (to : KeyState) (holder : Option ℕ)
-    → IsTold (option_map_or (λ (row : KeyRow). moves.state_refusal row.state to holder) row (Some (key_book.UnknownKey id)))
+    → IsTold (option_map_or (λ (row : KeyRow). moves.state_refusal row.state to holder) row
+    (Some (key_book.UnknownKey id)))
 told_move None id to holder = tt
 told_move (Some row) id to holder =
     let other = not (moves.is_next row.state to) in
     told_or (fails_if other (key_book.WrongState row.state)) (moves.in_use_refusal to holder)
     (told_if other (key_book.WrongState row.state) tt) (told_use to holder)
 
-pub told_moves : (keys : List KeyRow) (ids : List ℕ) (to : KeyState) (held : List (ℕ × ℕ)) → IsTold (moves_refusal keys ids to held)
+pub told_moves : (keys : List KeyRow) (ids : List ℕ) (to : KeyState) (held : List (ℕ × ℕ))
+    → IsTold (moves_refusal keys ids to held)
 told_moves keys [] to held = tt
 told_moves keys (id ∷ ids) to held =
     told_or (moves.move_refusal keys id to held) (moves_refusal (moved keys (id ∷ []) to) ids to held)
@@ -139,7 +144,8 @@ associations_free spi key (Some (sa_book.UnknownChannel channel)) tells none = a
 associations_free spi key (Some (sa_book.KeyTaken other)) tells none = absurd cc
 associations_free spi key (Some sa_book.NoMemory) tells none = absurd tells
 
-tells_first : (key : Option ℕ) (checks : List (Option SaRefusal)) → AllByRecursion (Tells key) checks → Tells key (first_told checks)
+tells_first : (key : Option ℕ) (checks : List (Option SaRefusal)) → AllByRecursion (Tells key) checks
+    → Tells key (first_told checks)
 tells_first key [] each = tt
 tells_first key (None ∷ checks) each = tells_first key checks each.1
 tells_first key (Some refusal ∷ checks) each = each.0
@@ -148,11 +154,13 @@ tells_if : (key : Option ℕ) (b : Bool) (refusal : SaRefusal) → Tells key (So
 tells_if key true refusal tells = tells
 tells_if key false refusal tells = tt
 
-tells_row : (key : Option ℕ) (row : Option SaRow) (f : SaRow → Option SaRefusal) → ((row : SaRow) → Tells key (f row)) → Tells key (on_row row f)
+tells_row : (key : Option ℕ) (row : Option SaRow) (f : SaRow → Option SaRefusal) → ((row : SaRow) → Tells key (f row))
+    → Tells key (on_row row f)
 tells_row key None f each = tt
 tells_row key (Some row) f each = each row
 
-tells_map : {X : Type 0} (key : Option ℕ) (f : X → SaRefusal) (x : Option X) → ((x : X) → Tells key (Some (f x))) → Tells key (option_map f x)
+tells_map : {X : Type 0} (key : Option ℕ) (f : X → SaRefusal) (x : Option X) → ((x : X) → Tells key (Some (f x)))
+    → Tells key (option_map f x)
 tells_map key f None each = tt
 tells_map key f (Some x) each = each x
 
@@ -182,7 +190,8 @@ tells_active key Active = tt
 tells_active key Deactivated = tt
 tells_active key Destroyed = tt
 
-tells_taken : (key : Option ℕ) (direction : Direction) (holder : Option SaRow) → Tells key (rows.taken_key direction holder)
+tells_taken : (key : Option ℕ) (direction : Direction) (holder : Option SaRow)
+    → Tells key (rows.taken_key direction holder)
 tells_taken key Send holder = tt
 tells_taken key Receive holder = tells_map key (λ (other : SaRow). sa_book.KeyTaken other.spi) holder (λ _. tt)
 
@@ -190,7 +199,10 @@ tells_number : (key : Option ℕ) (held number floor : ℕ) → Tells key (numbe
 tells_number key held number floor =
     let past = fails_if (nat_le (end_of held) number) (sa_book.PastEnd (end_of held)) in
     let below = fails_if (nat_lt number floor) (sa_book.BelowFloor floor) in
-    tells_first key (past ∷ below ∷ []) (tells_if key _ (sa_book.PastEnd (end_of held)) tt, (tells_if key _ (sa_book.BelowFloor floor) tt, tt))
+    tells_first key (past ∷ below ∷ []) (
+      tells_if key _ (sa_book.PastEnd (end_of held)) tt,
+      (tells_if key _ (sa_book.BelowFloor floor) tt, tt),
+    )
 
 tells_number_of : (key held : Option ℕ) (number floor : ℕ) → Tells key (number_refusal_of held number floor)
 tells_number_of key None number floor = tt
@@ -199,35 +211,46 @@ tells_number_of key (Some held) number floor = tells_number key held number floo
 pub tells_free : (key : Option ℕ) (row : Option SaRow) → Tells key (on_row row (λ row. rows.unless_unkeyed row.state))
 tells_free key row = tells_row key row (λ row. rows.unless_unkeyed row.state) (λ row. tells_unkeyed key row.state)
 
-pub tells_create : (associations : List SaRow) (new : NewSa) (known : List ℕ) → Tells None (create_refusal associations new known)
+pub tells_create : (associations : List SaRow) (new : NewSa) (known : List ℕ)
+    → Tells None (create_refusal associations new known)
 tells_create associations new known =
     let unknown = rows.first_unknown new.channels known in
     let taken = is_some (found_row associations new.spi) in
     let full = nat_le MOST_ASSOCIATIONS (length associations) in
-    tells_first None (fails_if taken sa_book.SpiTaken ∷ option_map sa_book.UnknownChannel unknown ∷ fails_if full sa_book.TableFull ∷ [])
-    (tells_if None taken sa_book.SpiTaken tt, (tells_map None sa_book.UnknownChannel unknown (λ _. tt), (tells_if None full sa_book.TableFull tt, tt)))
+    tells_first None (fails_if taken sa_book.SpiTaken ∷ option_map sa_book.UnknownChannel unknown
+    ∷ fails_if full sa_book.TableFull ∷ []) (
+      tells_if None taken sa_book.SpiTaken tt,
+      (tells_map None sa_book.UnknownChannel unknown (λ _. tt), (tells_if None full sa_book.TableFull tt, tt)),
+    )
 
-pub tells_rekey : (associations : List SaRow) (spi key : ℕ) (state : KeyState) (number floor : ℕ) → Tells (Some key) (rekey_refusal associations spi key state number floor)
+pub tells_rekey : (associations : List SaRow) (spi key : ℕ) (state : KeyState) (number floor : ℕ)
+    → Tells (Some key) (rekey_refusal associations spi key state number floor)
 tells_rekey associations spi key state number floor =
     tells_row (Some key) (found_row associations spi) (λ row. rows.key_refusal associations row key state number floor)
     (λ row.
     let other = not (rows.is_same_class (class_of key) (class_of_suite row.suite)) in
     let taken = rows.taken_key row.direction (rows.receiver_with associations key) in
     tells_first (Some key)
-    (rows.unless_unkeyed row.state ∷ fails_if other sa_book.WrongSuite ∷ rows.unless_active state ∷ taken ∷ number_refusal key number floor ∷ []) (
+    (rows.unless_unkeyed row.state ∷ fails_if other sa_book.WrongSuite ∷ rows.unless_active state ∷ taken
+    ∷ number_refusal key number floor ∷ []) (
       tells_unkeyed (Some key) row.state,
       (
         tells_if (Some key) other sa_book.WrongSuite refl,
         (
           tells_active (Some key) state,
-          (tells_taken (Some key) row.direction (rows.receiver_with associations key), (tells_number (Some key) key number floor, tt)),
+          (
+            tells_taken (Some key) row.direction (rows.receiver_with associations key),
+            (tells_number (Some key) key number floor, tt),
+          ),
         ),
       ),
     ))
 
-pub tells_set_number : (associations : List SaRow) (spi number floor : ℕ) → Tells None (set_number_refusal associations spi number floor)
+pub tells_set_number : (associations : List SaRow) (spi number floor : ℕ)
+    → Tells None (set_number_refusal associations spi number floor)
 tells_set_number associations spi number floor =
-    tells_row None (found_row associations spi) (λ row. first_told (rows.if_unkeyed row.state ∷ number_refusal_of row.key number floor ∷ []))
+    tells_row None (found_row associations spi)
+    (λ row. first_told (rows.if_unkeyed row.state ∷ number_refusal_of row.key number floor ∷ []))
     (λ row. tells_first None (rows.if_unkeyed row.state ∷ number_refusal_of row.key number floor ∷ [])
     (tells_some_key None row.state, (tells_number_of None row.key number floor, tt)))
 
@@ -235,12 +258,18 @@ pub tells_start : (associations : List SaRow) (spi : ℕ) → Tells None (rows.s
 tells_start associations spi =
     tells_row None (found_row associations spi)
     (λ row. first_told (rows.unless_keyed row.state ∷ rows.taken_channel (rows.rival_of associations row) ∷ []))
-    (λ row. tells_first None (rows.unless_keyed row.state ∷ rows.taken_channel (rows.rival_of associations row) ∷ [])
-    (tells_keyed None row.state, (tells_map None (λ (other : SaRow). sa_book.ChannelTaken other.spi) (rows.rival_of associations row) (λ _. tt), tt)))
+    (λ row. tells_first None (rows.unless_keyed row.state ∷ rows.taken_channel (rows.rival_of associations row) ∷ []) (
+      tells_keyed None row.state,
+      (
+        tells_map None (λ (other : SaRow). sa_book.ChannelTaken other.spi) (rows.rival_of associations row) (λ _. tt),
+        tt,
+      ),
+    ))
 
 pub tells_stop : (associations : List SaRow) (spi : ℕ) → Tells None (rows.stop_refusal associations spi)
 tells_stop associations spi =
-    tells_row None (found_row associations spi) (λ row. rows.unless_operational row.state) (λ row. tells_operational None row.state)
+    tells_row None (found_row associations spi) (λ row. rows.unless_operational row.state)
+    (λ row. tells_operational None row.state)
 
 pub tells_expire : (associations : List SaRow) (spi : ℕ) → Tells None (rows.expire_refusal associations spi)
 tells_expire associations spi =
@@ -251,13 +280,15 @@ tells_window associations spi = tells_row None (found_row associations spi) (λ 
 
 -- ---- a number that is not below some least one is not below a lower one
 
-told_weaker : {A : Type 0} (front : List (Option A)) (x y : Option A) → (x ≡ None → y ≡ None) → first_told (front ++ x ∷ []) ≡ None
+told_weaker : {A : Type 0} (front : List (Option A)) (x y : Option A) → (x ≡ None → y ≡ None)
+    → first_told (front ++ x ∷ []) ≡ None
     → first_told (front ++ y ∷ []) ≡ None
 told_weaker [] x y weaker none = one_told y ∙ weaker (sym (one_told x) ∙ none)
 told_weaker (None ∷ front) x y weaker none = told_weaker front x y weaker none
 told_weaker (Some told ∷ front) x y weaker none = absurd cc
 
-row_weaker : (row : Option SaRow) (f g : SaRow → Option SaRefusal) → ((row : SaRow) → f row ≡ None → g row ≡ None) → on_row row f ≡ None
+row_weaker : (row : Option SaRow) (f g : SaRow → Option SaRefusal) → ((row : SaRow) → f row ≡ None → g row ≡ None)
+    → on_row row f ≡ None
     → on_row row g ≡ None
 row_weaker None f g weaker none = absurd cc
 row_weaker (Some row) f g weaker none = weaker row none
@@ -273,7 +304,8 @@ below_weaker number low high le none =
     let test : nat_lt number low ≡ false = grind (arith, nat_tests) in
     ap (λ (b : Bool). fails_if b (sa_book.BelowFloor low)) test
 
-number_weaker : (key number low high : ℕ) → low ≤ high → number_refusal key number high ≡ None → number_refusal key number low ≡ None
+number_weaker : (key number low high : ℕ) → low ≤ high → number_refusal key number high ≡ None
+    → number_refusal key number low ≡ None
 number_weaker key number low high le none =
     told_weaker (fails_if (nat_le (end_of key) number) (sa_book.PastEnd (end_of key)) ∷ [])
     (fails_if (nat_lt number high) (sa_book.BelowFloor high)) (fails_if (nat_lt number low) (sa_book.BelowFloor low))
@@ -285,7 +317,8 @@ number_of_weaker None number low high le none = refl
 number_of_weaker (Some key) number low high le none = number_weaker key number low high le none
 
 pub rekey_weaker : (associations : List SaRow) (spi key : ℕ) (state : KeyState) (number low high : ℕ) → low ≤ high
-    → rekey_refusal associations spi key state number high ≡ None → rekey_refusal associations spi key state number low ≡ None
+    → rekey_refusal associations spi key state number high ≡ None → rekey_refusal associations spi key state number low
+    ≡ None
 rekey_weaker associations spi key state number low high le none =
     row_weaker (found_row associations spi) (λ row. rows.key_refusal associations row key state number high)
     (λ row. rows.key_refusal associations row key state number low)
@@ -294,12 +327,15 @@ rekey_weaker associations spi key state number low high le none =
     ∷ fails_if (not (rows.is_same_class (class_of key) (class_of_suite row.suite))) sa_book.WrongSuite
     ∷ rows.unless_active state
     ∷ rows.taken_key row.direction (rows.receiver_with associations key)
-    ∷ []) (number_refusal key number high) (number_refusal key number low) (number_weaker key number low high le) free) none
+    ∷ []) (number_refusal key number high) (number_refusal key number low) (number_weaker key number low high le) free)
+    none
 
 pub set_number_weaker : (associations : List SaRow) (spi number low high : ℕ) → low ≤ high
     → set_number_refusal associations spi number high ≡ None → set_number_refusal associations spi number low ≡ None
 set_number_weaker associations spi number low high le none =
-    row_weaker (found_row associations spi) (λ row. first_told (rows.if_unkeyed row.state ∷ number_refusal_of row.key number high ∷ []))
+    row_weaker (found_row associations spi)
+    (λ row. first_told (rows.if_unkeyed row.state ∷ number_refusal_of row.key number high ∷ []))
     (λ row. first_told (rows.if_unkeyed row.state ∷ number_refusal_of row.key number low ∷ []))
-    (λ row free. told_weaker (rows.if_unkeyed row.state ∷ []) (number_refusal_of row.key number high) (number_refusal_of row.key number low)
+    (λ row free. told_weaker (rows.if_unkeyed row.state ∷ []) (number_refusal_of row.key number high)
+    (number_refusal_of row.key number low)
     (number_of_weaker row.key number low high le) free) none

@@ -10,5 +10,12 @@ pub message_front : (master : ℕ) (vector sealed tag : List ℕ) → length vec
 unfolding command_octets
 message_front master vector sealed tag v t =
     let octets : length (sealed_data master vector sealed tag) ≡ 2 + 12 + 16 + length sealed =
-    omega (arith, v, t, length-append (to_be_bytes w16 master) (vector ++ (sealed ++ tag)), length-append vector (sealed ++ tag), length-append sealed tag) in
+    omega (
+      arith,
+      v,
+      t,
+      length-append (to_be_bytes w16 master) (vector ++ (sealed ++ tag)),
+      length-append vector (sealed ++ tag),
+      length-append sealed tag,
+    ) in
     ap (λ (n : ℕ). take 5 (0x01 ∷ to_be_bytes w16 (8 * n) ++ sealed_data master vector sealed tag)) (sym octets)

@@ -1,5 +1,6 @@
 -- The items of a clear text, taken from its front.
-use Rattle.std.proofs.Common.{◌≡◌, ◌≢◌, ℕ, zero, suc, ◌+◌, ◌<◌, ◌≤◌, List, [], ◌∷◌, ◌++◌, length, get_or, drop, Option, Some, None, refl, sym, ap, ◌∙◌, arith, append_assoc, length-append, length-drop, ◌-◌}
+use Rattle.std.proofs.Common.{◌≡◌, ◌≢◌, ℕ, zero, suc, ◌+◌, ◌<◌, ◌≤◌, List, [], ◌∷◌, ◌++◌, length, get_or, drop, Option}
+use Rattle.std.proofs.Common.{Some, None, refl, sym, ap, ◌∙◌, arith, append_assoc, length-append, length-drop, ◌-◌}
 use Rattle.std.proofs.lemmas.List.{append-nil, drop_all, drop-drop}
 use Rattle.std.specs.Option.{option_or}
 use Rattle.std.proofs.lemmas.Bool.Decides.{nat_tests}
@@ -18,7 +19,8 @@ ninth left at [] e some = absurd (omega arith)
 ninth zero at (x ∷ s) e some = refl
 ninth (suc left) at (x ∷ s) e some = absurd (omega arith)
 
-pub here : (left at : ℕ) (s : List ℕ) (offset : ℕ) → 0 < left → 0 < length s → item_fault at s ≡ Some offset → items_fault left at s ≡ Some offset
+pub here : (left at : ℕ) (s : List ℕ) (offset : ℕ) → 0 < left → 0 < length s → item_fault at s ≡ Some offset
+    → items_fault left at s ≡ Some offset
 here zero at s offset more some fault = absurd (omega arith)
 here (suc left) at [] offset more some fault = absurd (omega arith)
 here (suc left) at (x ∷ s) offset more some fault =
@@ -36,17 +38,20 @@ later left k at (x ∷ s) e some none =
     ∙ ap (λ (n : ℕ). items_fault k (at + (3 + get_or s 1 0)) (drop n (x ∷ s))) behind
 
 -- where nothing is at fault, the item at the front is not, and there is room for it
-pub going : (left at : ℕ) (s : List ℕ) → 0 < length s → items_fault left at s ≡ None → (0 < left) × (item_fault at s ≡ None)
+pub going : (left at : ℕ) (s : List ℕ) → 0 < length s → items_fault left at s ≡ None
+    → (0 < left) × (item_fault at s ≡ None)
 going left at [] some none = absurd (omega arith)
 going zero at (x ∷ s) some none = absurd cc
 going (suc left) at (x ∷ s) some none = (omega arith, front (item_fault at (x ∷ s)) none)
   where
-    front : (o : Option ℕ) → option_or o (items_fault left (at + 3 + get_or s 1 0) (drop (2 + get_or s 1 0) s)) ≡ None → o ≡ None
+    front : (o : Option ℕ) → option_or o (items_fault left (at + 3 + get_or s 1 0) (drop (2 + get_or s 1 0) s)) ≡ None
+        → o ≡ None
     front None e = refl
     front (Some n) e = absurd cc
 
 -- the item at the front, and those behind it
-pub front_item : (left k : ℕ) (s : List ℕ) → left ≡ suc k → 3 ≤ length s → items_in left s ≡ item_at s ∷ items_in k (drop (3 + get_or s 2 0) s)
+pub front_item : (left k : ℕ) (s : List ℕ) → left ≡ suc k → 3 ≤ length s
+    → items_in left s ≡ item_at s ∷ items_in k (drop (3 + get_or s 2 0) s)
 front_item left k [] e long = absurd (omega arith)
 front_item left k (a ∷ []) e long = absurd (omega arith)
 front_item left k (a ∷ b ∷ []) e long = absurd (omega arith)
@@ -91,8 +96,10 @@ none_in : (left : ℕ) → items_in left [] ≡ []
 none_in zero = refl
 none_in (suc left) = refl
 
-pub read_all : (text : List ℕ) (items : List KeyItem) (at : ℕ) → length text ≤ at → ReadsTo text items at → items ≡ items_in 8 text
+pub read_all : (text : List ℕ) (items : List KeyItem) (at : ℕ) → length text ≤ at → ReadsTo text items at
+    → items ≡ items_in 8 text
 read_all text items at past reads =
     sym (append-nil items)
-    ∙ ap (λ (x : List KeyItem). items ++ x) (sym (ap (items_in (8 - length items)) (drop_all at text past) ∙ none_in (8 - length items)))
+    ∙ ap (λ (x : List KeyItem). items ++ x)
+    (sym (ap (items_in (8 - length items)) (drop_all at text past) ∙ none_in (8 - length items)))
     ∙ reads.same

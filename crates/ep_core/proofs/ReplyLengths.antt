@@ -1,7 +1,10 @@
 -- No reply is longer than the inventory of all keys, for `write`.
 use Rattle.std.proofs.Common.{◌≡◌, ℕ, ◌+◌, ◌≤◌, List, ◌++◌, length, sym, subst, arith, length-append}
 use Rattle.ep_codec.specs.declared.reply_pdu.ReplyPdu.{ReplyPdu}
-use Rattle.ep_codec.specs.declared.reply_pdu.ReplyPdu.TheVariants.{Rekeying, Activate, Deactivate, Destroy, Create, Delete, SetWindow, Rekey, Expire, SetNumber, Start, Stop, VerifyGcm, VerifyCmac, Inventory, Compose, ReadNumber, Status}
+use Rattle.ep_codec.specs.declared.reply_pdu.ReplyPdu.TheVariants.{Rekeying, Activate, Deactivate, Destroy, Create}
+use Rattle.ep_codec.specs.declared.reply_pdu.ReplyPdu.TheVariants.{Delete, SetWindow, Rekey, Expire, SetNumber, Start}
+use Rattle.ep_codec.specs.declared.reply_pdu.ReplyPdu.TheVariants.{Stop, VerifyGcm, VerifyCmac, Inventory, Compose}
+use Rattle.ep_codec.specs.declared.reply_pdu.ReplyPdu.TheVariants.{ReadNumber, Status}
 use Rattle.ep_codec.specs.Command.{message, sealed_data}
 use Rattle.ep_codec.specs.ReplyPdu.{HasTypes, IsInBounds, IsReplyPdu, reply_octets, row_octets}
 use Rattle.ep_codec.proofs.Lengths.{rows_length}
@@ -24,7 +27,8 @@ within (VerifyCmac key number mac) types bounds = let sixteen = types.2 in omega
 within Destroy types bounds = omega arith
 within (Inventory total rows) types bounds = omega (arith, rows_length rows, bounds)
 within (Compose master vector sealed tag) types bounds =
-    let few = high_bound 19 280 (length sealed) bounds in omega (arith, sealed_length master vector sealed tag types.1 types.2, few)
+    let few = high_bound 19 280 (length sealed) bounds in
+    omega (arith, sealed_length master vector sealed tag types.1 types.2, few)
 within (ReadNumber spi number) types bounds = omega arith
 within Create types bounds = omega arith
 within Delete types bounds = omega arith
@@ -37,4 +41,5 @@ within Stop types bounds = omega arith
 within (Status spi state direction suite key window) types bounds = omega arith
 
 pub reply_within : (reply : ReplyPdu) (octets : List ℕ) → IsReplyPdu reply octets → length octets ≤ MOST_REPLY_OCTETS
-reply_within reply octets is = subst (λ (l : List ℕ). length l ≤ MOST_REPLY_OCTETS) (sym is.spelled) (within reply is.types is.bounds)
+reply_within reply octets is =
+    subst (λ (l : List ℕ). length l ≤ MOST_REPLY_OCTETS) (sym is.spelled) (within reply is.types is.bounds)

@@ -13,7 +13,8 @@ use Rattle.unit_state.specs.declared.state.State.{State}
 use Rattle.unit_state.specs.State.{KeepsRules, association_row}
 use Rattle.unit_state.proofs.Found.{found}
 
-pub row_rules : (state : State) (spi : ℕ) (row : SaRow) → KeepsRules state → association_row state spi ≡ Some row → IsSaRow row
+pub row_rules : (state : State) (spi : ℕ) (row : SaRow) → KeepsRules state → association_row state spi ≡ Some row
+    → IsSaRow row
 row_rules state spi row rules e = found IsSaRow _ state.associations row e rules.associations.each
 
 end_low : (key : ℕ) → end_of key ≤ 2 ^ 48
@@ -27,5 +28,6 @@ high_low Receive (Some key) high has = omega (arith, end_low key)
 pub number_low : (row : SaRow) → IsSaRow row → row.window.high + 1 < 2 ^ 64
 number_low row is = omega (arith, high_low row.direction row.key row.window.high is.high)
 
-pub inventory_short : (rows : List KeyRow) (first last : ℕ) (inventory : Inventory) → IsInventory rows first last inventory → length inventory.rows ≤ 256
+pub inventory_short : (rows : List KeyRow) (first last : ℕ) (inventory : Inventory)
+    → IsInventory rows first last inventory → length inventory.rows ≤ 256
 inventory_short rows first last inventory is = omega (arith, ap length is.front, length-take 256 is.sorted)

@@ -27,17 +27,20 @@ passed_both (Some told) checks none = absurd cc
 
 -- ---- keys that have their octets
 
-usable_length : (state : KeyState) (bytes digest : List ℕ) → HasBytes state bytes digest → unless_usable state ≡ None → IsKeyLength (length bytes)
+usable_length : (state : KeyState) (bytes digest : List ℕ) → HasBytes state bytes digest → unless_usable state ≡ None
+    → IsKeyLength (length bytes)
 usable_length PreActive bytes digest has none = has.0
 usable_length Active bytes digest has none = has.0
 usable_length Deactivated bytes digest has none = has.0
 usable_length Destroyed bytes digest has none = absurd cc
 
 -- a key that answers challenges
-pub verify_length : (state : State) (key : ℕ) (held : KeyRow) (seen : Seen) → KeepsRules state → key_row state key ≡ Some held
+pub verify_length : (state : State) (key : ℕ) (held : KeyRow) (seen : Seen) → KeepsRules state
+    → key_row state key ≡ Some held
     → first_told (verify_checks state key seen) ≡ None → IsKeyLength (length held.bytes)
 verify_length state key held seen rules e none =
-    let known = passed_both (unless_known key (key_row state key)) (by_state unless_usable (key_row state key) ∷ if_exhausted seen ∷ []) none in
+    let known = passed_both (unless_known key (key_row state key))
+    (by_state unless_usable (key_row state key) ∷ if_exhausted seen ∷ []) none in
     let usable = passed_both (by_state unless_usable (key_row state key)) (if_exhausted seen ∷ []) known.1 in
     usable_length held.state held.bytes held.digest (held_rules state key held rules e).bytes
     (ap (λ (row : Option KeyRow). by_state unless_usable row) (sym e) ∙ usable.0)
@@ -47,10 +50,12 @@ verify_length state key held seen rules e none =
 held_id : (state : State) (key : ℕ) (held : KeyRow) → key_row state key ≡ Some held → held.id ≡ key
 held_id state key held e = eqb-true held.id key (found_passes (λ (row : KeyRow). nat_eq row.id key) state.keys held e)
 
-below_mark : (row : Option KeyRow) (held : KeyRow) (n : ℕ) → row ≡ Some held → IsSomeAnd row (λ held. n < held.mark) → n < held.mark
+below_mark : (row : Option KeyRow) (held : KeyRow) (n : ℕ) → row ≡ Some held → IsSomeAnd row (λ held. n < held.mark)
+    → n < held.mark
 below_mark row held n e is = subst (λ (row : Option KeyRow). IsSomeAnd row (λ held. n < held.mark)) e is
 
-pub drawn_low : (state : State) (key : ℕ) (held : KeyRow) (seen : Seen) → KeepsRules state → key_row state key ≡ Some held → IsNumberSeen state key seen
+pub drawn_low : (state : State) (key : ℕ) (held : KeyRow) (seen : Seen) → KeepsRules state
+    → key_row state key ≡ Some held → IsNumberSeen state key seen
     → (c : KeyClass) → class_of key ≡ c → number_of seen < end_of_class c
 drawn_low state key held Nothing rules e is c f = absurd is
 drawn_low state key held (Word word) rules e is c f = absurd is

@@ -24,16 +24,19 @@ use Rattle.ep_core.proofs.Checks.{told_append}
 pub step_refused : (state : State) (command : Command) (seen : Seen) (step : Change × Reply) (refusal : Refusal)
     → refusal_of state command seen ≡ Some refusal → step ≡ refused refusal → IsStep state command seen step
 step_refused state command seen step refusal e is =
-    subst (λ (o : Option Refusal). MatchOption o (IsDone state command seen step) (λ refusal. step ≡ refused refusal)) (sym e) is
+    subst (λ (o : Option Refusal). MatchOption o (IsDone state command seen step) (λ refusal. step ≡ refused refusal))
+    (sym e) is
 
 pub step_done : (state : State) (command : Command) (seen : Seen) (step : Change × Reply)
     → refusal_of state command seen ≡ None → IsDone state command seen step → IsStep state command seen step
 step_done state command seen step e is =
-    subst (λ (o : Option Refusal). MatchOption o (IsDone state command seen step) (λ refusal. step ≡ refused refusal)) (sym e) is
+    subst (λ (o : Option Refusal). MatchOption o (IsDone state command seen step) (λ refusal. step ≡ refused refusal))
+    (sym e) is
 
 -- the master key of a Rekeying is refused
 
-pub master_refused : (state : State) (master : ℕ) (text : Option (List ℕ)) (refusal : Refusal) → first_told (master_checks state master) ≡ Some refusal
+pub master_refused : (state : State) (master : ℕ) (text : Option (List ℕ)) (refusal : Refusal)
+    → first_told (master_checks state master) ≡ Some refusal
     → first_told (rekeying_checks state master text) ≡ Some refusal
 master_refused state master text refusal e =
     told_append (master_checks state master) (text_checks state text)
@@ -41,18 +44,23 @@ master_refused state master text refusal e =
 
 -- or it is not
 
-pub master_passed : (state : State) (master : ℕ) (text : Option (List ℕ)) → first_told (master_checks state master) ≡ None
+pub master_passed : (state : State) (master : ℕ) (text : Option (List ℕ))
+    → first_told (master_checks state master) ≡ None
     → first_told (rekeying_checks state master text) ≡ first_told (text_checks state text)
 master_passed state master text e =
     told_append (master_checks state master) (text_checks state text)
     ∙ ap (λ (o : Option Refusal). option_or o (first_told (text_checks state text))) e
 
-pub step_loading : (state : State) (master : ℕ) (vector sealed tag : List ℕ) (seen : Seen) (step : Change × Reply) (text : Option (List ℕ))
-    → first_told (master_checks state master) ≡ None → text ≡ opened state master vector sealed tag → IsLoading state text step
+pub step_loading : (state : State) (master : ℕ) (vector sealed tag : List ℕ) (seen : Seen) (step : Change × Reply)
+    (text : Option (List ℕ))
+    → first_told (master_checks state master) ≡ None → text ≡ opened state master vector sealed tag
+    → IsLoading state text step
     → IsStep state (Rekeying master vector sealed tag) seen step
 step_loading state master vector sealed tag seen step text e f is =
-    let there : IsLoading state (opened state master vector sealed tag) step = subst (λ (t : Option (List ℕ)). IsLoading state t step) f is in
-    subst (λ (o : Option Refusal). MatchOption o (IsDone state (Rekeying master vector sealed tag) seen step) (λ refusal. step ≡ refused refusal))
+    let there : IsLoading state (opened state master vector sealed tag) step =
+    subst (λ (t : Option (List ℕ)). IsLoading state t step) f is in
+    subst (λ (o : Option Refusal). MatchOption o (IsDone state (Rekeying master vector sealed tag) seen step)
+    (λ refusal. step ≡ refused refusal))
     (sym (master_passed state master (opened state master vector sealed tag) e)) there
 
 -- what holds of each, place by place
@@ -60,7 +68,8 @@ pub each_of : {X : Type 0} (P : X → Type 0) (xs : List X) → AllByRecursion P
 each_of P [] all = All-nil P
 each_of P (x ∷ xs) all = All-cons P x xs all.0 (each_of P xs all.1)
 
-pub ok_too : {X E : Type 0} (P Q : X → Type 0) (result : Result X E) → ((x : X) → P x → Q x) → IfOk result P → IfOk result Q
+pub ok_too : {X E : Type 0} (P Q : X → Type 0) (result : Result X E) → ((x : X) → P x → Q x) → IfOk result P
+    → IfOk result Q
 ok_too P Q (Ok x) also is = also x is
 ok_too P Q (Err e) also is = tt
 
@@ -69,10 +78,12 @@ unfolding gctr
 length-gctr key iv text = simp (length-map, length-range_with_len)
 
 -- what was opened is as long as what was sealed
-pub opened_length : (key iv aad text tag : List ℕ) (opened : Option (List ℕ)) → gcm_open key iv aad text tag ≡ opened → length text ≤ 280
+pub opened_length : (key iv aad text tag : List ℕ) (opened : Option (List ℕ)) → gcm_open key iv aad text tag ≡ opened
+    → length text ≤ 280
     → IfSome opened (λ clear. length clear ≤ 280)
 opened_length key iv aad text tag opened e short =
-    subst (λ (o : Option (List ℕ)). IfSome o (λ clear. length clear ≤ 280)) e (by (bytes_eq tag (tag_of key iv aad text)))
+    subst (λ (o : Option (List ℕ)). IfSome o (λ clear. length clear ≤ 280)) e
+    (by (bytes_eq tag (tag_of key iv aad text)))
   where
     by : (b : Bool) → IfSome (if b then Some (gctr key iv text) else None) (λ clear. length clear ≤ 280)
     by true = omega (arith, length-gctr key iv text)

@@ -9,7 +9,8 @@ use Rattle.unit_state.specs.State.{association_row}
 use Rattle.frame_checks.specs.declared.open_reply.OpenReply.{OpenReply}
 use Rattle.frame_checks.specs.declared.open_reply.OpenReply.TheVariants.{Clear, Layout, Channel, Spi}
 use Rattle.frame_checks.specs.declared.trying.Opener.{Opener}
-use Rattle.frame_checks.specs.OpeningFrames.{IsJudged, IsOpenReply, IsOpenedUnder, IsReplyOn, IsReplyUnder, association_checks, association_in, frame_checks}
+use Rattle.frame_checks.specs.OpeningFrames.{IsJudged, IsOpenReply, IsOpenedUnder, IsReplyOn, IsReplyUnder}
+use Rattle.frame_checks.specs.OpeningFrames.{association_checks, association_in, frame_checks}
 use Rattle.frame_checks.specs.Trying.{IsOpener, IsOfOpener}
 use Rattle.frame_checks.proofs.Replies.{on_line, told_later}
 
@@ -22,20 +23,23 @@ none_fails false false false true e n one two three four five = absurd (cc)
 none_fails false false false false true n one two three four five = absurd (cc)
 none_fails false false false false false n one two three four five = refl
 
-module _ (plan : PlanLines) (state : State) (opener : Opener) (link : ℕ) (frame : List ℕ) (is : IsOpener plan state opener)
+module _ (plan : PlanLines) (state : State) (opener : Opener) (link : ℕ) (frame : List ℕ)
+    (is : IsOpener plan state opener)
     (of : IsOfOpener plan opener link frame) where
   -- the association that the frame names is the opener's
   pub named_tried : association_in state of.room ≡ Some is.row
   named_tried = ap (option_and_then (association_row state)) of.named ∙ is.there
 
   pub passes_tried : first_failing (frame_checks plan state link opener.binding.link frame of.room) ≡ None
-  passes_tried = none_fails _ _ _ _ _ _ (ap is_some of.layout) of.secured of.roomy (ap is_none of.on) (ap is_none named_tried)
+  passes_tried = none_fails _ _ _ _ _ _ (ap is_some of.layout) of.secured of.roomy (ap is_none of.on)
+      (ap is_none named_tried)
 
   -- the reply, by what was judged of the number
   pub reply_tried : (reply : OpenReply) (field : List ℕ) → IsJudged is.row opener.binding frame reply field
       → IsOpenReply plan state link frame reply field
   reply_tried reply field judged =
-      on_line (IsReplyOn plan state link frame reply field) (reply ≡ Layout 0) (link_of plan.links link) opener.binding.link
+      on_line (IsReplyOn plan state link frame reply field) (reply ≡ Layout 0) (link_of plan.links link)
+      opener.binding.link
       (sym (ap (link_of plan.links) of.linked ∙ is.line))
       (record {
         room = of.room;

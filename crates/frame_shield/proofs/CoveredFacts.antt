@@ -9,5 +9,7 @@ length-masked_octets (x ∷ prefix) [] = ap suc (length-masked_octets prefix [])
 length-masked_octets (x ∷ prefix) (m ∷ mask) = ap suc (length-masked_octets prefix mask)
 
 -- the front of what begins with the masked prefix
-pub take_masked : (prefix mask rest : List ℕ) → take (length prefix) (masked_octets prefix mask ++ rest) ≡ masked_octets prefix mask
-take_masked prefix mask rest = take_front (masked_octets prefix mask) rest (length prefix) (sym (length-masked_octets prefix mask))
+pub take_masked : (prefix mask rest : List ℕ) → take (length prefix) (masked_octets prefix mask ++ rest)
+    ≡ masked_octets prefix mask
+take_masked prefix mask rest =
+    take_front (masked_octets prefix mask) rest (length prefix) (sym (length-masked_octets prefix mask))

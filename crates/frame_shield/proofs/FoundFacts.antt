@@ -1,5 +1,6 @@
 -- What is found in a frame, and whether it opens.
-use Rattle.std.proofs.Common.{◌≡◌, ℕ, ◌+◌, ◌-◌, ◌≤◌, Bool, true, false, List, [], ◌++◌, length, take, drop, refl, sym, ap, ◌∙◌, subst, arith, append-nil, append_assoc, length-append}
+use Rattle.std.proofs.Common.{◌≡◌, ℕ, ◌+◌, ◌-◌, ◌≤◌, Bool, true, false, List, [], ◌++◌, length, take, drop, refl, sym}
+use Rattle.std.proofs.Common.{ap, ◌∙◌, subst, arith, append-nil, append_assoc, length-append}
 use Rattle.std.specs.Prelude.{unwrap_or, slice_range}
 use Rattle.sdls_base.specs.ErrorControl.{with_error_control, error_control}
 use Rattle.sdls_base.proofs.Endings.{take_front, drop_front}
@@ -21,11 +22,13 @@ ending : (fecf : Bool) (octets : List ℕ) → (end : List ℕ) × (with_error_c
 ending false octets = ([], sym (append-nil octets))
 ending true octets = (error_control octets, refl)
 
-regrouped : (prefix header field mac tail end : List ℕ) → ((prefix ++ ((header ++ field) ++ mac)) ++ tail) ++ end ≡ (prefix ++ header) ++ (field ++ (mac ++ (tail ++ end)))
+regrouped : (prefix header field mac tail end : List ℕ) → ((prefix ++ ((header ++ field) ++ mac)) ++ tail) ++ end
+    ≡ (prefix ++ header) ++ (field ++ (mac ++ (tail ++ end)))
 regrouped prefix header field mac tail end = simp append_assoc
 
 -- the text stands behind prefix and header
-pub text_at : (b : Binding) (p : AnyParts) (frame : List ℕ) (q : Pieces) (start end : ℕ) → IsFrame b.link.layout p frame → SplitsInto b.suite (room_of p) q
+pub text_at : (b : Binding) (p : AnyParts) (frame : List ℕ) (q : Pieces) (start end : ℕ) → IsFrame b.link.layout p frame
+    → SplitsInto b.suite (room_of p) q
     → start ≡ length (prefix_of b.link.layout p) + length q.header → end ≡ start + length q.field
     → (slice_range frame start end ≡ q.field) × (end ≤ length frame)
 text_at b p frame q start end is split start_is end_is =
@@ -35,21 +38,26 @@ text_at b p frame q start end is split start_is end_is =
     let front : List ℕ = prefix ++ q.header in
     let rest : List ℕ = q.mac ++ (tail ++ last.0) in
     let whole : frame ≡ front ++ (q.field ++ rest) =
-    frame_is b.link.layout p frame is ∙ last.1 ∙ ap (λ (room : List ℕ). ((prefix ++ room) ++ tail) ++ last.0) split.whole ∙ regrouped prefix q.header q.field q.mac tail last.0 in
+    frame_is b.link.layout p frame is ∙ last.1 ∙ ap (λ (room : List ℕ). ((prefix ++ room) ++ tail) ++ last.0)
+    split.whole ∙ regrouped prefix q.header q.field q.mac tail last.0 in
     let here : start ≡ length front = omega (arith, length-append prefix q.header) in
     let size : end - start ≡ length q.field = omega arith in (
-      ap (λ (l : List ℕ). take (end - start) (drop start l)) whole ∙ ap (λ (l : List ℕ). take (end - start) l) (drop_front front (q.field ++ rest) start here) ∙ take_front q.field rest (end - start) size,
+      ap (λ (l : List ℕ). take (end - start) (drop start l)) whole ∙ ap (λ (l : List ℕ). take (end - start) l)
+          (drop_front front (q.field ++ rest) start here) ∙ take_front q.field rest (end - start) size,
       omega (arith, here, ap length whole, length-append front (q.field ++ rest), length-append q.field rest),
     )
 
 -- where the frame opens, the MAC that was found is that of the data field
-pub opens_sealed : (b : Binding) (frame : List ℕ) (found : Found) (n : ℕ) (field : List ℕ) → IsFound b frame found → Opens b frame n field
+pub opens_sealed : (b : Binding) (frame : List ℕ) (found : Found) (n : ℕ) (field : List ℕ) → IsFound b frame found
+    → Opens b frame n field
     → sealed b.schedule found.vector found.covered field ≡ (slice_range frame found.start found.end, found.mac)
 opens_sealed b frame found n field f o =
     let parts : o.parts ≡ f.parts = one_frame b.link.layout o.parts f.parts frame o.framed f.framed in
-    let moved = subst (λ (p : AnyParts). IsSecured b (prefix_of b.link.layout p) (room_of p) o.pieces field) parts o.secured in
+    let moved = subst (λ (p : AnyParts). IsSecured b (prefix_of b.link.layout p) (room_of p) o.pieces field) parts
+    o.secured in
     let pieces : o.pieces ≡ f.pieces = one_split b.suite (room_of f.parts) o.pieces f.pieces moved.split f.split in
-    let same = subst (λ (p : Pieces). IsSecured b (prefix_of b.link.layout f.parts) (room_of f.parts) p field) pieces moved in
+    let same = subst (λ (p : Pieces). IsSecured b (prefix_of b.link.layout f.parts) (room_of f.parts) p field) pieces
+    moved in
     ap (λ (l : List ℕ). sealed b.schedule found.vector l field) f.covered
     ∙ ap (λ v. sealed b.schedule v (covered b (prefix_of b.link.layout f.parts) f.pieces.vector) field) f.vector
     ∙ same.seal
@@ -57,8 +65,10 @@ opens_sealed b frame found n field f o =
     ∙ ap (λ (l : List ℕ). (slice_range frame found.start found.end, l)) (sym f.mac)
 
 -- and where that is so, the frame opens
-abbrev pub found_opens : (b : Binding) (frame : List ℕ) (found : Found) (n : ℕ) (field : List ℕ) → IsFound b frame found → n ≡ number_of found.vector
-    → sealed b.schedule found.vector found.covered field ≡ (slice_range frame found.start found.end, found.mac) → Opens b frame n field
+abbrev pub found_opens : (b : Binding) (frame : List ℕ) (found : Found) (n : ℕ) (field : List ℕ) → IsFound b frame found
+    → n ≡ number_of found.vector
+    → sealed b.schedule found.vector found.covered field ≡ (slice_range frame found.start found.end, found.mac)
+    → Opens b frame n field
 found_opens b frame found n field f carried e = record {
   parts = f.parts;
   pieces = f.pieces;

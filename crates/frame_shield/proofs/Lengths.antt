@@ -1,5 +1,6 @@
 -- How long frames and their prefixes are.
-use Rattle.std.proofs.Common.{◌≡◌, ℕ, ◌+◌, ◌-◌, ◌≤◌, Bool, true, false, List, [], ◌++◌, length, refl, sym, ap, ◌∙◌, arith, append-nil, length-append}
+use Rattle.std.proofs.Common.{◌≡◌, ℕ, ◌+◌, ◌-◌, ◌≤◌, Bool, true, false, List, [], ◌++◌, length, refl, sym, ap, ◌∙◌}
+use Rattle.std.proofs.Common.{arith, append-nil, length-append}
 use Rattle.std.specs.Prelude.{Option, Some, None, unwrap_or}
 use Rattle.std.specs.Option.{option_to_list}
 use Rattle.sdls_base.specs.declared.states.Suite.{Suite}
@@ -36,7 +37,8 @@ octets_before layout p = (prefix_of layout p ++ room_of p) ++ unwrap_or (ocf_of 
 -- a frame is its prefix, its room and the fields behind
 pub frame_is : (layout : AnyLayout) (p : AnyParts) (frame : List ℕ) → IsFrame layout p frame
     → frame ≡ with_error_control (has_fecf layout) (octets_before layout p)
-frame_is (Tc layout) (tc p) frame is = is.spelled ∙ ap (λ l. with_error_control layout.fecf l) (sym (append-nil (tc_frames.prefix_of layout p ++ p.room)))
+frame_is (Tc layout) (tc p) frame is =
+    is.spelled ∙ ap (λ l. with_error_control layout.fecf l) (sym (append-nil (tc_frames.prefix_of layout p ++ p.room)))
 frame_is (Tc layout) (tm p) frame is = absurd is
 frame_is (Tc layout) (aos p) frame is = absurd is
 frame_is (Tm layout) (tc p) frame is = absurd is
@@ -47,11 +49,18 @@ frame_is (Aos layout) (tm p) frame is = absurd is
 frame_is (Aos layout) (aos p) frame is = is.spelled
 
 pub length-frame : (layout : AnyLayout) (p : AnyParts) (frame : List ℕ) → IsFrame layout p frame
-    → length frame ≡ length (prefix_of layout p) + length (room_of p) + length (unwrap_or (ocf_of p) []) + error_control_length (has_fecf layout)
+    → length frame ≡ length (prefix_of layout p) + length (room_of p) + length (unwrap_or (ocf_of p) [])
+    + error_control_length (has_fecf layout)
 length-frame layout p frame is =
     let front : List ℕ = prefix_of layout p ++ room_of p in
     let tail : List ℕ = unwrap_or (ocf_of p) [] in
-    omega (arith, ap length (frame_is layout p frame is), length-with_error_control (has_fecf layout) (front ++ tail), length-append front tail, length-append (prefix_of layout p) (room_of p))
+    omega (
+      arith,
+      ap length (frame_is layout p frame is),
+      length-with_error_control (has_fecf layout) (front ++ tail),
+      length-append front tail,
+      length-append (prefix_of layout p) (room_of p),
+    )
 
 -- an insert zone of at most 64 octets
 abbrev pub HasShortInsert : AnyLayout → Type 0
@@ -79,34 +88,46 @@ secondary_short : (flag : Bool) (octets : List ℕ) → tm_frames.IsSecondaryHea
 secondary_short false octets is = omega (arith, ap length is)
 secondary_short true octets is = is.1
 
-pub prefix_bounds : (layout : AnyLayout) (p : AnyParts) (frame : List ℕ) → HasShortInsert layout → IsFrame layout p frame
+pub prefix_bounds : (layout : AnyLayout) (p : AnyParts) (frame : List ℕ) → HasShortInsert layout
+    → IsFrame layout p frame
     → (5 ≤ length (prefix_of layout p)) × (length (prefix_of layout p) ≤ 70)
 prefix_bounds (Tc layout) (tc p) frame short is =
     let n : ℕ = tc_frames.frame_length layout p in
     let header : List ℕ = packed (tc_frames.primary_header p n) in
-    let whole : length (header ++ option_to_list p.segment) ≡ 5 + length (option_to_list p.segment) = omega (arith, length-append header (option_to_list p.segment), tc_header p n) in
+    let whole : length (header ++ option_to_list p.segment) ≡ 5 + length (option_to_list p.segment) =
+    omega (arith, length-append header (option_to_list p.segment), tc_header p n) in
     (omega (arith, whole), omega (arith, whole, at_most_one p.segment))
 prefix_bounds (Tc layout) (tm p) frame short is = absurd is
 prefix_bounds (Tc layout) (aos p) frame short is = absurd is
 prefix_bounds (Tm layout) (tc p) frame short is = absurd is
 prefix_bounds (Tm layout) (tm p) frame short is =
     let header : List ℕ = packed (tm_frames.primary_header p) in
-    let whole : length (header ++ p.secondary) ≡ 6 + length p.secondary = omega (arith, length-append header p.secondary, tm_header p) in
-    (omega (arith, whole), omega (arith, whole, secondary_short (tm_frames.has_secondary p.status) p.secondary is.fits.secondary))
+    let whole : length (header ++ p.secondary) ≡ 6 + length p.secondary =
+    omega (arith, length-append header p.secondary, tm_header p) in (
+      omega (arith, whole),
+      omega (arith, whole, secondary_short (tm_frames.has_secondary p.status) p.secondary is.fits.secondary),
+    )
 prefix_bounds (Tm layout) (aos p) frame short is = absurd is
 prefix_bounds (Aos layout) (tc p) frame short is = absurd is
 prefix_bounds (Aos layout) (tm p) frame short is = absurd is
 prefix_bounds (Aos layout) (aos p) frame short is =
     let header : List ℕ = packed (aos_frames.primary_header p) in
-    let whole : length (header ++ p.insert) ≡ 6 + length p.insert = omega (arith, length-append header p.insert, aos_header p) in
+    let whole : length (header ++ p.insert) ≡ 6 + length p.insert =
+    omega (arith, length-append header p.insert, aos_header p) in
     (omega (arith, whole), omega (arith, whole, is.fits.insert))
 
 -- the octets of a TC frame
-pub tc_length : (layout : TcLayout) (p : tc_frames.TcParts) (frame : List ℕ) → tc_frames.TcFrame layout p frame → length frame ≡ tc_frames.frame_length layout p
+pub tc_length : (layout : TcLayout) (p : tc_frames.TcParts) (frame : List ℕ) → tc_frames.TcFrame layout p frame
+    → length frame ≡ tc_frames.frame_length layout p
 tc_length layout p frame is =
     let n : ℕ = tc_frames.frame_length layout p in
     let header : List ℕ = packed (tc_frames.primary_header p n) in
-    omega (arith, length-frame (Tc layout) (tc p) frame is, length-append header (option_to_list p.segment), tc_header p n)
+    omega (
+      arith,
+      length-frame (Tc layout) (tc p) frame is,
+      length-append header (option_to_list p.segment),
+      tc_header p n,
+    )
 
 pub bounded_insert : (layout : AnyLayout) → IsInBounds layout → HasShortInsert layout
 bounded_insert (Tc layout) bounds = tt
@@ -125,7 +146,8 @@ gain_most Gcm false = omega arith
 gain_most Gcm true = omega arith
 
 -- the clear frame leaves room for what it gains
-pub gains : (suite : Suite) (layout : AnyLayout) (p : AnyParts) (clear : List ℕ) → IsInBounds layout → IsFrame (clear_layout suite layout) p clear
+pub gains : (suite : Suite) (layout : AnyLayout) (p : AnyParts) (clear : List ℕ) → IsInBounds layout
+    → IsFrame (clear_layout suite layout) p clear
     → length clear + gain_of suite layout ≤ most_of layout
 gains suite (Tc layout) (tc p) clear bounds is =
     let gain : ℕ = gain_of suite (Tc layout) in
@@ -137,11 +159,13 @@ gains suite (Tc layout) (tc p) clear bounds is =
 gains suite (Tc layout) (tm p) clear bounds is = absurd is
 gains suite (Tc layout) (aos p) clear bounds is = absurd is
 gains suite (Tm layout) (tc p) clear bounds is = absurd is
-gains suite (Tm layout) (tm p) clear bounds is = omega (arith, gain_most suite layout.fecf, ap length is.spelled, is.fits.whole, bounds.0)
+gains suite (Tm layout) (tm p) clear bounds is =
+    omega (arith, gain_most suite layout.fecf, ap length is.spelled, is.fits.whole, bounds.0)
 gains suite (Tm layout) (aos p) clear bounds is = absurd is
 gains suite (Aos layout) (tc p) clear bounds is = absurd is
 gains suite (Aos layout) (tm p) clear bounds is = absurd is
-gains suite (Aos layout) (aos p) clear bounds is = omega (arith, gain_most suite layout.fecf, ap length is.spelled, is.fits.whole, bounds.1)
+gains suite (Aos layout) (aos p) clear bounds is =
+    omega (arith, gain_most suite layout.fecf, ap length is.spelled, is.fits.whole, bounds.1)
 
 pub most_short : (layout : AnyLayout) → IsInBounds layout → most_of layout ≤ FRAME_ROOM
 most_short (Tc layout) bounds = omega arith
@@ -162,12 +186,15 @@ unfolding tag_of
 length-tag key iv aad text = refl
 
 -- a MAC has 16 octets
-pub length-sealed : (key : List ℕ) (vector : Vector) (covered field : List ℕ) → length (sealed key vector covered field).1 ≡ 16
+pub length-sealed : (key : List ℕ) (vector : Vector) (covered field : List ℕ)
+    → length (sealed key vector covered field).1 ≡ 16
 length-sealed key (Sequence n) covered field = length-mac key (covered ++ field)
-length-sealed key (Wide device n) covered field = length-tag key (device ++ to_be_bytes w64 n) covered (gctr key (device ++ to_be_bytes w64 n) field)
+length-sealed key (Wide device n) covered field =
+    length-tag key (device ++ to_be_bytes w64 n) covered (gctr key (device ++ to_be_bytes w64 n) field)
 
 -- the length field takes no octet more
-pub length-prefix_for : (layout : AnyLayout) (prefix : List ℕ) (n : ℕ) → 5 ≤ length prefix → length (prefix_for layout prefix n) ≡ length prefix
+pub length-prefix_for : (layout : AnyLayout) (prefix : List ℕ) (n : ℕ) → 5 ≤ length prefix
+    → length (prefix_for layout prefix n) ≡ length prefix
 length-prefix_for (Tc layout) prefix n header = omega (arith, length-drop 5 prefix)
 length-prefix_for (Tm layout) prefix n header = refl
 length-prefix_for (Aos layout) prefix n header = refl

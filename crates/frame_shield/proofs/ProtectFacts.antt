@@ -1,5 +1,6 @@
 -- What is put together from a clear frame is its protected frame.
-use Rattle.std.proofs.Common.{◌≡◌, ℕ, false, ◌+◌, ◌-◌, ◌*◌, ◌/◌, ◌^◌, ◌≤◌, List, [], ◌++◌, length, refl, sym, ap, ◌∙◌, subst, arith, append-nil, append_assoc, length-append}
+use Rattle.std.proofs.Common.{◌≡◌, ℕ, false, ◌+◌, ◌-◌, ◌*◌, ◌/◌, ◌^◌, ◌≤◌, List, [], ◌++◌, length, refl, sym, ap, ◌∙◌}
+use Rattle.std.proofs.Common.{subst, arith, append-nil, append_assoc, length-append}
 use Rattle.std.specs.Prelude.{unwrap_or}
 use Rattle.std.specs.Option.{option_to_list}
 use Rattle.sdls_base.specs.declared.states.Suite.{Suite}
@@ -35,8 +36,10 @@ third_cell ch n m h = omega arith
 
 -- the parts of the protected frame still fill their fields, and the octets the frame
 tc_lengths : (suite : Suite) (layout : TcLayout) (p : tc_frames.TcParts) (clear room : List ℕ) → layout.most ≡ 1024
-    → tc_frames.TcFrame (record layout { fecf = false; most = layout.most - gain_of suite (Tc layout) }) p clear → length room ≡ length p.room + overhead_of suite
-    → (length clear + gain_of suite (Tc layout) ≡ tc_frames.frame_length layout (record p { room = room })) × (length clear + gain_of suite (Tc layout) ≤ 1024)
+    → tc_frames.TcFrame (record layout { fecf = false; most = layout.most - gain_of suite (Tc layout) }) p clear
+    → length room ≡ length p.room + overhead_of suite
+    → (length clear + gain_of suite (Tc layout) ≡ tc_frames.frame_length layout (record p { room = room }))
+    × (length clear + gain_of suite (Tc layout) ≤ 1024)
 tc_lengths suite layout p clear room bounds is longer =
     let gain : ℕ = gain_of suite (Tc layout) in
     let cut : TcLayout = record layout { fecf = false; most = layout.most - gain } in
@@ -46,9 +49,11 @@ tc_lengths suite layout p clear room bounds is longer =
     (omega (arith, count, longer), omega (arith, count, small, most, bounds))
 
 -- the prefix of the protected frame
-pub prefix_kept : (suite : Suite) (layout : AnyLayout) (p : AnyParts) (clear room : List ℕ) → IsInBounds layout → IsFrame (clear_layout suite layout) p clear
+pub prefix_kept : (suite : Suite) (layout : AnyLayout) (p : AnyParts) (clear room : List ℕ) → IsInBounds layout
+    → IsFrame (clear_layout suite layout) p clear
     → length room ≡ length (room_of p) + overhead_of suite
-    → prefix_for layout (prefix_of (clear_layout suite layout) p) (length clear + gain_of suite layout) ≡ prefix_of layout (with_room p room)
+    → prefix_for layout (prefix_of (clear_layout suite layout) p) (length clear + gain_of suite layout)
+    ≡ prefix_of layout (with_room p room)
 prefix_kept suite (Tc layout) (tc p) clear room bounds is longer =
     let gain : ℕ = gain_of suite (Tc layout) in
     let cut : TcLayout = record layout { fecf = false; most = layout.most - gain } in
@@ -58,10 +63,13 @@ prefix_kept suite (Tc layout) (tc p) clear room bounds is longer =
     let segment : List ℕ = option_to_list p.segment in
     let lengths = tc_lengths suite layout p clear room bounds is longer in
     let short : m ≤ 2 ^ 10 = lengths.1 in
-    let before : packed (tc_frames.primary_header p n) ≡ cells_of p n = header_cells p n is.fits.spacecraft is.fits.channel is.fits.sequence is.fits.field in
-    let after : packed (tc_frames.primary_header q m) ≡ cells_of q m = header_cells q m is.fits.spacecraft is.fits.channel is.fits.sequence short in
+    let before : packed (tc_frames.primary_header p n) ≡ cells_of p n =
+    header_cells p n is.fits.spacecraft is.fits.channel is.fits.sequence is.fits.field in
+    let after : packed (tc_frames.primary_header q m) ≡ cells_of q m =
+    header_cells q m is.fits.spacecraft is.fits.channel is.fits.sequence short in
     ap (λ (l : List ℕ). with_length_field (l ++ segment) m) before
-    ∙ ap (λ (l : List ℕ). l ++ segment) (cells_five refl refl (third_cell p.channel n ((m - 1) / 2 ^ 8) is.fits.field) refl refl ∙ sym after)
+    ∙ ap (λ (l : List ℕ). l ++ segment)
+    (cells_five refl refl (third_cell p.channel n ((m - 1) / 2 ^ 8) is.fits.field) refl refl ∙ sym after)
     ∙ ap (λ (k : ℕ). packed (tc_frames.primary_header q k) ++ segment) lengths.0
 prefix_kept suite (Tc layout) (tm p) clear room bounds is longer = absurd is
 prefix_kept suite (Tc layout) (aos p) clear room bounds is longer = absurd is
@@ -77,7 +85,8 @@ abbrev pub whole_of : AnyLayout → AnyParts → List ℕ → List ℕ
 whole_of layout p room = (prefix_of layout (with_room p room) ++ room) ++ unwrap_or (ocf_of p) []
 
 tm_whole : (suite : Suite) (layout : TmLayout) (p : tm_frames.TmParts) (clear room : List ℕ) → 48 ≤ layout.length
-    → tm_frames.TmFrame (record layout { fecf = false; length = layout.length - gain_of suite (Tm layout) }) p clear → length room ≡ length p.room + overhead_of suite
+    → tm_frames.TmFrame (record layout { fecf = false; length = layout.length - gain_of suite (Tm layout) }) p clear
+    → length room ≡ length p.room + overhead_of suite
     → length (with_error_control layout.fecf (whole_of (Tm layout) (tm p) room)) ≡ layout.length
 tm_whole suite layout p clear room long is longer =
     let gain : ℕ = gain_of suite (Tm layout) in
@@ -86,10 +95,21 @@ tm_whole suite layout p clear room long is longer =
     let all : length clear ≡ layout.length - gain = ap length is.spelled ∙ is.fits.whole in
     let prefix : List ℕ = tm_frames.prefix_of p in
     let tail : List ℕ = unwrap_or p.ocf [] in
-    omega (arith, small, count, all, longer, long, length-with_error_control layout.fecf ((prefix ++ room) ++ tail), length-append (prefix ++ room) tail, length-append prefix room)
+    omega (
+      arith,
+      small,
+      count,
+      all,
+      longer,
+      long,
+      length-with_error_control layout.fecf ((prefix ++ room) ++ tail),
+      length-append (prefix ++ room) tail,
+      length-append prefix room,
+    )
 
 aos_whole : (suite : Suite) (layout : AosLayout) (p : aos_frames.AosParts) (clear room : List ℕ) → 48 ≤ layout.length
-    → aos_frames.AosFrame (record layout { fecf = false; length = layout.length - gain_of suite (Aos layout) }) p clear → length room ≡ length p.room + overhead_of suite
+    → aos_frames.AosFrame (record layout { fecf = false; length = layout.length - gain_of suite (Aos layout) }) p clear
+    → length room ≡ length p.room + overhead_of suite
     → length (with_error_control layout.fecf (whole_of (Aos layout) (aos p) room)) ≡ layout.length
 aos_whole suite layout p clear room long is longer =
     let gain : ℕ = gain_of suite (Aos layout) in
@@ -98,10 +118,21 @@ aos_whole suite layout p clear room long is longer =
     let all : length clear ≡ layout.length - gain = ap length is.spelled ∙ is.fits.whole in
     let prefix : List ℕ = aos_frames.prefix_of p in
     let tail : List ℕ = unwrap_or p.ocf [] in
-    omega (arith, small, count, all, longer, long, length-with_error_control layout.fecf ((prefix ++ room) ++ tail), length-append (prefix ++ room) tail, length-append prefix room)
+    omega (
+      arith,
+      small,
+      count,
+      all,
+      longer,
+      long,
+      length-with_error_control layout.fecf ((prefix ++ room) ++ tail),
+      length-append (prefix ++ room) tail,
+      length-append prefix room,
+    )
 
 -- what is put together is a frame of the link's layout
-pub framed : (suite : Suite) (layout : AnyLayout) (p : AnyParts) (clear room : List ℕ) → IsInBounds layout → IsFrame (clear_layout suite layout) p clear
+pub framed : (suite : Suite) (layout : AnyLayout) (p : AnyParts) (clear room : List ℕ) → IsInBounds layout
+    → IsFrame (clear_layout suite layout) p clear
     → length room ≡ length (room_of p) + overhead_of suite
     → IsFrame layout (with_room p room) (with_error_control (has_fecf layout) (whole_of layout p room))
 framed suite (Tc layout) (tc p) clear room bounds is longer =
@@ -117,7 +148,8 @@ framed suite (Tc layout) (tc p) clear room bounds is longer =
         most = omega (arith, lengths.0, lengths.1, bounds);
         field = omega (arith, lengths.0, lengths.1);
       };
-      spelled = ap (λ (l : List ℕ). with_error_control layout.fecf l) (append-nil (tc_frames.prefix_of layout q ++ room));
+      spelled = ap (λ (l : List ℕ). with_error_control layout.fecf l)
+          (append-nil (tc_frames.prefix_of layout q ++ room));
     }
 framed suite (Tc layout) (tm p) clear room bounds is longer = absurd is
 framed suite (Tc layout) (aos p) clear room bounds is longer = absurd is
@@ -173,24 +205,32 @@ secured_for b vector prefix field kind =
     }
 
 -- the whole
-pub protects : (b : Binding) (n : ℕ) (clear : List ℕ) (p : AnyParts) (vector : Vector) (front room : List ℕ) → IsBinding b
-    → IsFrame (clear_layout b.suite b.link.layout) p clear → IsVectorOf b.suite vector → vector ≡ vector_for b.suite b.device n
-    → front ≡ prefix_for b.link.layout (prefix_of (clear_layout b.suite b.link.layout) p) (length clear + gain_of b.suite b.link.layout)
+pub protects : (b : Binding) (n : ℕ) (clear : List ℕ) (p : AnyParts) (vector : Vector) (front room : List ℕ)
+    → IsBinding b
+    → IsFrame (clear_layout b.suite b.link.layout) p clear → IsVectorOf b.suite vector
+    → vector ≡ vector_for b.suite b.device n
+    → front ≡ prefix_for b.link.layout (prefix_of (clear_layout b.suite b.link.layout) p)
+    (length clear + gain_of b.suite b.link.layout)
     → room ≡ room_for b vector front (room_of p)
     → length room ≡ length (room_of p) + overhead_of b.suite
     → Protects b n clear (with_error_control (has_fecf b.link.layout) ((front ++ room) ++ unwrap_or (ocf_of p) []))
 protects b n clear p vector front room binds is kind carries front_is room_is longer =
     let fecf = has_fecf b.link.layout in
     let tail : List ℕ = unwrap_or (ocf_of p) [] in
-    let same : front ≡ prefix_of b.link.layout (with_room p room) = front_is ∙ prefix_kept b.suite b.link.layout p clear room binds.link.layout is longer in
+    let same : front ≡ prefix_of b.link.layout (with_room p room) =
+    front_is ∙ prefix_kept b.suite b.link.layout p clear room binds.link.layout is longer in
     let secured : IsSecured b front room (pieces_for b vector front (room_of p)) (room_of p) =
-    subst (λ (r : List ℕ). IsSecured b front r (pieces_for b vector front (room_of p)) (room_of p)) (sym room_is) (secured_for b vector front (room_of p) kind) in
+    subst (λ (r : List ℕ). IsSecured b front r (pieces_for b vector front (room_of p)) (room_of p)) (sym room_is)
+    (secured_for b vector front (room_of p) kind) in
     record {
       parts = p;
       room = room;
       pieces = pieces_for b vector front (room_of p);
       clear_framed = is;
-      framed = subst (λ (l : List ℕ). IsFrame b.link.layout (with_room p room) (with_error_control fecf ((l ++ room) ++ tail))) (sym same) (framed b.suite b.link.layout p clear room binds.link.layout is longer);
+      framed = subst (λ (l : List ℕ). IsFrame b.link.layout (with_room p room)
+          (with_error_control fecf ((l ++ room) ++ tail))) (sym same)
+          (framed b.suite b.link.layout p clear room binds.link.layout is longer);
       vector = carries;
-      secured = subst (λ (l : List ℕ). IsSecured b l room (pieces_for b vector front (room_of p)) (room_of p)) same secured;
+      secured = subst (λ (l : List ℕ). IsSecured b l room (pieces_for b vector front (room_of p)) (room_of p)) same
+          secured;
     }

@@ -12,8 +12,10 @@ use Rattle.shared_unit.specs.Protecting.{IsProtectStep}
 use Rattle.frame_workers.specs.declared.handling.TheConstants.{MOST_GAIN}
 use Rattle.frame_workers.specs.Bodies.{FitsIn}
 
-pub fits : (told : Bool) (plan : PlanLines) (link : ℕ) (clear out : List ℕ) (kept : Option Permit) (answer : Protected) (v w : View) (room most : ℕ)
-    → IsProtectStep told plan link clear out kept answer v w → room ≡ FRAME_ROOM → length clear + MOST_GAIN ≤ most → FitsIn answer room most
+pub fits : (told : Bool) (plan : PlanLines) (link : ℕ) (clear out : List ℕ) (kept : Option Permit) (answer : Protected)
+    (v w : View) (room most : ℕ)
+    → IsProtectStep told plan link clear out kept answer v w → room ≡ FRAME_ROOM → length clear + MOST_GAIN ≤ most
+    → FitsIn answer room most
 fits told plan link clear out kept (answers.Done d) v w room most (p, is, used, under) whole enough =
     let b = p.binding in
     let done = under.0.protected in

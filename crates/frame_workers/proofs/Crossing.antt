@@ -1,5 +1,6 @@
 -- A unit may be shared by threads where its site may go to another thread.
--- A book's log is an enum over snapshots of itself. Of a snapshot nothing is asked, so each row is put together from those of its fields.
+-- A book's log is an enum over snapshots of itself. Of a snapshot nothing is asked, so each row is put together from
+-- those of its fields.
 use mir.Syntax.{Sym}
 use denote.RattleType.{RattleType}
 use denote.Builtin.{u8}
@@ -75,7 +76,8 @@ module _ (O : RattleType) (g : Site.Ghosts O.Denot) (s : IsSend O) where
   ))
 
   pub shelf_send : IsSend (Shelf.the_row O g)
-  shelf_send = view_send _ _ _ _ _ (declared_send (ShelfFields.the_type O g) (Box-send (Book.the_row O g) book_send, tt))
+  shelf_send =
+      view_send _ _ _ _ _ (declared_send (ShelfFields.the_type O g) (Box-send (Book.the_row O g) book_send, tt))
 
   pub unit_sync : IsSync (TheUnit.the_row O g)
   unit_sync = declared_sync (TheUnit.the_type O g) (

@@ -26,11 +26,13 @@ unfolding begun_at
 began_at told opening = record { rows = refl; tells = refl; plan = refl; start = refl }
 
 -- permits stay true where what is known grows
-pub protect_stays : (kept : Option Permit) (v w : Turn) → KnowsMoreOfBook v w → IsTrueIfKept kept v → IsTrueIfKept kept w
+pub protect_stays : (kept : Option Permit) (v w : Turn) → KnowsMoreOfBook v w → IsTrueIfKept kept v
+    → IsTrueIfKept kept w
 protect_stays None v w grows is = is
 protect_stays (Some permit) v w grows is = permit_stays permit v w grows is
 
-pub opening_stays : (kept : Option OpenPermit) (v w : Turn) → KnowsMoreOfBook v w → IsOpenTrueIfKept kept v → IsOpenTrueIfKept kept w
+pub opening_stays : (kept : Option OpenPermit) (v w : Turn) → KnowsMoreOfBook v w → IsOpenTrueIfKept kept v
+    → IsOpenTrueIfKept kept w
 opening_stays None v w grows is = is
 opening_stays (Some permit) v w grows is = open_stays permit v w grows is
 
@@ -41,7 +43,9 @@ permits_stay permits v w grows is = record {
 }
 
 -- with other permits at a place, all are true
-pub kept_at : (all : List Permits) (place : ℕ) (permits : Permits) (v w : Turn) → KnowsMoreOfBook v w → All (λ p. AreTrueFor p v) all
+pub kept_at : (all : List Permits) (place : ℕ) (permits : Permits) (v w : Turn) → KnowsMoreOfBook v w
+    → All (λ p. AreTrueFor p v) all
     → AreTrueFor permits w → All (λ p. AreTrueFor p w) (set all place permits)
 kept_at all place permits v w grows each here =
-    All-set (λ p. AreTrueFor p w) all place permits here (λ k d low. permits_stay (get_or all k d) v w grows (each k d low))
+    All-set (λ p. AreTrueFor p w) all place permits here
+    (λ k d low. permits_stay (get_or all k d) v w grows (each k d low))

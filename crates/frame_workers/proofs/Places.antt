@@ -1,5 +1,7 @@
 -- The answers of the lanes are placed in the order of the records.
-use Rattle.std.proofs.Common.{◌≡◌, ◌≢◌, ℕ, zero, suc, ◌+◌, ◌<◌, List, [], ◌∷◌, ◌++◌, length, take, drop, get_or, reverse, Bool, true, false, cond, Some, refl, sym, ◌∙◌, ap, subst, inl, inr, arith, add-one, Vec, set, length-append}
+use Rattle.std.proofs.Common.{◌≡◌, ◌≢◌, ℕ, zero, suc, ◌+◌, ◌<◌, List, [], ◌∷◌, ◌++◌, length, take, drop, get_or}
+use Rattle.std.proofs.Common.{reverse, Bool, true, false, cond, Some, refl, sym, ◌∙◌, ap, subst, inl, inr, arith}
+use Rattle.std.proofs.Common.{add-one, Vec, set, length-append}
 use Rattle.std.specs.List.{All, Contains, slice_get, slice_index_or}
 use Rattle.std.proofs.lemmas.Bool.{cases_eq}
 use Rattle.std.proofs.lemmas.Bool.Decides.{nat_tests}
@@ -16,25 +18,29 @@ use Rattle.frame_workers.proofs.Steps.{deeds_step, lane_own, lane_other}
 
 module _ {A : Type 0} where
   -- the list of a lane is set
-  pub left_set : (parts : List (Vec Answer A)) (i : ℕ) (room : Vec Answer A) → i < length parts → left_at i (set parts i room) ≡ reverse room.items
+  pub left_set : (parts : List (Vec Answer A)) (i : ℕ) (room : Vec Answer A) → i < length parts
+      → left_at i (set parts i room) ≡ reverse room.items
   left_set [] i room low = absurd (omega arith)
   left_set (p ∷ parts) zero room low = refl
   left_set (p ∷ parts) (suc i) room low = left_set parts i room (omega arith)
 
-  pub left_other : (parts : List (Vec Answer A)) (i n : ℕ) (room : Vec Answer A) → n ≢ i → left_at n (set parts i room) ≡ left_at n parts
+  pub left_other : (parts : List (Vec Answer A)) (i n : ℕ) (room : Vec Answer A) → n ≢ i
+      → left_at n (set parts i room) ≡ left_at n parts
   left_other [] i n room off = refl
   left_other (p ∷ parts) zero zero room off = absurd (off refl)
   left_other (p ∷ parts) zero (suc n) room off = refl
   left_other (p ∷ parts) (suc i) zero room off = refl
   left_other (p ∷ parts) (suc i) (suc n) room off = left_other parts i n room (λ e. off (ap suc e))
 
-  pub left_here : (parts : List (Vec Answer A)) (i : ℕ) (d : Vec Answer A) → i < length parts → left_at i parts ≡ reverse (slice_index_or parts i d).items
+  pub left_here : (parts : List (Vec Answer A)) (i : ℕ) (d : Vec Answer A) → i < length parts
+      → left_at i parts ≡ reverse (slice_index_or parts i d).items
   left_here [] i d low = absurd (omega arith)
   left_here (p ∷ parts) zero d low = refl
   left_here (p ∷ parts) (suc i) d low = left_here parts i d (omega arith)
 
   -- one more room, which is empty
-  pub left_push : (parts : List (Vec Answer A)) (room : Vec Answer A) → ((n : ℕ) → left_at n parts ≡ []) → room.items ≡ []
+  pub left_push : (parts : List (Vec Answer A)) (room : Vec Answer A) → ((n : ℕ) → left_at n parts ≡ [])
+      → room.items ≡ []
       → (n : ℕ) → left_at n (parts ++ room ∷ []) ≡ []
   left_push [] room h e zero = ap reverse e
   left_push [] room h e (suc n) = refl
@@ -45,7 +51,9 @@ module _ {A : Type 0} where
   pub pop_own : (parts : List (Vec Answer A)) (i : ℕ) (d room : Vec Answer A) (a : Answer) → i < length parts
       → (slice_index_or parts i d).items ≡ room.items ++ a ∷ [] → left_at i parts ≡ a ∷ left_at i (set parts i room)
   pop_own parts i d room a low items =
-      left_here parts i d low ∙ (ap reverse items ∙ (reverse-append room.items (a ∷ []) ∙ ap (λ (l : List Answer). a ∷ l) (sym (left_set parts i room low))))
+      left_here parts i d low
+      ∙ (ap reverse items
+      ∙ (reverse-append room.items (a ∷ []) ∙ ap (λ (l : List Answer). a ∷ l) (sym (left_set parts i room low))))
 
 -- an element at its place
 pub got : {X : Type 0} (xs : List X) (k : ℕ) (x : X) → k < length xs → x ≡ get_or xs k x → slice_get xs k ≡ Some x
@@ -54,9 +62,11 @@ got (y ∷ xs) zero x low is = ap Some (sym is)
 got (y ∷ xs) (suc k) x low is = got xs k x (omega arith) is
 
 -- how many answers a lane has left
-pub given_next : (rs : List Record) (k : ℕ) (r : Record) → r ≡ get_or rs k r → k < length rs → (n : ℕ) (before after : List Answer) (a : Answer)
+pub given_next : (rs : List Record) (k : ℕ) (r : Record) → r ≡ get_or rs k r → k < length rs
+    → (n : ℕ) (before after : List Answer) (a : Answer)
     → (r.lane ≡ n → before ≡ a ∷ after) → (n ≢ r.lane → after ≡ before) → (total : ℕ)
-    → length before + length (of_lane n (take k rs)) ≡ total → length after + length (of_lane n (take (k + 1) rs)) ≡ total
+    → length before + length (of_lane n (take k rs)) ≡ total → length after + length (of_lane n (take (k + 1) rs))
+    ≡ total
 given_next rs k r here within n before after a own other total h = elim (cases_eq r.lane n) [
   | inl is ↦
       let t : is_of_lane n r ≡ true = grind (arith, nat_tests) in
@@ -68,16 +78,19 @@ given_next rs k r here within n before after a own other total h = elim (cases_e
       let two = ap length (other (λ e. off (sym e))) in omega arith
 ]
 
-module _ (deeds : List Deed) (s : ℕ) (rs : List Record) (k : ℕ) (r : Record) (here : r ≡ get_or rs k r) (within : k < length rs) where
+module _ (deeds : List Deed) (s : ℕ) (rs : List Record) (k : ℕ) (r : Record) (here : r ≡ get_or rs k r)
+    (within : k < length rs) where
   front : drop k rs ≡ r ∷ drop (suc k) rs
   front = drop-cons rs k r within ∙ ap (λ (z : Record). z ∷ drop (suc k) rs) (sym here)
 
   -- the lane of the next record gives its next answer
-  pub own_next : (n : ℕ) (a : Answer) (ys : List Answer) → is_of_lane n r ≡ true → AreAmong deeds s n (drop k rs) (a ∷ ys)
+  pub own_next : (n : ℕ) (a : Answer) (ys : List Answer) → is_of_lane n r ≡ true
+      → AreAmong deeds s n (drop k rs) (a ∷ ys)
       → Contains deeds (deed_of s r a) × AreAmong deeds s n (drop (suc k) rs) ys
   own_next n a ys is left =
       let lane : of_lane n (drop k rs) ≡ r ∷ of_lane n (drop (suc k) rs) =
-      ap (of_lane n) front ∙ ap (λ (b : Bool). cond b (r ∷ of_lane n (drop (suc k) rs)) (of_lane n (drop (suc k) rs))) is in
+      ap (of_lane n) front ∙ ap (λ (b : Bool). cond b (r ∷ of_lane n (drop (suc k) rs)) (of_lane n (drop (suc k) rs)))
+      is in
       let all : All (Contains deeds) (deed_of s r a ∷ deeds_of s (of_lane n (drop (suc k) rs)) ys) =
       subst (λ (l : List Record). All (Contains deeds) (deeds_of s l (a ∷ ys))) lane left in (
         All-head (Contains deeds) (deed_of s r a) (deeds_of s (of_lane n (drop (suc k) rs)) ys) all,
@@ -85,25 +98,31 @@ module _ (deeds : List Deed) (s : ℕ) (rs : List Record) (k : ℕ) (r : Record)
       )
 
   -- another lane has the same records left
-  pub other_next : (n : ℕ) (ys : List Answer) → is_of_lane n r ≡ false → AreAmong deeds s n (drop k rs) ys → AreAmong deeds s n (drop (suc k) rs) ys
+  pub other_next : (n : ℕ) (ys : List Answer) → is_of_lane n r ≡ false → AreAmong deeds s n (drop k rs) ys
+      → AreAmong deeds s n (drop (suc k) rs) ys
   other_next n ys is left =
       let lane : of_lane n (drop k rs) ≡ of_lane n (drop (suc k) rs) =
-      ap (of_lane n) front ∙ ap (λ (b : Bool). cond b (r ∷ of_lane n (drop (suc k) rs)) (of_lane n (drop (suc k) rs))) is in
+      ap (of_lane n) front ∙ ap (λ (b : Bool). cond b (r ∷ of_lane n (drop (suc k) rs)) (of_lane n (drop (suc k) rs)))
+      is in
       subst (λ (l : List Record). All (Contains deeds) (deeds_of s l ys)) lane left
 
   -- the answer is placed
-  pub placed_next : (xs : List Answer) (a : Answer) → length xs ≡ k → All (Contains deeds) (deeds_of s (take k rs) xs) → Contains deeds (deed_of s r a)
+  pub placed_next : (xs : List Answer) (a : Answer) → length xs ≡ k → All (Contains deeds) (deeds_of s (take k rs) xs)
+      → Contains deeds (deed_of s r a)
       → All (Contains deeds) (deeds_of s (take (k + 1) rs) (xs ++ a ∷ []))
   placed_next xs a size all one =
       let t = length-take k rs in
       let taken : take (k + 1) rs ≡ take k rs ++ r ∷ [] =
-      ap (λ (n : ℕ). take n rs) (add-one k) ∙ (take-suc rs k r within ∙ ap (λ (z : Record). take k rs ++ z ∷ []) (sym here)) in
+      ap (λ (n : ℕ). take n rs) (add-one k)
+      ∙ (take-suc rs k r within ∙ ap (λ (z : Record). take k rs ++ z ∷ []) (sym here)) in
       let is : deeds_of s (take (k + 1) rs) (xs ++ a ∷ []) ≡ deeds_of s (take k rs) xs ++ deed_of s r a ∷ [] =
       ap (λ (l : List Record). deeds_of s l (xs ++ a ∷ [])) taken ∙ deeds_step s (take k rs) xs r a (omega arith) in
-      subst (All (Contains deeds)) (sym is) (All-push (Contains deeds) (deeds_of s (take k rs) xs) (deed_of s r a) all one)
+      subst (All (Contains deeds)) (sym is)
+      (All-push (Contains deeds) (deeds_of s (take k rs) xs) (deed_of s r a) all one)
 
   -- what is left of each lane, after the record's own gave its next answer
-  pub left_next : (before after : ℕ → List Answer) (a : Answer) → before r.lane ≡ a ∷ after r.lane → ((n : ℕ) → n ≢ r.lane → after n ≡ before n)
+  pub left_next : (before after : ℕ → List Answer) (a : Answer) → before r.lane ≡ a ∷ after r.lane
+      → ((n : ℕ) → n ≢ r.lane → after n ≡ before n)
       → ((n : ℕ) → AreAmong deeds s n (drop k rs) (before n))
       → Contains deeds (deed_of s r a) × ((n : ℕ) → AreAmong deeds s n (drop (suc k) rs) (after n))
   left_next before after a own others left =

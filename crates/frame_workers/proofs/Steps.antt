@@ -1,5 +1,7 @@
 -- A lane's records, handled one after the other.
-use Rattle.std.proofs.Common.{◌≡◌, ℕ, zero, suc, eqb, eq-eqb, ◌+◌, ◌<◌, ◌≤◌, List, [], ◌∷◌, ◌++◌, length, take, drop, get_or, Bool, true, false, cond, Some, refl, sym, ◌∙◌, ap, subst, arith, append_assoc, append-nil, length-append}
+use Rattle.std.proofs.Common.{◌≡◌, ℕ, zero, suc, eqb, eq-eqb, ◌+◌, ◌<◌, ◌≤◌, List, [], ◌∷◌, ◌++◌, length, take, drop}
+use Rattle.std.proofs.Common.{get_or, Bool, true, false, cond, Some, refl, sym, ◌∙◌, ap, subst, arith, append_assoc}
+use Rattle.std.proofs.Common.{append-nil, length-append}
 use Rattle.std.specs.List.{All, filter, slice_get, slice_index_or}
 use Rattle.std.proofs.lemmas.List.{take-append-drop, length-take, get_or_append_left, get_or-append-add, get_or_default}
 use Rattle.std.proofs.Math.Seq.{drop-cons}
@@ -23,7 +25,8 @@ deeds_step s [] (b ∷ xs) r a h = absurd (omega arith)
 deeds_step s (t ∷ ts) [] r a h = absurd (omega arith)
 deeds_step s (t ∷ ts) (b ∷ xs) r a h = ap (λ z. deed_of s t b ∷ z) (deeds_step s ts xs r a (omega arith))
 
-pub deeds_short : (s : ℕ) (ts us : List Record) (xs : List Answer) → length xs ≡ length ts → deeds_of s (ts ++ us) xs ≡ deeds_of s ts xs
+pub deeds_short : (s : ℕ) (ts us : List Record) (xs : List Answer) → length xs ≡ length ts
+    → deeds_of s (ts ++ us) xs ≡ deeds_of s ts xs
 deeds_short s [] [] [] h = refl
 deeds_short s [] (u ∷ us) [] h = refl
 deeds_short s [] us (b ∷ xs) h = absurd (omega arith)
@@ -31,21 +34,26 @@ deeds_short s (t ∷ ts) us [] h = absurd (omega arith)
 deeds_short s (t ∷ ts) us (b ∷ xs) h = ap (λ z. deed_of s t b ∷ z) (deeds_short s ts us xs (omega arith))
 
 -- what is true of each record is true of each answered one
-deeds_all : (P : Record → Type 0) (s : ℕ) (ts : List Record) (xs : List Answer) → All P ts → All (λ (d : Deed). P d.task) (deeds_of s ts xs)
+deeds_all : (P : Record → Type 0) (s : ℕ) (ts : List Record) (xs : List Answer) → All P ts
+    → All (λ (d : Deed). P d.task) (deeds_of s ts xs)
 deeds_all P s [] xs h = All-nil (λ (d : Deed). P d.task)
 deeds_all P s (t ∷ ts) [] h = All-nil (λ (d : Deed). P d.task)
 deeds_all P s (t ∷ ts) (a ∷ xs) h =
-    All-cons (λ (d : Deed). P d.task) (deed_of s t a) (deeds_of s ts xs) (h 0 t (omega arith)) (deeds_all P s ts xs (λ k d l. h (suc k) d (omega arith)))
+    All-cons (λ (d : Deed). P d.task) (deed_of s t a) (deeds_of s ts xs) (h 0 t (omega arith))
+    (deeds_all P s ts xs (λ k d l. h (suc k) d (omega arith)))
 
 -- of records that ascend, the first come before the others
 pub first_before : (ts us : List Record) → Ascend (ts ++ us) → ComeBefore ts us
 first_before ts us up i j a b =
     let (t, (p, low, here), is) = record_indexed i ts a in let (u, (q, low', here'), is') = record_indexed j us b in
     let size = length-append ts us in
-    let less : (slice_index_or (ts ++ us) p t).index < (slice_index_or (ts ++ us) (length ts + q) t).index = up p (length ts + q) t (omega arith) (omega arith) in
+    let less : (slice_index_or (ts ++ us) p t).index < (slice_index_or (ts ++ us) (length ts + q) t).index =
+    up p (length ts + q) t (omega arith) (omega arith) in
     let one : slice_index_or (ts ++ us) p t ≡ t = get_or_append_left ts us t p low ∙ here in
-    let two : slice_index_or (ts ++ us) (length ts + q) t ≡ u = get_or-append-add ts us q t ∙ (get_or_default us q t u low' ∙ here') in
-    let c : t.index < (slice_index_or (ts ++ us) (length ts + q) t).index = subst (λ (x : Record). x.index < (slice_index_or (ts ++ us) (length ts + q) t).index) one less in
+    let two : slice_index_or (ts ++ us) (length ts + q) t ≡ u =
+    get_or-append-add ts us q t ∙ (get_or_default us q t u low' ∙ here') in
+    let c : t.index < (slice_index_or (ts ++ us) (length ts + q) t).index =
+    subst (λ (x : Record). x.index < (slice_index_or (ts ++ us) (length ts + q) t).index) one less in
     let d : t.index < u.index = subst (λ (x : Record). t.index < x.index) two c in omega arith
 
 module _ (layout : Layout) (begin : Begin) (u v w : View) (s : ℕ) (ts us : List Record) (r : Record) (xs : List Answer)
@@ -62,13 +70,16 @@ module _ (layout : Layout) (begin : Begin) (u v w : View) (s : ℕ) (ts us : Lis
   before_one : ComeBefore ts (r ∷ [])
   before_one i j a b = first_before ts (r ∷ us) up i j a (omega arith)
 
-  pub one_after : (a : Answer) → Handled layout begin u v ts (deeds_of s ts xs) → Handled layout begin v w (r ∷ []) (deed_of s r a ∷ [])
+  pub one_after : (a : Answer) → Handled layout begin u v ts (deeds_of s ts xs)
+      → Handled layout begin v w (r ∷ []) (deed_of s r a ∷ [])
       → Handled layout begin u w (ts ++ r ∷ []) (deeds_of s (ts ++ r ∷ []) (xs ++ a ∷ []))
   one_after a x y =
-      let each : All (λ (d : Deed). d.task.index < r.index) (deeds_of s ts xs) = deeds_all (λ (t : Record). t.index < r.index) s ts xs below in
+      let each : All (λ (d : Deed). d.task.index < r.index) (deeds_of s ts xs) =
+      deeds_all (λ (t : Record). t.index < r.index) s ts xs below in
       subst (Handled layout begin u w (ts ++ r ∷ [])) (sym (deeds_step s ts xs r a size))
       (handled_then layout begin u v w ts (r ∷ []) (deeds_of s ts xs) (deed_of s r a ∷ []) x y before_one
-      (λ i d l. All-cons (λ (e : Deed). (slice_index_or (deeds_of s ts xs) i d).task.index < e.task.index) (deed_of s r a) [] (each i d l)
+      (λ i d l. All-cons (λ (e : Deed). (slice_index_or (deeds_of s ts xs) i d).task.index < e.task.index)
+      (deed_of s r a) [] (each i d l)
       (All-nil (λ (e : Deed). (slice_index_or (deeds_of s ts xs) i d).task.index < e.task.index))))
 
   -- the others are not handled
@@ -77,12 +88,16 @@ module _ (layout : Layout) (begin : Begin) (u v w : View) (s : ℕ) (ts us : Lis
   none_after x y =
       let both : Handled layout begin u w (ts ++ r ∷ []) (deeds_of s ts xs) =
       subst (Handled layout begin u w (ts ++ r ∷ [])) (append-nil (deeds_of s ts xs))
-      (handled_then layout begin u v w ts (r ∷ []) (deeds_of s ts xs) [] x y before_one (λ i d l j e m. absurd (omega arith))) in
-      let rest : ComeBefore (ts ++ r ∷ []) us = first_before (ts ++ r ∷ []) us (subst Ascend (sym (append_assoc ts (r ∷ []) us)) up) in
+      (handled_then layout begin u v w ts (r ∷ []) (deeds_of s ts xs) [] x y before_one
+      (λ i d l j e m. absurd (omega arith))) in
+      let rest : ComeBefore (ts ++ r ∷ []) us =
+      first_before (ts ++ r ∷ []) us (subst Ascend (sym (append_assoc ts (r ∷ []) us)) up) in
       let all : Handled layout begin u w ((ts ++ r ∷ []) ++ us) (deeds_of s ts xs) =
       subst (Handled layout begin u w ((ts ++ r ∷ []) ++ us)) (append-nil (deeds_of s ts xs))
-      (handled_then layout begin u w w (ts ++ r ∷ []) us (deeds_of s ts xs) [] both (handled_nothing layout begin w us) rest (λ i d l j e m. absurd (omega arith))) in
-      subst (λ (l : List Record). Handled layout begin u w l (deeds_of s (ts ++ r ∷ us) xs)) (append_assoc ts (r ∷ []) us)
+      (handled_then layout begin u w w (ts ++ r ∷ []) us (deeds_of s ts xs) [] both (handled_nothing layout begin w us)
+      rest (λ i d l j e m. absurd (omega arith))) in
+      subst (λ (l : List Record). Handled layout begin u w l (deeds_of s (ts ++ r ∷ us) xs))
+      (append_assoc ts (r ∷ []) us)
       (subst (Handled layout begin u w ((ts ++ r ∷ []) ++ us)) (sym (deeds_short s ts (r ∷ us) xs size)) all)
 
 -- what is not above zero is zero
@@ -94,7 +109,8 @@ filtered_short : {X : Type 0} (p : X → Bool) (xs : List X) → length (filter 
 filtered_short p [] = omega arith
 filtered_short p (x ∷ xs) = let h = filtered_short p xs in go (p x) h
   where
-    go : (b : Bool) → length (filter p xs) ≤ length xs → length (cond b (x ∷ filter p xs) (filter p xs)) ≤ suc (length xs)
+    go : (b : Bool) → length (filter p xs) ≤ length xs → length (cond b (x ∷ filter p xs) (filter p xs))
+        ≤ suc (length xs)
     go true h = omega arith
     go false h = omega arith
 
@@ -107,7 +123,8 @@ module _ (n : ℕ) (rs : List Record) (k : ℕ) (r : Record) (here : r ≡ get_o
   lane_own is = more ∙ ap (λ (b : Bool). of_lane n (take k rs) ++ cond b (r ∷ []) []) is
 
   pub lane_other : is_of_lane n r ≡ false → of_lane n (take (k + 1) rs) ≡ of_lane n (take k rs)
-  lane_other is = more ∙ (ap (λ (b : Bool). of_lane n (take k rs) ++ cond b (r ∷ []) []) is ∙ append-nil (of_lane n (take k rs)))
+  lane_other is =
+      more ∙ (ap (λ (b : Bool). of_lane n (take k rs) ++ cond b (r ∷ []) []) is ∙ append-nil (of_lane n (take k rs)))
 
   pub lane_short : is_of_lane n r ≡ true → length (of_lane n (take k rs)) < length rs
   lane_short is = let h = filtered_short (is_of_lane n) (take k rs) in let t = length-take k rs in omega arith
@@ -118,18 +135,21 @@ module _ (n : ℕ) (rs : List Record) (k : ℕ) (r : Record) (here : r ≡ get_o
       sym (ap (λ (z : Record). take k rs ++ z ∷ drop (suc k) rs) here
       ∙ (ap (λ (l : List Record). take k rs ++ l) (sym (drop-cons rs k r within)) ∙ take-append-drop k rs)) in
       ap (of_lane n) all ∙ (filter-append (is_of_lane n) (take k rs) (r ∷ drop (suc k) rs)
-      ∙ ap (λ (b : Bool). of_lane n (take k rs) ++ cond b (r ∷ of_lane n (drop (suc k) rs)) (of_lane n (drop (suc k) rs))) is)
+      ∙ ap (λ (b : Bool). of_lane n (take k rs) ++ cond b (r ∷ of_lane n (drop (suc k) rs))
+      (of_lane n (drop (suc k) rs))) is)
 
   -- the record is that of the lane at this place
   pub lane_next : is_of_lane n r ≡ true → slice_get (of_lane n rs) (length (of_lane n (take k rs))) ≡ Some r
-  lane_next is = ap (λ (l : List Record). slice_get l (length (of_lane n (take k rs)))) (lane_whole is) ∙ at_end (of_lane n (take k rs))
+  lane_next is = ap (λ (l : List Record). slice_get l (length (of_lane n (take k rs)))) (lane_whole is)
+      ∙ at_end (of_lane n (take k rs))
     where
       at_end : (ts : List Record) → slice_get (ts ++ r ∷ of_lane n (drop (suc k) rs)) (length ts) ≡ Some r
       at_end [] = refl
       at_end (t ∷ ts) = at_end ts
 
   ascends : Ascend rs → is_of_lane n r ≡ true → Ascend (of_lane n (take k rs) ++ r ∷ of_lane n (drop (suc k) rs))
-  ascends up is = subst Ascend (lane_whole is) (AllPairs-filter (λ (x y : Record). x.index < y.index) (is_of_lane n) rs up)
+  ascends up is =
+      subst Ascend (lane_whole is) (AllPairs-filter (λ (x y : Record). x.index < y.index) (is_of_lane n) rs up)
 
   -- none of the records of the lane before it has its number
   pub lane_first : Ascend rs → is_of_lane n r ≡ true → indexed r.index (of_lane n (take k rs)) ≡ 0
@@ -137,19 +157,26 @@ module _ (n : ℕ) (rs : List Record) (k : ℕ) (r : Record) (here : r ≡ get_o
       let own : eqb r.index r.index ≡ true = eq-eqb r.index r.index refl in
       let there : 0 < indexed r.index (r ∷ of_lane n (drop (suc k) rs)) = rw own (omega arith) in
       none_of_it (indexed r.index (of_lane n (take k rs))) (λ some.
-      let less = first_before (of_lane n (take k rs)) (r ∷ of_lane n (drop (suc k) rs)) (ascends up is) r.index r.index some there in omega arith)
+      let less = first_before (of_lane n (take k rs)) (r ∷ of_lane n (drop (suc k) rs)) (ascends up is) r.index r.index
+      some there in omega arith)
 
-  module _ (layout : Layout) (begin : Begin) (u v w : View) (s : ℕ) (xs : List Answer) (is : is_of_lane n r ≡ true) (up : Ascend rs)
+  module _ (layout : Layout) (begin : Begin) (u v w : View) (s : ℕ) (xs : List Answer) (is : is_of_lane n r ≡ true)
+      (up : Ascend rs)
       (size : length xs ≡ length (of_lane n (take k rs))) where
-    pub lane_step : (a : Answer) → Handled layout begin u v (of_lane n (take k rs)) (deeds_of s (of_lane n (take k rs)) xs)
+    pub lane_step : (a : Answer) → Handled layout begin u v (of_lane n (take k rs))
+        (deeds_of s (of_lane n (take k rs)) xs)
         → Handled layout begin v w (r ∷ []) (deed_of s r a ∷ [])
-        → Handled layout begin u w (of_lane n (take (k + 1) rs)) (deeds_of s (of_lane n (take (k + 1) rs)) (xs ++ a ∷ []))
+        → Handled layout begin u w (of_lane n (take (k + 1) rs))
+        (deeds_of s (of_lane n (take (k + 1) rs)) (xs ++ a ∷ []))
     lane_step a x y =
         subst (λ (l : List Record). Handled layout begin u w l (deeds_of s l (xs ++ a ∷ []))) (sym (lane_own is))
-        (one_after layout begin u v w s (of_lane n (take k rs)) (of_lane n (drop (suc k) rs)) r xs (ascends up is) size a x y)
+        (one_after layout begin u v w s (of_lane n (take k rs)) (of_lane n (drop (suc k) rs)) r xs (ascends up is) size
+        a x y)
 
-    pub lane_stop : Handled layout begin u v (of_lane n (take k rs)) (deeds_of s (of_lane n (take k rs)) xs) → Handled layout begin v w (r ∷ []) []
+    pub lane_stop : Handled layout begin u v (of_lane n (take k rs)) (deeds_of s (of_lane n (take k rs)) xs)
+        → Handled layout begin v w (r ∷ []) []
         → Handled layout begin u w (of_lane n rs) (deeds_of s (of_lane n rs) xs)
     lane_stop x y =
         subst (λ (l : List Record). Handled layout begin u w l (deeds_of s l xs)) (sym (lane_whole is))
-        (none_after layout begin u v w s (of_lane n (take k rs)) (of_lane n (drop (suc k) rs)) r xs (ascends up is) size x y)
+        (none_after layout begin u v w s (of_lane n (take k rs)) (of_lane n (drop (suc k) rs)) r xs (ascends up is) size
+        x y)

@@ -1,12 +1,14 @@
 // The workers of lanes, split from one and joined to it again.
-ghost use Rattle.std.specs.Prelude.{◌≡◌, ◌≢◌, ◌<◌, ◌≤◌, ◌+◌, ℕ, All, true, [], IfOk, length, slice_index_or, vec_capacity};
+ghost use Rattle.std.specs.Prelude.{◌≡◌, ◌≢◌, ◌<◌, ◌≤◌, ◌+◌, ℕ, All, true, [], IfOk, length, slice_index_or};
+ghost use Rattle.std.specs.Prelude.{vec_capacity};
 ghost use Rattle.std.specs.List.{AllPairs, list_any};
 ghost use Rattle.sdls_base.specs.declared.TheConstants.{MOST_KEYS};
 ghost use Rattle.counter_table.specs.Worker.{view};
 ghost use Rattle.record_io.specs.declared.records.Record.{Record};
 ghost use Rattle.shared_unit.specs.Turn.{IsReady};
 ghost use Rattle.law_workers.specs.Lanes.{giving_shares, is_of_lane, MeetAll, meeting_all, Part};
-ghost use Rattle.frame_workers.specs.Lanes.{answers_of, HaveOwnNumbers, IsRoom, IsSplit, IsThere, IsUsed, left_at, parts_of};
+ghost use Rattle.frame_workers.specs.Lanes.{answers_of, HaveOwnNumbers, IsRoom, IsSplit, IsThere, IsUsed, left_at};
+ghost use Rattle.frame_workers.specs.Lanes.{parts_of};
 
 use crate::lane::Lane;
 use crate::permits::no_permits;

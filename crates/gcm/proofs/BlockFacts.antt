@@ -1,8 +1,12 @@
 -- The blocks of octets that are put together.
-use Rattle.std.proofs.Common.{◌≡◌, ℕ, ◌+◌, ◌-◌, ◌*◌, ◌/◌, ◌%◌, ◌^◌, ◌<◌, ◌≤◌, List, [], ◌∷◌, ◌++◌, length, take, drop, map, replicate, get_or, bit_xor, refl, sym, ap, ◌∙◌, inl, inr, arith}
+use Rattle.std.proofs.Common.{◌≡◌, ℕ, ◌+◌, ◌-◌, ◌*◌, ◌/◌, ◌%◌, ◌^◌, ◌<◌, ◌≤◌, List, [], ◌∷◌, ◌++◌, length, take, drop}
+use Rattle.std.proofs.Common.{map, replicate, get_or, bit_xor, refl, sym, ap, ◌∙◌, inl, inr, arith}
 use Rattle.std.specs.List.{range_with_len}
 use Rattle.std.specs.Int.{w128, from_be_bytes}
-use Rattle.std.proofs.lemmas.List.{append_assoc, append-nil, length-append, length-drop, length-replicate, length-take-le, take-append-drop, take-append-le, take_all, drop-append-le, drop-drop, drop_at, ext_get_or, get_or_append_left, get_or-append_right, nil_from_length}
+use Rattle.std.proofs.lemmas.List.{append_assoc, append-nil, length-append, length-drop, length-replicate}
+use Rattle.std.proofs.lemmas.List.{length-take-le, take-append-drop, take-append-le, take_all, drop-append-le}
+use Rattle.std.proofs.lemmas.List.{drop-drop, drop_at, ext_get_or, get_or_append_left, get_or-append_right}
+use Rattle.std.proofs.lemmas.List.{nil_from_length}
 use Rattle.std.proofs.lemmas.List.FromFn.{length-map-range_with_len, get_or-map-range_with_len, map-range_with_len_more}
 use Rattle.std.proofs.lemmas.Bool.{cases_lt}
 use Rattle.gcm.specs.Field.{times, ghash}
@@ -34,7 +38,8 @@ blocks-append a b n long =
     let la : length (blocks a) ≡ n = length-blocks a ∙ (let e : length a / 16 ≡ n = omega arith in e) in
     let lb : length (blocks b) ≡ length b / 16 = length-blocks b in
     let lab : length (blocks (a ++ b)) ≡ length (a ++ b) / 16 = length-blocks (a ++ b) in
-    let both : length (blocks a ++ blocks b) ≡ length (blocks a) + length (blocks b) = length-append (blocks a) (blocks b) in
+    let both : length (blocks a ++ blocks b) ≡ length (blocks a) + length (blocks b) =
+    length-append (blocks a) (blocks b) in
     ext_get_or 0 (blocks (a ++ b)) (blocks a ++ blocks b) (omega arith)
     (λ i lt. elim (cases_lt i n) [
       | inl front ↦
@@ -53,7 +58,8 @@ one_block octets long =
     ∙ ap (λ (l : List ℕ). from_be_bytes w128 l ∷ []) (take_all 16 octets (omega arith))
 
 -- one more block of the loop
-pub fold_more : (h start y : ℕ) (octets : List ℕ) (i x : ℕ) → y ≡ folded h start (map (block_at octets) (range_with_len 0 i))
+pub fold_more : (h start y : ℕ) (octets : List ℕ) (i x : ℕ)
+    → y ≡ folded h start (map (block_at octets) (range_with_len 0 i))
     → x ≡ block_at octets i → times (bit_xor y x) h ≡ folded h start (map (block_at octets) (range_with_len 0 (i + 1)))
 fold_more h start y octets i x so_far is =
     let done : List ℕ = map (block_at octets) (range_with_len 0 i) in
@@ -74,7 +80,8 @@ length-padded octets =
     length-append octets (replicate n 0) ∙ ap (λ (k : ℕ). length octets + k) (length-replicate n 0) ∙ whole
 
 pub fold_rest : (h start : ℕ) (octets : List ℕ) (w : ℕ) → w ≡ length octets / 16 * 16 → w < length octets
-    → times (bit_xor (folded h start (blocks octets)) (from_be_bytes w128 (drop w octets ++ replicate (16 - length (drop w octets)) 0))) h
+    → times (bit_xor (folded h start (blocks octets))
+    (from_be_bytes w128 (drop w octets ++ replicate (16 - length (drop w octets)) 0))) h
     ≡ folded h start (blocks (padded octets))
 fold_rest h start octets w is some =
     let front : List ℕ = take w octets in
@@ -82,10 +89,12 @@ fold_rest h start octets w is some =
     let zeros : List ℕ = replicate (16 - length rest) 0 in
     let block : List ℕ = rest ++ zeros in
     let n : ℕ = length octets / 16 in
-    let long_front : length front ≡ 16 * n = length-take-le w octets (omega arith) ∙ (let e : w ≡ 16 * n = omega arith in e) in
+    let long_front : length front ≡ 16 * n =
+    length-take-le w octets (omega arith) ∙ (let e : w ≡ 16 * n = omega arith in e) in
     let long_rest : length rest ≡ length octets - w = length-drop w octets in
     let long_zeros : length zeros ≡ 16 - length rest = length-replicate (16 - length rest) 0 in
-    let long_block : length block ≡ 16 = length-append rest zeros ∙ (let e : length rest + length zeros ≡ 16 = omega arith in e) in
+    let long_block : length block ≡ 16 =
+    length-append rest zeros ∙ (let e : length rest + length zeros ≡ 16 = omega arith in e) in
     let parts : front ++ rest ≡ octets = take-append-drop w octets in
     let none : blocks rest ≡ [] =
     nil_from_length (blocks rest) (length-blocks rest ∙ (let e : length rest / 16 ≡ 0 = omega arith in e)) in

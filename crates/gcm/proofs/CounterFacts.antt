@@ -1,11 +1,15 @@
 -- The steps of counter mode.
-use Rattle.std.proofs.Common.{◌≡◌, ◌≢◌, ℕ, zero, suc, ◌+◌, ◌-◌, ◌*◌, ◌/◌, ◌%◌, ◌<◌, ◌≤◌, List, [], ◌∷◌, ◌++◌, length, map, take, drop, get_or, slice_index, slice_set, bit_xor, refl, sym, ap, ◌∙◌, subst, inl, inr, arith, min}
+use Rattle.std.proofs.Common.{◌≡◌, ◌≢◌, ℕ, zero, suc, ◌+◌, ◌-◌, ◌*◌, ◌/◌, ◌%◌, ◌<◌, ◌≤◌, List, [], ◌∷◌, ◌++◌, length}
+use Rattle.std.proofs.Common.{map, take, drop, get_or, slice_index, slice_set, bit_xor, refl, sym, ap, ◌∙◌, subst, inl}
+use Rattle.std.proofs.Common.{inr, arith, min}
 use Rattle.std.specs.List.{range_with_len}
 use Rattle.std.specs.Int.{w32, to_be_bytes}
 use Rattle.std.specs.Int.Bits.{xor_assoc, xor_self, xor_zero_r}
 use lib.Lanes.{zip2, put_chunk}
-use Rattle.std.proofs.lemmas.Simd.{length-zip2, length-put_chunk, get_or-zip2, get_or-put_chunk_below, get_or-put_chunk_at, get_or-put_chunk_above}
-use Rattle.std.proofs.lemmas.List.{length-set, length-drop, length-take-le, get_or-take, get_or-drop, get_or-set_same, get_or-set_other}
+use Rattle.std.proofs.lemmas.Simd.{length-zip2, length-put_chunk, get_or-zip2, get_or-put_chunk_below}
+use Rattle.std.proofs.lemmas.Simd.{get_or-put_chunk_at, get_or-put_chunk_above}
+use Rattle.std.proofs.lemmas.List.{length-set, length-drop, length-take-le, get_or-take, get_or-drop, get_or-set_same}
+use Rattle.std.proofs.lemmas.List.{get_or-set_other}
 use Rattle.std.proofs.lemmas.List.FromFn.{fill_by_all, length-map-range_with_len, get_or-map-range_with_len}
 use Rattle.std.proofs.lemmas.Bool.{cases_lt, cases_eq}
 use Rattle.aes_block.specs.Aes.{encrypted}
@@ -53,11 +57,13 @@ xors_more start k x pad old new low lt xors is =
             let at : slice_index (slice_set new k x) k ≡ bit_xor (slice_index old k) (slice_index pad (k - start)) =
             get_or-set_same new k x 0 here ∙ is
             ∙ ap (λ (o : ℕ). bit_xor o (slice_index pad (k - start))) (xors.above k (omega arith)) in
-            subst (λ (i : ℕ). slice_index (slice_set new k x) i ≡ bit_xor (slice_index old i) (slice_index pad (i - start))) (sym same) at
+            subst (λ (i : ℕ). slice_index (slice_set new k x) i
+            ≡ bit_xor (slice_index old i) (slice_index pad (i - start))) (sym same) at
         | inr other ↦ get_or-set_other new k j x 0 other ∙ xors.xored j jlow (omega arith) jlt
       ];
       below = λ j jlt. let other : j ≢ k = omega arith in get_or-set_other new k j x 0 other ∙ xors.below j jlt;
-      above = λ j le. let other : j ≢ k = omega arith in get_or-set_other new k j x 0 other ∙ xors.above j (omega arith);
+      above = λ j le. let other : j ≢ k = omega arith in
+          get_or-set_other new k j x 0 other ∙ xors.above j (omega arith);
     }
 
 -- at the pad's end, or the text's
@@ -97,7 +103,8 @@ xors_block start pad old new long le is =
 
 -- the four pads
 pub pad_at : (key iv : List ℕ) (first i : ℕ) → i < 4
-    → get_or (map (encrypted key) (four_counters iv (first + 1))) i [] ≡ encrypted key (counter_block iv (first + i + 1))
+    → get_or (map (encrypted key) (four_counters iv (first + 1))) i []
+    ≡ encrypted key (counter_block iv (first + i + 1))
 pad_at key iv first zero lt =
     let e : first + 1 ≡ first + 0 + 1 = omega arith in ap (λ (n : ℕ). encrypted key (counter_block iv n)) e
 pad_at key iv first (suc zero) lt =
@@ -137,7 +144,8 @@ counted_more key iv pad old now new i is counts xors = record {
 }
 
 -- the same with the count of blocks written otherwise
-pub counted_to : (key iv old new : List ℕ) (m n : ℕ) → m ≡ n → IsEncipheredBelow key iv old new m → IsEncipheredBelow key iv old new n
+pub counted_to : (key iv old new : List ℕ) (m n : ℕ) → m ≡ n → IsEncipheredBelow key iv old new m
+    → IsEncipheredBelow key iv old new n
 counted_to key iv old new m n same = subst (IsEncipheredBelow key iv old new) same
 
 pub counted_all : (key iv old new : List ℕ) (stop : ℕ) → length old ≤ stop → IsEncipheredBelow key iv old new stop

@@ -95,7 +95,8 @@ products zero n a c w = sym (times_zero n a)
 products (suc m) n a c w =
     ap (λ (x : ℕ). bit_xor (bit_at c m * times_low n a w) (times_low m c x)) (sym (times_by_x n a w))
     ∙ ap (bit_xor (bit_at c m * times_low n a w)) (products m n a c (by_x w))
-    ∙ ap (λ (x : ℕ). bit_xor x (times_low n a (times_low m c (by_x w)))) (sym (times_scale n a (bit_at c m) w (bit_at-lt c m)))
+    ∙ ap (λ (x : ℕ). bit_xor x (times_low n a (times_low m c (by_x w))))
+    (sym (times_scale n a (bit_at c m) w (bit_at-lt c m)))
     ∙ sym (times_sum_right n a (bit_at c m * w) (times_low m c (by_x w)))
 
 scale_lt : (p v : ℕ) → p < 2 → v < 2 ^ 128 → p * v < 2 ^ 128
@@ -124,7 +125,8 @@ by_x_pow k =
 bits_of : (n a : ℕ) → times_low (suc n) a (2 ^ n) ≡ a % 2 ^ suc n
 unfolding times_low
 bits_of zero a =
-    xor_zero_r (bit_at a 0 * 1) ∙ ap (λ (b : ℕ). b * 1) (bit_at_lowest a) ∙ (let same : a % 2 * 1 ≡ a % 2 = omega arith in same)
+    xor_zero_r (bit_at a 0 * 1) ∙ ap (λ (b : ℕ). b * 1) (bit_at_lowest a) ∙ (let same : a % 2 * 1 ≡ a % 2 =
+    omega arith in same)
 bits_of (suc n) a =
     let high : ℕ = bit_at a (suc n) in
     let low : ℕ = a % 2 ^ suc n in

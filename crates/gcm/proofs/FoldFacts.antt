@@ -23,7 +23,8 @@ folded_is h y (x ∷ xs) lh ly =
     let p : ℕ = power h (length xs) in
     let q : ℕ = power h (suc (length xs)) in
     folded_is h (times z h) xs lh (times_low_lt 128 z h lh)
-    ∙ ap (λ (t : ℕ). bit_xor t (ghash h xs)) (times_assoc z h p lh (power_lt h (length xs) lh) ∙ times_sum_left 128 y x q)
+    ∙ ap (λ (t : ℕ). bit_xor t (ghash h xs))
+    (times_assoc z h p lh (power_lt h (length xs) lh) ∙ times_sum_left 128 y x q)
     ∙ xor_assoc (times y q) (times x q) (ghash h xs)
 
 pub ghash_is : (h : ℕ) (xs : List ℕ) → h < 2 ^ 128 → folded h 0 xs ≡ ghash h xs

@@ -1,5 +1,6 @@
 -- Sums of 256 bits in three vectors of two halves.
-use Rattle.std.proofs.Common.{◌≡◌, ℕ, zero, suc, ◌+◌, ◌-◌, ◌*◌, ◌/◌, ◌%◌, ◌^◌, ◌<◌, List, [], ◌∷◌, length, get_or, bit_xor, mul_assoc, refl, sym, ap, ◌∙◌, arith}
+use Rattle.std.proofs.Common.{◌≡◌, ℕ, zero, suc, ◌+◌, ◌-◌, ◌*◌, ◌/◌, ◌%◌, ◌^◌, ◌<◌, List, [], ◌∷◌, length, get_or}
+use Rattle.std.proofs.Common.{bit_xor, mul_assoc, refl, sym, ap, ◌∙◌, arith}
 use Rattle.std.specs.Int.Bits.{xor_zero_r, xor_comm, xor_assoc, xor_lt, xor_shifted, xor_mod}
 use Rattle.std.specs.Simd.Lanes.{digits_l, zip2}
 use Rattle.std.proofs.Math.Nat.{mul_comm, mul-div_cancel}

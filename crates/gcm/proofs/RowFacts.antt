@@ -1,5 +1,7 @@
 -- The rows of a table, and what they give for the octets of a vector.
-use Rattle.std.proofs.Common.{◌≡◌, ℕ, zero, suc, ◌+◌, ◌-◌, ◌*◌, ◌/◌, ◌%◌, ◌^◌, ◌<◌, List, [], Bool, true, false, cond, leb, T, length, map, replicate, get_or, slice_set, bit_xor, bit_or, bit_and, w8, Fits, inl, inr, refl, sym, ap, ◌∙◌, subst, arith}
+use Rattle.std.proofs.Common.{◌≡◌, ℕ, zero, suc, ◌+◌, ◌-◌, ◌*◌, ◌/◌, ◌%◌, ◌^◌, ◌<◌, List, [], Bool, true, false, cond}
+use Rattle.std.proofs.Common.{leb, T, length, map, replicate, get_or, slice_set, bit_xor, bit_or, bit_and, w8, Fits}
+use Rattle.std.proofs.Common.{inl, inr, refl, sym, ap, ◌∙◌, subst, arith}
 use Rattle.std.specs.List.{range_with_len}
 use Rattle.std.specs.Int.{bit_at}
 use Rattle.std.specs.Int.Bits.{or_zero_r, xor_zero_r, xor_assoc, xor_mod, xor_shr, xor_shifted}

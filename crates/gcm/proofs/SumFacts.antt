@@ -1,5 +1,6 @@
 -- Sums in the field, and numbers as the sums of their octets.
-use Rattle.std.proofs.Common.{◌≡◌, ℕ, zero, suc, ◌+◌, ◌*◌, ◌/◌, ◌%◌, ◌^◌, ◌<◌, List, [], ◌∷◌, length, get_or, bit_xor, mul_assoc, w8, Fits, refl, sym, ap, ◌∙◌, arith}
+use Rattle.std.proofs.Common.{◌≡◌, ℕ, zero, suc, ◌+◌, ◌*◌, ◌/◌, ◌%◌, ◌^◌, ◌<◌, List, [], ◌∷◌, length, get_or, bit_xor}
+use Rattle.std.proofs.Common.{mul_assoc, w8, Fits, refl, sym, ap, ◌∙◌, arith}
 use Rattle.std.specs.Int.Bits.{xor_comm, xor_assoc, xor_shifted, xor_block}
 use Rattle.std.specs.Simd.Lanes.{Each1, digits_l, number_l}
 use Rattle.std.proofs.Math.Nat.{mod-eq_of_lt}

@@ -1,5 +1,6 @@
 -- Multiples of an element of GF(2^128) laid out by octets, and sums of 256 bits in three vectors (SP 800-38D, 6.3).
-use Rattle.std.specs.Prelude.{◌≡◌, ℕ, zero, suc, ◌*◌, ◌/◌, ◌%◌, ◌<◌, ◌^◌, List, [], slice_index, slice_index_or, bit_xor}
+use Rattle.std.specs.Prelude.{◌≡◌, ℕ, zero, suc, ◌*◌, ◌/◌, ◌%◌, ◌<◌, ◌^◌, List, [], slice_index, slice_index_or}
+use Rattle.std.specs.Prelude.{bit_xor}
 use Rattle.gcm.specs.Field.{by_x, times_low}
 
 -- v times x^n

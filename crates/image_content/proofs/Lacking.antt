@@ -1,5 +1,6 @@
 -- Rows among which a key or a digest is not.
-use Rattle.std.proofs.Common.{◌≡◌, ◌≢◌, ℕ, Bool, true, false, not, is_some, IsTrue, cond, nat_eq, List, [], ◌∷◌, All, Option, Some, None, sym, refl, ap, ◌∙◌, arith}
+use Rattle.std.proofs.Common.{◌≡◌, ◌≢◌, ℕ, Bool, true, false, not, is_some, IsTrue, cond, nat_eq, List, [], ◌∷◌, All}
+use Rattle.std.proofs.Common.{Option, Some, None, sym, refl, ap, ◌∙◌, arith}
 use Rattle.std.specs.List.{find}
 use Rattle.std.specs.Option.{option_map}
 use Rattle.std.specs.Str.{bytes_eq}
@@ -16,7 +17,8 @@ use Rattle.key_book.specs.KeyRefusal.{row_with}
 find-nothing : {X : Type 0} (p : X → Bool) (xs : List X) → All (λ x. p x ≡ false) xs → find p xs ≡ None
 find-nothing p [] none = refl
 find-nothing p (x ∷ xs) none =
-    ap (λ b. cond b (Some x) (find p xs)) (All-head (λ y. p y ≡ false) x xs none) ∙ find-nothing p xs (All-tail (λ y. p y ≡ false) x xs none)
+    ap (λ b. cond b (Some x) (find p xs)) (All-head (λ y. p y ≡ false) x xs none)
+    ∙ find-nothing p xs (All-tail (λ y. p y ≡ false) x xs none)
 
 pub no_key : (rows : List KeyRow) (id : ℕ) → row_of rows id ≡ None → All (λ (other : KeyRow). other.id ≢ id) rows
 no_key rows id nowhere k d low same =
@@ -25,11 +27,14 @@ no_key rows id nowhere k d low same =
 
 pub key_nowhere : (rows : List KeyRow) (id : ℕ) → All (λ (other : KeyRow). other.id ≢ id) rows → row_of rows id ≡ None
 key_nowhere rows id none =
-    find-nothing (λ (row : KeyRow). nat_eq row.id id) rows (λ k d low. let other = none k d low in grind (arith, nat_tests, other))
+    find-nothing (λ (row : KeyRow). nat_eq row.id id) rows (λ k d low. let other = none k d low in
+    grind (arith, nat_tests, other))
 
-pub no_digest : (rows : List KeyRow) (digest : List ℕ) → row_with rows digest ≡ None → All (λ (other : KeyRow). other.digest ≢ digest) rows
+pub no_digest : (rows : List KeyRow) (digest : List ℕ) → row_with rows digest ≡ None
+    → All (λ (other : KeyRow). other.digest ≢ digest) rows
 no_digest rows digest nowhere k d low same =
-    false≢true (sym (find_none (λ (row : KeyRow). bytes_eq row.digest digest) rows nowhere k d low) ∙ (bytes_eq-Decides _ digest).1 same)
+    false≢true (sym (find_none (λ (row : KeyRow). bytes_eq row.digest digest) rows nowhere k d low)
+    ∙ (bytes_eq-Decides _ digest).1 same)
 
 differs : (a b : List ℕ) → a ≢ b → bytes_eq a b ≡ false
 differs a b other = by (bytes_eq a b) refl
@@ -38,28 +43,33 @@ differs a b other = by (bytes_eq a b) refl
     by false e = e
     by true e = elim (other ((bytes_eq-Decides a b).0 e)) [ ]
 
-pub digest_nowhere : (rows : List KeyRow) (digest : List ℕ) → All (λ (other : KeyRow). other.digest ≢ digest) rows → row_with rows digest ≡ None
+pub digest_nowhere : (rows : List KeyRow) (digest : List ℕ) → All (λ (other : KeyRow). other.digest ≢ digest) rows
+    → row_with rows digest ≡ None
 digest_nowhere rows digest none =
     find-nothing (λ (row : KeyRow). bytes_eq row.digest digest) rows (λ k d low. differs _ digest (none k d low))
 
 -- what `is_none` says of what was found
 
-pub none_if : {X Y : Type 0} (f : X → Y) (found : Option X) (row : Option Y) (none : Bool) → option_map f found ≡ row → is_some found ≡ not none → IsTrue none → row ≡ None
+pub none_if : {X Y : Type 0} (f : X → Y) (found : Option X) (row : Option Y) (none : Bool) → option_map f found ≡ row
+    → is_some found ≡ not none → IsTrue none → row ≡ None
 none_if f None row none same says t = sym same
 none_if f (Some x) row true same says t = absurd (cc)
 none_if f (Some x) row false same says t = absurd (cc)
 
-pub true_if : {X Y : Type 0} (f : X → Y) (found : Option X) (row : Option Y) (none : Bool) → option_map f found ≡ row → is_some found ≡ not none → row ≡ None → IsTrue none
+pub true_if : {X Y : Type 0} (f : X → Y) (found : Option X) (row : Option Y) (none : Bool) → option_map f found ≡ row
+    → is_some found ≡ not none → row ≡ None → IsTrue none
 true_if f None row true same says nothing = refl
 true_if f None row false same says nothing = absurd (cc)
 true_if f (Some x) row none same says nothing = absurd (cc)
 
-pub none_if_mapped : {X Y : Type 0} (f : X → Y) (found : Option X) (mapped : Option Y) (none : Bool) → mapped ≡ option_map f found → is_some mapped ≡ not none → IsTrue none → found ≡ None
+pub none_if_mapped : {X Y : Type 0} (f : X → Y) (found : Option X) (mapped : Option Y) (none : Bool)
+    → mapped ≡ option_map f found → is_some mapped ≡ not none → IsTrue none → found ≡ None
 none_if_mapped f None mapped none same says t = refl
 none_if_mapped f (Some x) mapped true same says t = absurd (false≢true (sym says ∙ ap is_some same))
 none_if_mapped f (Some x) mapped false same says t = absurd (cc)
 
-pub true_if_mapped : {X Y : Type 0} (f : X → Y) (found : Option X) (mapped : Option Y) (none : Bool) → mapped ≡ option_map f found → is_some mapped ≡ not none → found ≡ None → IsTrue none
+pub true_if_mapped : {X Y : Type 0} (f : X → Y) (found : Option X) (mapped : Option Y) (none : Bool)
+    → mapped ≡ option_map f found → is_some mapped ≡ not none → found ≡ None → IsTrue none
 true_if_mapped f None mapped true same says nothing = refl
 true_if_mapped f None mapped false same says nothing = absurd (false≢true (sym (ap is_some same) ∙ says))
 true_if_mapped f (Some x) mapped none same says nothing = absurd (cc)

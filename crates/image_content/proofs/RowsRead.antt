@@ -1,5 +1,6 @@
 -- The rows that were read up to a place, and those behind it: for `key_rows` and `sa_rows`.
-use Rattle.std.proofs.Common.{◌≡◌, ℕ, ◌<◌, List, [], ◌∷◌, ◌++◌, length, take, drop, sym, ap, ◌∙◌, subst, arith, All, append_assoc, length-append}
+use Rattle.std.proofs.Common.{◌≡◌, ℕ, ◌<◌, List, [], ◌∷◌, ◌++◌, length, take, drop, sym, ap, ◌∙◌, subst, arith, All}
+use Rattle.std.proofs.Common.{append_assoc, length-append}
 use Rattle.std.specs.List.{flat_map}
 use Rattle.std.proofs.Math.Seq.{take-append_seam, drop-append_seam}
 use Rattle.std.proofs.lemmas.List.Elements.{All-head, All-tail}
@@ -40,7 +41,8 @@ pub record SplitAt {X : Type 0} (Behind : List X → Type 0) (front all : List X
   pub behind : Behind others
 
 -- of rows that are octets, the first is the first octets, and the others those behind them
-pub record HeadOf {X : Type 0} (f : X → List ℕ) (Is : X → List ℕ → Type 0) (first behind : List ℕ) (rows : List X) : Type 0 where
+pub record HeadOf {X : Type 0} (f : X → List ℕ) (Is : X → List ℕ → Type 0) (first behind : List ℕ)
+    (rows : List X) : Type 0 where
   pub head : X
   pub tail : List X
   pub rows_are : rows ≡ head ∷ tail
@@ -48,10 +50,13 @@ pub record HeadOf {X : Type 0} (f : X → List ℕ) (Is : X → List ℕ → Typ
   pub each : All (λ row. Is row (f row)) tail
   pub spelled : behind ≡ flat_map f tail
 
-pub head_of : {X : Type 0} (f : X → List ℕ) (Is : X → List ℕ → Type 0) (width : ℕ) → 0 < width → ((row : X) → Is row (f row) → length (f row) ≡ width)
-    → (first behind : List ℕ) → length first ≡ width → (rows : List X) → All (λ row. Is row (f row)) rows → first ++ behind ≡ flat_map f rows
+pub head_of : {X : Type 0} (f : X → List ℕ) (Is : X → List ℕ → Type 0) (width : ℕ) → 0 < width
+    → ((row : X) → Is row (f row) → length (f row) ≡ width)
+    → (first behind : List ℕ) → length first ≡ width → (rows : List X) → All (λ row. Is row (f row)) rows
+    → first ++ behind ≡ flat_map f rows
     → HeadOf f Is first behind rows
-head_of f Is width some sized first behind size [] all spelled = absurd (omega (arith, ap length spelled, length-append first behind))
+head_of f Is width some sized first behind size [] all spelled =
+    absurd (omega (arith, ap length spelled, length-append first behind))
 head_of f Is width some sized first behind size (row ∷ rows) all spelled =
     let own = All-head (λ row. Is row (f row)) row rows all in
     let same : length first ≡ length (f row) = size ∙ sym (sized row own) in
@@ -71,7 +76,8 @@ head_of f Is width some sized first behind size (row ∷ rows) all spelled =
     }
 
 -- one row more
-pub split_more : {X : Type 0} (Behind After : List X → Type 0) (front all : List X) (row : X) (s : SplitAt Behind front all) (tail : List X)
+pub split_more : {X : Type 0} (Behind After : List X → Type 0) (front all : List X) (row : X)
+    (s : SplitAt Behind front all) (tail : List X)
     → s.others ≡ row ∷ tail → After tail → SplitAt After (front ++ row ∷ []) all
 split_more Behind After front all row s tail is after = record {
   others = tail;
@@ -87,18 +93,28 @@ key_sized row is = key_row_length (key_parts row) (key_octets row) is
 pub same_key : (a b : KeyRow) (octets : List ℕ) → IsKey a octets → IsKey b octets → a ≡ b
 same_key a b octets is also =
     let same = one_key_row (key_parts a) (key_parts b) octets is also in
-    λ i. record { id = (same i).id; state = (same i).state; bytes = (same i).bytes; digest = (same i).digest; mark = (same i).mark; floor = (same i).floor }
+    λ i. record {
+      id = (same i).id;
+      state = (same i).state;
+      bytes = (same i).bytes;
+      digest = (same i).digest;
+      mark = (same i).mark;
+      floor = (same i).floor;
+    }
 
 -- ---- associations
 
-pub sa_sized : (keys : List KeyRow) (row : SaRow) → IsRestartedRow keys row (sa_octets row) → length (sa_octets row) ≡ 32
+pub sa_sized : (keys : List KeyRow) (row : SaRow) → IsRestartedRow keys row (sa_octets row)
+    → length (sa_octets row) ≡ 32
 sa_sized keys row is = sa_row_length (sa_parts row) (sa_octets row) is.is_row
 
-pub same_sa : (keys : List KeyRow) (a b : SaRow) (octets : List ℕ) → IsRestartedRow keys a octets → IsRestartedRow keys b octets → a ≡ b
+pub same_sa : (keys : List KeyRow) (a b : SaRow) (octets : List ℕ) → IsRestartedRow keys a octets
+    → IsRestartedRow keys b octets → a ≡ b
 same_sa keys a b octets is also =
     let same = one_sa_row (sa_parts a) (sa_parts b) octets is.is_row also.is_row in
     let window : a.window ≡ b.window = is.window
-    ∙ ap (λ (parts : SaParts). new_window (restarted_high keys parts.sa.direction parts.key 0) parts.sa.window) same ∙ sym also.window in
+    ∙ ap (λ (parts : SaParts). new_window (restarted_high keys parts.sa.direction parts.key 0) parts.sa.window) same
+    ∙ sym also.window in
     λ i. record {
       spi = (same i).sa.spi;
       direction = (same i).sa.direction;

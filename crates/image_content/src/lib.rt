@@ -1,13 +1,13 @@
 //! The content of a bank of an image: the rows of all keys and associations of a unit's state (profile). It has 51,703
-//! octets in version 1, with room for 512 keys and 64 associations, and 401,911 in version 2, with room for every state.
-//! The highest numbers that were accepted are not in it: a restart sets them.
+//! octets in version 1, with room for 512 keys and 64 associations, and 401,911 in version 2, with room for every
+//! state. The highest numbers that were accepted are not in it: a restart sets them.
 //!
 //! [`write_content`] and [`write_content_two`] write it without taking memory. [`read_content`] gives the state back,
 //! or says that the octets are no content. Read `specs/Content.antt` first.
 //!
 //! Nothing is known of a row that is read, so each rule of a state is tested. [`may_follow_keys`] and
-//! [`may_follow_associations`] are the conditions of `add_row` of the two books, as tests. [`holds_key`] is what a state
-//! asks of an association and the keys. [`keys_of`] and [`state_of_rows`] make the book of keys, and the state.
+//! [`may_follow_associations`] are the conditions of `add_row` of the two books, as tests. [`holds_key`] is what a
+//! state asks of an association and the keys. [`keys_of`] and [`state_of_rows`] make the book of keys, and the state.
 #![tactic(auto)]
 
 mod associations;

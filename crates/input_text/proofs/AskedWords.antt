@@ -1,5 +1,6 @@
 -- The words of monitoring messages, for `read_asked`, `elsewhere` and `said`.
-use Rattle.std.proofs.Common.{◌≡◌, ℕ, Bool, true, false, if◌then◌else◌, codes, List, [], ◌∷◌, ◌++◌, length, Result, Some, refl, sym, ap, ◌∙◌}
+use Rattle.std.proofs.Common.{◌≡◌, ℕ, Bool, true, false, if◌then◌else◌, codes, List, [], ◌∷◌, ◌++◌, length, Result}
+use Rattle.std.proofs.Common.{Some, refl, sym, ap, ◌∙◌}
 use Rattle.std.specs.Prelude.{◌==◌, ◌&&◌, ◌||◌}
 use Rattle.std.specs.Fmt.{decimal}
 use Rattle.std.specs.Str.{bytes_eq}
@@ -38,9 +39,11 @@ some_words (asks.Octets octets) none = absurd cc
 pub only_asked : (result : Result Asked LineError) (word : List ℕ) (words : List (List ℕ)) (asked : Asked)
     → ((octets : List ℕ) → AreAsked octets → word ≡ codes "monitor" → words ≡ encode_lower octets ∷ []
     → AnswersField result (asks.Octets octets))
-    → ((block : List ℕ) → IsBytes block → length block ≡ BLOCK → word ≡ codes "self-test" → words ≡ encode_lower block ∷ []
+    → ((block : List ℕ) → IsBytes block → length block ≡ BLOCK → word ≡ codes "self-test"
+    → words ≡ encode_lower block ∷ []
     → AnswersField result (asks.Message (messages.SelfTest block)))
-    → ((message : Monitoring) → asked_named word ≡ Some message → words ≡ [] → AnswersField result (asks.Message message))
+    → ((message : Monitoring) → asked_named word ≡ Some message → words ≡ []
+    → AnswersField result (asks.Message message))
     → IsAsked asked → word ∷ words ≡ asked_words asked → AnswersField result asked
 unfolding asked_words IsAsked
 only_asked result word words (asks.Message messages.Ping) monitor block named is are =
@@ -55,12 +58,14 @@ only_asked result word words (asks.Message (messages.SelfTest octets)) monitor b
     block octets is.1 is.0 (ap first are) (ap behind are)
 only_asked result word words (asks.Message messages.AlarmReset) monitor block named is are =
     named messages.AlarmReset (ap (λ ws. asked_named (first ws)) are) (ap behind are)
-only_asked result word words (asks.Octets octets) monitor block named is are = monitor octets is (ap first are) (ap behind are)
+only_asked result word words (asks.Octets octets) monitor block named is are =
+    monitor octets is (ap first are) (ap behind are)
 
 -- ---- the first word of a Monitor record's line
 
 abbrev words_if : Bool → ℕ → ℕ → Asked → List (List ℕ)
-words_if here lane link asked = (if here then [] else codes "at" ∷ decimal lane ∷ decimal link ∷ []) ++ asked_words asked
+words_if here lane link asked = (if here then [] else codes "at" ∷ decimal lane ∷ decimal link ∷ [])
+    ++ asked_words asked
 
 -- the words that begin the lines of other items
 abbrev is_other : List ℕ → Bool

@@ -5,13 +5,17 @@ use Rattle.std.proofs.lemmas.Bool.Decides.{nat_tests}
 use Rattle.record_io.specs.declared.kinds.TheConstants.{MOST_RECORD_OCTETS}
 use Rattle.ep_codec.specs.Command.{IsInBounds, HasTypes, command_octets}
 use Rattle.ep_codec.specs.declared.command.Command.{Command}
-use Rattle.ep_codec.specs.declared.command.Command.TheVariants.{Rekeying, Activate, Deactivate, Verify, Destroy, Inventory, Compose, ReadNumber, Create, Delete, SetWindow, Rekey, Expire, SetNumber, Start, Stop, Status}
+use Rattle.ep_codec.specs.declared.command.Command.TheVariants.{Rekeying, Activate, Deactivate, Verify, Destroy}
+use Rattle.ep_codec.specs.declared.command.Command.TheVariants.{Inventory, Compose, ReadNumber, Create, Delete}
+use Rattle.ep_codec.specs.declared.command.Command.TheVariants.{SetWindow, Rekey, Expire, SetNumber, Start, Stop}
+use Rattle.ep_codec.specs.declared.command.Command.TheVariants.{Status}
 use Rattle.ep_codec.proofs.Lengths.{keys_length}
 
 up_to : (least greatest n : ℕ) → IsTrue (is_in_range least greatest n) → n ≤ greatest
 up_to least greatest n is = grind (arith, nat_tests)
 
-pub command_short : (command : Command) → IsInBounds command → HasTypes command → length (command_octets command) ≤ MOST_RECORD_OCTETS
+pub command_short : (command : Command) → IsInBounds command → HasTypes command
+    → length (command_octets command) ≤ MOST_RECORD_OCTETS
 unfolding IsInBounds HasTypes command_octets
 command_short (Rekeying master vector sealed tag) bounds types =
     let few = up_to 19 280 (length sealed) bounds in

@@ -6,7 +6,8 @@ use Rattle.fsr_log.specs.declared.messages.Monitoring.TheVariants.{Ping, LogStat
 use Rattle.fsr_log.specs.declared.messages.Monitoring.TheVariants.{AlarmReset}
 use Rattle.fsr_log.specs.Message.{HasBlock, monitoring_octets}
 
-pub monitoring_short : (message : Monitoring) → HasBlock message → length (monitoring_octets message) ≤ MOST_RECORD_OCTETS
+pub monitoring_short : (message : Monitoring) → HasBlock message
+    → length (monitoring_octets message) ≤ MOST_RECORD_OCTETS
 monitoring_short Ping block = omega arith
 monitoring_short LogStatus block = omega arith
 monitoring_short DumpLog block = omega arith

@@ -1,5 +1,6 @@
 -- Numbers taken from words one after the other, for the lists at the end of a line.
-use Rattle.std.proofs.Common.{◌≡◌, ℕ, ◌+◌, ◌<◌, List, [], ◌∷◌, ◌++◌, map, length, refl, sym, ap, ◌∙◌, arith, length-append}
+use Rattle.std.proofs.Common.{◌≡◌, ℕ, ◌+◌, ◌<◌, List, [], ◌∷◌, ◌++◌, map, length, refl, sym, ap, ◌∙◌, arith}
+use Rattle.std.proofs.Common.{length-append}
 use Rattle.std.specs.List.{AllByRecursion}
 use Rattle.std.specs.Fmt.{decimal}
 use Rattle.std.proofs.lemmas.List.{map-append, append-nil}
@@ -44,7 +45,8 @@ pub taken_first : (P : ℕ → Type 0) (all left : List (List ℕ)) (n : ℕ) �
 taken_first P all left n is holds only = record {
   spelled = is;
   each = (holds, tt);
-  rest = λ ns each spelled. first_rest P n left ns (λ m behind m_holds e. only m behind m_holds (is ∙ e)) each (sym is ∙ spelled);
+  rest = λ ns each spelled. first_rest P n left ns (λ m behind m_holds e. only m behind m_holds (is ∙ e)) each
+      (sym is ∙ spelled);
 }
 
 -- a list of one number or more
@@ -74,7 +76,8 @@ pub taken_next : (P : ℕ → Type 0) (all before left : List (List ℕ)) (taken
     → ((m : ℕ) → P m → word ≡ decimal m → n ≡ m) → Taken P all left (taken ++ n ∷ [])
 taken_next P all before left taken word n was is holds spelled only = record {
   spelled = was.spelled ∙ ap (λ words. map decimal taken ++ words) (is ∙ ap (λ w. w ∷ left) spelled)
-      ∙ append_behind (map decimal taken) (decimal n) left ∙ ap (λ words. words ++ left) (sym (map-append decimal taken (n ∷ [])));
+      ∙ append_behind (map decimal taken) (decimal n) left ∙ ap (λ words. words ++ left)
+      (sym (map-append decimal taken (n ∷ [])));
   each = each_behind P taken n was.each holds;
   rest = λ ns each all_is.
       let r = was.rest ns each all_is in
@@ -85,7 +88,8 @@ taken_next P all before left taken word n was is holds spelled only = record {
 
 pub all_taken : (P : ℕ → Type 0) (all left : List (List ℕ)) (taken : List ℕ) → Taken P all left taken → left ≡ []
     → all ≡ map decimal taken
-all_taken P all left taken was is = was.spelled ∙ ap (λ words. map decimal taken ++ words) is ∙ append-nil (map decimal taken)
+all_taken P all left taken was is = was.spelled ∙ ap (λ words. map decimal taken ++ words) is
+    ∙ append-nil (map decimal taken)
 
 nothing_more : (P : ℕ → Type 0) (ns taken more : List ℕ) → ns ≡ taken ++ more → [] ≡ map decimal more → taken ≡ ns
 nothing_more P ns taken [] split is = sym (split ∙ append-nil taken)

@@ -1,5 +1,6 @@
 -- The words of a window, for the calls that take them.
-use Rattle.std.proofs.Common.{◌≡◌, ◌≢◌, ℕ, zero, suc, ◌+◌, ◌*◌, ◌%◌, ◌^◌, ◌<◌, ◌≤◌, Bool, true, false, List, [], ◌∷◌, ◌++◌, map, codes, refl, sym, ap, ◌∙◌, subst, arith}
+use Rattle.std.proofs.Common.{◌≡◌, ◌≢◌, ℕ, zero, suc, ◌+◌, ◌*◌, ◌%◌, ◌^◌, ◌<◌, ◌≤◌, Bool, true, false, List, [], ◌∷◌}
+use Rattle.std.proofs.Common.{◌++◌, map, codes, refl, sym, ap, ◌∙◌, subst, arith}
 use Rattle.std.specs.Prelude.{◌==◌, if◌then◌else◌}
 use Rattle.std.specs.Fmt.{decimal}
 use Rattle.std.specs.List.{AllByRecursion}
@@ -7,7 +8,8 @@ use Rattle.std.proofs.lemmas.Bool.Decides.{nat_tests}
 use Rattle.std.proofs.lemmas.Fmt.{decimal_by_steps}
 use Rattle.replay_window.specs.WindowField.{back_of, width_of, window_field}
 use Rattle.sdls_base.specs.Bounds.{IsWidth}
-use Rattle.replay_window.proofs.Fields.{back_of-field, width_field-back, width_field-width, width_of-field, window_field-parts}
+use Rattle.replay_window.proofs.Fields.{back_of-field, width_field-back, width_field-width, width_of-field}
+use Rattle.replay_window.proofs.Fields.{window_field-parts}
 use Rattle.input_text.specs.Command.{back_words, window_words}
 use Rattle.input_text.proofs.Texts.{tail_is}
 
@@ -45,7 +47,8 @@ pub channels_have_no_back : (channels : List ℕ) → AllByRecursion (λ channel
     → HasNoBack (map decimal channels)
 channels_have_no_back [] each words is = absurd cc
 channels_have_no_back (n ∷ ns) each words is =
-    number_is_no_back n (let low : n ≤ 63 = each.0 in omega (arith, low)) (first_is (decimal n) (codes "back") (map decimal ns) words is)
+    number_is_no_back n (let low : n ≤ 63 = each.0 in omega (arith, low))
+    (first_is (decimal n) (codes "back") (map decimal ns) words is)
 
 -- ---- with a back window, and without
 
@@ -83,18 +86,22 @@ behind_back window left behind rest is none taken = go (back_of window) refl
     go (suc back) back_is =
         let words = back_words_some (back_of window) (omega (arith, back_is)) in (
           omega (arith, back_is),
-          tail_is left (codes "back") (codes "back") behind (decimal (back_of window) ∷ rest) taken (is ∙ ap (λ front. front ++ rest) words),
+          tail_is left (codes "back") (codes "back") behind (decimal (back_of window) ∷ rest) taken
+              (is ∙ ap (λ front. front ++ rest) words),
         )
 
 -- the field is the one of its parts
-pub field_is : (window back width : ℕ) → back ≡ back_of window → width ≡ width_of window → window_field back width ≡ window
+pub field_is : (window back width : ℕ) → back ≡ back_of window → width ≡ width_of window
+    → window_field back width ≡ window
 field_is window back width back_is width_is =
-    ap (λ n. window_field n width) back_is ∙ (ap (λ n. window_field (back_of window) n) width_is ∙ window_field-parts window)
+    ap (λ n. window_field n width) back_is
+    ∙ (ap (λ n. window_field (back_of window) n) width_is ∙ window_field-parts window)
 
 -- what stands behind the same words is the same
 pub behind_same : (front xs ys : List (List ℕ)) → front ++ xs ≡ front ++ ys → xs ≡ ys
 behind_same [] xs ys is = is
-behind_same (word ∷ front) xs ys is = behind_same front xs ys (tail_is (word ∷ (front ++ xs)) word word (front ++ xs) (front ++ ys) refl is)
+behind_same (word ∷ front) xs ys is =
+    behind_same front xs ys (tail_is (word ∷ (front ++ xs)) word word (front ++ xs) (front ++ ys) refl is)
 
 -- what is left behind a window that was read
 pub left_is : (all left rest : List (List ℕ)) (read window : ℕ) → all ≡ window_words read ++ left → read ≡ window

@@ -1,5 +1,7 @@
 -- The answers that the runs of a life sank repeat nothing.
-use Rattle.std.proofs.Common.{◌≡◌, ◌≢◌, ◌⊎◌, ℕ, ◌-◌, ◌≤◌, ◌==◌, ◌||◌, nat_lt, if◌then◌else◌, Bool, true, false, List, [], ◌∷◌, ◌++◌, length, take, map, inl, inr, refl, sym, ap, ◌∙◌, subst, arith, append_assoc}
+use Rattle.std.proofs.Common.{◌≡◌, ◌≢◌, ◌⊎◌, ℕ, ◌-◌, ◌≤◌, ◌==◌, ◌||◌, nat_lt, if◌then◌else◌, Bool, true, false, List}
+use Rattle.std.proofs.Common.{[], ◌∷◌, ◌++◌, length, take, map, inl, inr, refl, sym, ap, ◌∙◌, subst, arith}
+use Rattle.std.proofs.Common.{append_assoc}
 use Rattle.std.specs.Prelude.{IsTrue}
 use Rattle.std.specs.List.{All, AllPairs, filter, list_any, slice_index_or}
 use Rattle.std.proofs.lemmas.Bool.Decides.{nat_tests}
@@ -25,13 +27,15 @@ use Rattle.record_io.specs.AnswerReading.{IsAnswerCode}
 use Rattle.pair_audit.specs.Recording.{RunCounts, RunsCount, ReadsRuns, recording, recording_beginning, runs_octets}
 use Rattle.pair_audit.specs.Repeats.{AreUnlike, RepeatNothing}
 use Rattle.law_audit.specs.Recorded.{SankFew, sunk_by}
-use Rattle.pair_audit.proofs.Pairs.{pairs_head, pairs_tail, pairs_none, pairs_append, all_left, all_right, pairs_left, pairs_right, pairs_cross}
+use Rattle.pair_audit.proofs.Pairs.{pairs_head, pairs_tail, pairs_none, pairs_append, all_left, all_right, pairs_left}
+use Rattle.pair_audit.proofs.Pairs.{pairs_right, pairs_cross}
 
 -- ---- answers that tell alike
 
 uses_alike : (x y : Answer) (key number : ℕ) → TellsAlike x y → Uses x key number → Uses y key number
 uses_alike x y key number e (inl p, k, n) = (inl (sym e.code ∙ p), sym e.key ∙ k, sym e.number ∙ n)
-uses_alike x y key number e (inr (c, some), k, n) = (inr (sym e.code ∙ c, λ z. some (e.key ∙ z)), sym e.key ∙ k, sym e.number ∙ n)
+uses_alike x y key number e (inr (c, some), k, n) =
+    (inr (sym e.code ∙ c, λ z. some (e.key ∙ z)), sym e.key ∙ k, sym e.number ∙ n)
 
 accepts_alike : (x y : Answer) (key number : ℕ) → TellsAlike x y → Accepts x key number → Accepts y key number
 accepts_alike x y key number e (c, k, n) = (sym e.code ∙ c, sym e.key ∙ k, sym e.number ∙ n)
@@ -64,7 +68,8 @@ end_idle end is = record { uses = λ key number u. used u.0; accepts = λ key nu
     used (inl c) = omega arith
     used (inr (c, some)) = omega arith
 
-alike_all : (Q : Answer → Type 0) → ((x y : Answer) → TellsAlike x y → Q y → Q x) → (xs ys : List Answer) → TellAlike xs ys → All Q ys → All Q xs
+alike_all : (Q : Answer → Type 0) → ((x y : Answer) → TellsAlike x y → Q y → Q x) → (xs ys : List Answer)
+    → TellAlike xs ys → All Q ys → All Q xs
 alike_all Q back [] [] e h = All-nil Q
 alike_all Q back [] (y ∷ ys) e h = absurd e
 alike_all Q back (x ∷ xs) [] e h = absurd e
@@ -88,7 +93,8 @@ told deeds = map (λ (d : Deed). d.answer) deeds
 
 front_all : (Q : Answer → Type 0) (es : List Answer) (count : ℕ) → All Q es → All Q (counted_of count es)
 front_all Q [] count h = All-nil Q
-front_all Q (e ∷ es) count h = go (nat_lt count 24) (front_all Q es (count - length (answer_octets e)) (All-tail Q e es h))
+front_all Q (e ∷ es) count h =
+    go (nat_lt count 24) (front_all Q es (count - length (answer_octets e)) (All-tail Q e es h))
   where
     go : (b : Bool) → All Q (counted_of (count - length (answer_octets e)) es)
         → All Q (if b then [] else e ∷ counted_of (count - length (answer_octets e)) es)
@@ -99,10 +105,12 @@ front_all Q (e ∷ es) count h = go (nat_lt count 24) (front_all Q es (count - l
 began : (count : ℕ) → nat_lt count 24 ≡ false → nat_lt 0 count ≡ true
 began count test = let least : 24 ≤ count = grind (arith, nat_tests) in grind (arith, nat_tests)
 
-counted_all : (Q : Answer → Type 0) (ds : List Deed) (es : List Answer) (count : ℕ) → All (λ (d : Deed). Q d.answer) (answers_begun count ds) → All Q es
+counted_all : (Q : Answer → Type 0) (ds : List Deed) (es : List Answer) (count : ℕ)
+    → All (λ (d : Deed). Q d.answer) (answers_begun count ds) → All Q es
     → All Q (counted_of count (told ds ++ es))
 counted_all Q [] es count h end = front_all Q es count end
-counted_all Q (d ∷ ds) es count h end = go (nat_lt count 24) refl (λ later. counted_all Q ds es (count - length (answer_octets d.answer)) later end)
+counted_all Q (d ∷ ds) es count h end =
+    go (nat_lt count 24) refl (λ later. counted_all Q ds es (count - length (answer_octets d.answer)) later end)
   where
     go : (b : Bool) → nat_lt count 24 ≡ b
         → (All (λ (d : Deed). Q d.answer) (answers_begun (count - length (answer_octets d.answer)) ds)
@@ -111,7 +119,8 @@ counted_all Q (d ∷ ds) es count h end = go (nat_lt count 24) refl (λ later. c
     go true test rest = All-nil Q
     go false test rest =
         let here : All (λ (d : Deed). Q d.answer) (d ∷ answers_begun (count - length (answer_octets d.answer)) ds) =
-        subst (λ (b : Bool). All (λ (d : Deed). Q d.answer) (if b then d ∷ answers_begun (count - length (answer_octets d.answer)) ds else [])) (began count test) h in
+        subst (λ (b : Bool). All (λ (d : Deed). Q d.answer) (if b
+        then d ∷ answers_begun (count - length (answer_octets d.answer)) ds else [])) (began count test) h in
         All-cons Q d.answer (counted_of (count - length (answer_octets d.answer)) (told ds ++ es))
         (All-head (λ (d : Deed). Q d.answer) d (answers_begun (count - length (answer_octets d.answer)) ds) here)
         (rest (All-tail (λ (d : Deed). Q d.answer) d (answers_begun (count - length (answer_octets d.answer)) ds) here))
@@ -121,15 +130,18 @@ DeedsUnlike one other = AreUnlike one.answer other.answer
 
 front_pairs : (es : List Answer) (count : ℕ) → All IsIdle es → AllPairs AreUnlike (counted_of count es)
 front_pairs [] count h = pairs_none AreUnlike
-front_pairs (e ∷ es) count h = go (nat_lt count 24) (front_pairs es (count - length (answer_octets e)) (All-tail IsIdle e es h))
+front_pairs (e ∷ es) count h =
+    go (nat_lt count 24) (front_pairs es (count - length (answer_octets e)) (All-tail IsIdle e es h))
   where
     go : (b : Bool) → AllPairs AreUnlike (counted_of (count - length (answer_octets e)) es)
         → AllPairs AreUnlike (if b then [] else e ∷ counted_of (count - length (answer_octets e)) es)
     go true rest = pairs_none AreUnlike
     go false rest = AllPairs-cons AreUnlike e (counted_of (count - length (answer_octets e)) es)
-        (λ k d low. idle_left e (slice_index_or (counted_of (count - length (answer_octets e)) es) k d) (All-head IsIdle e es h)) rest
+        (λ k d low. idle_left e (slice_index_or (counted_of (count - length (answer_octets e)) es) k d)
+        (All-head IsIdle e es h)) rest
 
-counted_pairs : (ds : List Deed) (es : List Answer) (count : ℕ) → AllPairs DeedsUnlike (answers_begun count ds) → All IsIdle es
+counted_pairs : (ds : List Deed) (es : List Answer) (count : ℕ) → AllPairs DeedsUnlike (answers_begun count ds)
+    → All IsIdle es
     → AllPairs AreUnlike (counted_of count (told ds ++ es))
 counted_pairs [] es count h idle = front_pairs es count idle
 counted_pairs (d ∷ ds) es count h idle =
@@ -138,11 +150,14 @@ counted_pairs (d ∷ ds) es count h idle =
     go : (b : Bool) → nat_lt count 24 ≡ b
         → (AllPairs DeedsUnlike (answers_begun (count - length (answer_octets d.answer)) ds)
         → AllPairs AreUnlike (counted_of (count - length (answer_octets d.answer)) (told ds ++ es)))
-        → AllPairs AreUnlike (if b then [] else d.answer ∷ counted_of (count - length (answer_octets d.answer)) (told ds ++ es))
+        → AllPairs AreUnlike (if b then []
+        else d.answer ∷ counted_of (count - length (answer_octets d.answer)) (told ds ++ es))
     go true test rest = pairs_none AreUnlike
     go false test rest =
         let here : AllPairs DeedsUnlike (d ∷ answers_begun (count - length (answer_octets d.answer)) ds) =
-        subst (λ (b : Bool). AllPairs DeedsUnlike (if b then d ∷ answers_begun (count - length (answer_octets d.answer)) ds else [])) (began count test) h in
+        subst (λ (b : Bool).
+        AllPairs DeedsUnlike (if b then d ∷ answers_begun (count - length (answer_octets d.answer)) ds else []))
+        (began count test) h in
         AllPairs-cons AreUnlike d.answer (counted_of (count - length (answer_octets d.answer)) (told ds ++ es))
         (counted_all (AreUnlike d.answer) ds es (count - length (answer_octets d.answer))
         (pairs_head DeedsUnlike d (answers_begun (count - length (answer_octets d.answer)) ds) here)
@@ -153,7 +168,8 @@ counted_pairs (d ∷ ds) es count h idle =
 
 octets-append : (xs ys : List Answer) → answers_octets (xs ++ ys) ≡ answers_octets xs ++ answers_octets ys
 octets-append [] ys = refl
-octets-append (x ∷ xs) ys = ap (λ (l : List ℕ). answer_octets x ++ l) (octets-append xs ys) ∙ sym (append_assoc (answer_octets x) (answers_octets xs) (answers_octets ys))
+octets-append (x ∷ xs) ys = ap (λ (l : List ℕ). answer_octets x ++ l) (octets-append xs ys)
+    ∙ sym (append_assoc (answer_octets x) (answers_octets xs) (answers_octets ys))
 
 -- what is due, as answers: those of the records, and End
 pub record IsDue (run : LifeRun) : Type 0 where
@@ -183,8 +199,10 @@ due run is_run = by_end is_run.ended
     by_end (inr (end, is, code, octets)) = record {
       es = end ∷ [];
       ends = All-cons (λ (e : Answer). e.code ≡ END) end [] code (All-nil (λ (e : Answer). e.code ≡ END));
-      answers_are = All-append IsAnswer (told run.deeds) (end ∷ []) (told_all run.deeds is_run.sound.widths) (All-cons IsAnswer end [] is (All-nil IsAnswer));
-      sunk_is = front ∙ ap (λ (l : List ℕ). take (length run.sunk) (deeds_octets run.deeds ++ l)) (octets ∙ sym (append-nil (answer_octets end)))
+      answers_are = All-append IsAnswer (told run.deeds) (end ∷ []) (told_all run.deeds is_run.sound.widths)
+          (All-cons IsAnswer end [] is (All-nil IsAnswer));
+      sunk_is = front ∙ ap (λ (l : List ℕ). take (length run.sunk) (deeds_octets run.deeds ++ l))
+          (octets ∙ sym (append-nil (answer_octets end)))
           ∙ ap (take (length run.sunk)) (sym (octets-append (told run.deeds) (end ∷ [])));
     }
 
@@ -192,20 +210,24 @@ abbrev pub FrontsCount : Type 0
 FrontsCount = (answers : List Answer) → All IsAnswer answers → (count : ℕ) (counted : List Answer)
     → CountsAnswers (take count (answers_octets answers)) counted → TellAlike counted (counted_of count answers)
 
-given_back : (course : Course) (P : Given → Type 0) (ds : List Deed) → All P (given_of course ds) → All (λ (d : Deed). P (record { course = course; deed = d })) ds
+given_back : (course : Course) (P : Given → Type 0) (ds : List Deed) → All P (given_of course ds)
+    → All (λ (d : Deed). P (record { course = course; deed = d })) ds
 given_back course P [] h = All-nil (λ (d : Deed). P (record { course = course; deed = d }))
 given_back course P (d ∷ ds) h =
-    All-cons (λ (d : Deed). P (record { course = course; deed = d })) d ds (All-head P (record { course = course; deed = d }) (given_of course ds) h)
+    All-cons (λ (d : Deed). P (record { course = course; deed = d })) d ds
+    (All-head P (record { course = course; deed = d }) (given_of course ds) h)
     (given_back course P ds (All-tail P (record { course = course; deed = d }) (given_of course ds) h))
 
 abbrev GivenUnlike : Given → Given → Type 0
 GivenUnlike one other = AreUnlike one.deed.answer other.deed.answer
 
-given_pairs_back : (course : Course) (ds : List Deed) → AllPairs GivenUnlike (given_of course ds) → AllPairs DeedsUnlike ds
+given_pairs_back : (course : Course) (ds : List Deed) → AllPairs GivenUnlike (given_of course ds)
+    → AllPairs DeedsUnlike ds
 given_pairs_back course [] h = pairs_none DeedsUnlike
 given_pairs_back course (d ∷ ds) h =
     AllPairs-cons DeedsUnlike d ds
-    (given_back course (λ (g : Given). AreUnlike d.answer g.deed.answer) ds (pairs_head GivenUnlike (record { course = course; deed = d }) (given_of course ds) h))
+    (given_back course (λ (g : Given). AreUnlike d.answer g.deed.answer) ds
+    (pairs_head GivenUnlike (record { course = course; deed = d }) (given_of course ds) h))
     (given_pairs_back course ds (pairs_tail GivenUnlike (record { course = course; deed = d }) (given_of course ds) h))
 
 idle_es : (run : LifeRun) (is : IsDue run) → All IsIdle is.es
@@ -215,70 +237,100 @@ module _ (fronts : FrontsCount) where
   own_alike : (run : LifeRun) (is : IsDue run) (own : List Answer) → CountsAnswers run.sunk own
       → TellAlike own (counted_of (length run.sunk) (told run.deeds ++ is.es))
   own_alike run is own counts =
-      fronts (told run.deeds ++ is.es) is.answers_are (length run.sunk) own (subst (λ (l : List ℕ). CountsAnswers l own) is.sunk_is counts)
+      fronts (told run.deeds ++ is.es) is.answers_are (length run.sunk) own
+      (subst (λ (l : List ℕ). CountsAnswers l own) is.sunk_is counts)
 
-  own_all : (Q : Answer → Type 0) → ((x y : Answer) → TellsAlike x y → Q y → Q x) → ((x : Answer) → IsIdle x → Q x) → (run : LifeRun) → IsDue run
-      → (own : List Answer) → CountsAnswers run.sunk own → All (λ (g : Given). Q g.deed.answer) (given_of run.course (answers_begun (length run.sunk) run.deeds)) → All Q own
+  own_all : (Q : Answer → Type 0) → ((x y : Answer) → TellsAlike x y → Q y → Q x) → ((x : Answer) → IsIdle x → Q x)
+      → (run : LifeRun) → IsDue run
+      → (own : List Answer) → CountsAnswers run.sunk own
+      → All (λ (g : Given). Q g.deed.answer) (given_of run.course (answers_begun (length run.sunk) run.deeds))
+      → All Q own
   own_all Q back idle run is own counts h =
       alike_all Q back own (counted_of (length run.sunk) (told run.deeds ++ is.es)) (own_alike run is own counts)
-      (counted_all Q run.deeds is.es (length run.sunk) (given_back run.course (λ (g : Given). Q g.deed.answer) (answers_begun (length run.sunk) run.deeds) h)
+      (counted_all Q run.deeds is.es (length run.sunk)
+      (given_back run.course (λ (g : Given). Q g.deed.answer) (answers_begun (length run.sunk) run.deeds) h)
       (λ k d low. idle (slice_index_or is.es k d) (idle_es run is k d low)))
 
   own_pairs : (run : LifeRun) → IsDue run → (own : List Answer) → CountsAnswers run.sunk own
       → AllPairs GivenUnlike (given_of run.course (answers_begun (length run.sunk) run.deeds)) → AllPairs AreUnlike own
   own_pairs run is own counts h =
       alike_pairs own (counted_of (length run.sunk) (told run.deeds ++ is.es)) (own_alike run is own counts)
-      (counted_pairs run.deeds is.es (length run.sunk) (given_pairs_back run.course (answers_begun (length run.sunk) run.deeds) h) (idle_es run is))
+      (counted_pairs run.deeds is.es (length run.sunk)
+      (given_pairs_back run.course (answers_begun (length run.sunk) run.deeds) h) (idle_es run is))
 
-  runs_all : (Q : Answer → Type 0) → ((x y : Answer) → TellsAlike x y → Q y → Q x) → ((x : Answer) → IsIdle x → Q x) → (runs : List LifeRun)
+  runs_all : (Q : Answer → Type 0) → ((x y : Answer) → TellsAlike x y → Q y → Q x) → ((x : Answer) → IsIdle x → Q x)
+      → (runs : List LifeRun)
       → All IsDue runs → (answers : List Answer) → RunsCount (map (λ (run : LifeRun). run.sunk) runs) answers
       → All (λ (g : Given). Q g.deed.answer) (given_in runs) → All Q answers
   runs_all Q back idle [] are answers none h = subst (All Q) (sym none) (All-nil Q)
   runs_all Q back idle (run ∷ runs) are answers (own, later, counts, rest, is) h =
       subst (All Q) (sym is) (All-append Q own later
       (own_all Q back idle run (All-head IsDue run runs are) own counts.counts
-      (all_left (λ (g : Given). Q g.deed.answer) (given_of run.course (answers_begun (length run.sunk) run.deeds)) (given_in runs) h))
+      (all_left (λ (g : Given). Q g.deed.answer) (given_of run.course (answers_begun (length run.sunk) run.deeds))
+      (given_in runs) h))
       (runs_all Q back idle runs (All-tail IsDue run runs are) later rest
-      (all_right (λ (g : Given). Q g.deed.answer) (given_of run.course (answers_begun (length run.sunk) run.deeds)) (given_in runs) h)))
+      (all_right (λ (g : Given). Q g.deed.answer) (given_of run.course (answers_begun (length run.sunk) run.deeds))
+      (given_in runs) h)))
 
-  pub runs_pairs : (runs : List LifeRun) → All IsDue runs → (answers : List Answer) → RunsCount (map (λ (run : LifeRun). run.sunk) runs) answers
+  pub runs_pairs : (runs : List LifeRun) → All IsDue runs → (answers : List Answer)
+      → RunsCount (map (λ (run : LifeRun). run.sunk) runs) answers
       → AllPairs GivenUnlike (given_in runs) → AllPairs AreUnlike answers
   runs_pairs [] are answers none h = subst (AllPairs AreUnlike) (sym none) (pairs_none AreUnlike)
   runs_pairs (run ∷ runs) are answers (own, later, counts, rest, is) h =
       let new : List Given = given_of run.course (answers_begun (length run.sunk) run.deeds) in
-      let cross = pairs_cross GivenUnlike (given_of run.course (answers_begun (length run.sunk) run.deeds)) (given_in runs) h in
+      let cross = pairs_cross GivenUnlike (given_of run.course (answers_begun (length run.sunk) run.deeds))
+      (given_in runs) h in
       subst (AllPairs AreUnlike) (sym is) (pairs_append AreUnlike own later
-      (own_pairs run (All-head IsDue run runs are) own counts.counts (pairs_left GivenUnlike (given_of run.course (answers_begun (length run.sunk) run.deeds)) (given_in runs) h))
-      (runs_pairs runs (All-tail IsDue run runs are) later rest (pairs_right GivenUnlike (given_of run.course (answers_begun (length run.sunk) run.deeds)) (given_in runs) h))
+      (own_pairs run (All-head IsDue run runs are) own counts.counts
+      (pairs_left GivenUnlike (given_of run.course (answers_begun (length run.sunk) run.deeds)) (given_in runs) h))
+      (runs_pairs runs (All-tail IsDue run runs are) later rest
+      (pairs_right GivenUnlike (given_of run.course (answers_begun (length run.sunk) run.deeds)) (given_in runs) h))
       (own_all (λ (x : Answer). All (AreUnlike x) later)
       (λ x y e all k d low. unlike_left x y (slice_index_or later k d) e (all k d low))
       (λ x idle k d low. idle_left x (slice_index_or later k d) idle)
       run (All-head IsDue run runs are) own counts.counts
-      (λ k g low. runs_all (AreUnlike (slice_index_or (given_of run.course (answers_begun (length run.sunk) run.deeds)) k g).deed.answer)
-      (λ x y e u. unlike_right x y (slice_index_or (given_of run.course (answers_begun (length run.sunk) run.deeds)) k g).deed.answer e u) (λ x idle. idle_right x (slice_index_or (given_of run.course (answers_begun (length run.sunk) run.deeds)) k g).deed.answer idle)
+      (λ k g low.
+      runs_all (AreUnlike (slice_index_or (given_of run.course (answers_begun (length run.sunk) run.deeds)) k
+      g).deed.answer)
+      (λ x y e u.
+      unlike_right x y (slice_index_or (given_of run.course (answers_begun (length run.sunk) run.deeds)) k
+      g).deed.answer e u)
+      (λ x idle.
+      idle_right x (slice_index_or (given_of run.course (answers_begun (length run.sunk) run.deeds)) k
+      g).deed.answer idle)
       runs (All-tail IsDue run runs are) later rest (cross k g low))))
 
 -- ---- the runs of a life that were kept
 
-kept_given : (kept : LifeRun → Bool) (P : Given → Type 0) (runs : List LifeRun) → All P (given_in runs) → All P (given_in (filter kept runs))
+kept_given : (kept : LifeRun → Bool) (P : Given → Type 0) (runs : List LifeRun) → All P (given_in runs)
+    → All P (given_in (filter kept runs))
 kept_given kept P [] h = h
 kept_given kept P (run ∷ runs) h = go (kept run)
-    (kept_given kept P runs (all_right P (given_of run.course (answers_begun (length run.sunk) run.deeds)) (given_in runs) h))
+    (kept_given kept P runs (all_right P (given_of run.course (answers_begun (length run.sunk) run.deeds))
+    (given_in runs) h))
   where
-    go : (b : Bool) → All P (given_in (filter kept runs)) → All P (given_in (if b then run ∷ filter kept runs else filter kept runs))
-    go true rest = All-append P (given_of run.course (answers_begun (length run.sunk) run.deeds)) (given_in (filter kept runs))
+    go : (b : Bool) → All P (given_in (filter kept runs))
+        → All P (given_in (if b then run ∷ filter kept runs else filter kept runs))
+    go true rest = All-append P (given_of run.course (answers_begun (length run.sunk) run.deeds))
+        (given_in (filter kept runs))
         (all_left P (given_of run.course (answers_begun (length run.sunk) run.deeds)) (given_in runs) h) rest
     go false rest = rest
 
-kept_pairs : (kept : LifeRun → Bool) (R : Given → Given → Type 0) (runs : List LifeRun) → AllPairs R (given_in runs) → AllPairs R (given_in (filter kept runs))
+kept_pairs : (kept : LifeRun → Bool) (R : Given → Given → Type 0) (runs : List LifeRun) → AllPairs R (given_in runs)
+    → AllPairs R (given_in (filter kept runs))
 kept_pairs kept R [] h = h
 kept_pairs kept R (run ∷ runs) h = go (kept run)
-    (kept_pairs kept R runs (pairs_right R (given_of run.course (answers_begun (length run.sunk) run.deeds)) (given_in runs) h))
+    (kept_pairs kept R runs (pairs_right R (given_of run.course (answers_begun (length run.sunk) run.deeds))
+    (given_in runs) h))
   where
-    go : (b : Bool) → AllPairs R (given_in (filter kept runs)) → AllPairs R (given_in (if b then run ∷ filter kept runs else filter kept runs))
-    go true rest = pairs_append R (given_of run.course (answers_begun (length run.sunk) run.deeds)) (given_in (filter kept runs))
+    go : (b : Bool) → AllPairs R (given_in (filter kept runs))
+        → AllPairs R (given_in (if b then run ∷ filter kept runs else filter kept runs))
+    go true rest = pairs_append R (given_of run.course (answers_begun (length run.sunk) run.deeds))
+        (given_in (filter kept runs))
         (pairs_left R (given_of run.course (answers_begun (length run.sunk) run.deeds)) (given_in runs) h) rest
-        (λ k g low. kept_given kept (R (slice_index_or (given_of run.course (answers_begun (length run.sunk) run.deeds)) k g)) runs
+        (λ k g low.
+        kept_given kept (R (slice_index_or (given_of run.course (answers_begun (length run.sunk) run.deeds)) k g))
+        runs
         (pairs_cross R (given_of run.course (answers_begun (length run.sunk) run.deeds)) (given_in runs) h k g low))
     go false rest = rest
 
@@ -292,7 +344,8 @@ kept_runs kept P (run ∷ runs) h = go (kept run) (kept_runs kept P runs (All-ta
 
 follow_due : (image : List ℕ) (runs : List LifeRun) → FollowFrom image runs → All IsDue runs
 follow_due image [] follow = All-nil IsDue
-follow_due image (run ∷ runs) (start, is, follow) = All-cons IsDue run runs (due run is) (follow_due run.image runs follow)
+follow_due image (run ∷ runs) (start, is, follow) =
+    All-cons IsDue run runs (due run is) (follow_due run.image runs follow)
 
 apart_unlike : (one other : Given) → AreApart one other → GivenUnlike one other
 apart_unlike one other apart (inl (key, number, a, b)) = apart.by_identifier key number a b
@@ -307,7 +360,8 @@ AreAnswerCodes (x ∷ xs) = IsAnswerCode x × AreAnswerCodes xs
 equal_by : (n m : ℕ) → (n == m) ≡ true → n ≡ m
 equal_by n m is = grind (arith, nat_tests)
 
-code_among : (xs : List ℕ) (code : ℕ) → AreAnswerCodes xs → IsTrue (list_any (λ (own : ℕ). own == code) xs) → IsAnswerCode code
+code_among : (xs : List ℕ) (code : ℕ) → AreAnswerCodes xs → IsTrue (list_any (λ (own : ℕ). own == code) xs)
+    → IsAnswerCode code
 code_among [] code all is = absurd (cc)
 code_among (x ∷ xs) code all is = go (x == code) refl is (code_among xs code all.1)
   where
@@ -336,9 +390,11 @@ pub record IsKept (run : LifeRun) : Type 0 where
 
 deeds_code : (run : LifeRun) → IsRun run → All (λ (d : Deed). HasCode d.answer) run.deeds
 deeds_code run is =
-    All-weaker (λ (d : Deed). Fits (NearWord run.course.begin.start run.course.entries (records_of run.places)) run.course d.task d.answer) (λ (d : Deed). HasCode d.answer)
+    All-weaker (λ (d : Deed). Fits (NearWord run.course.begin.start run.course.entries (records_of run.places))
+    run.course d.task d.answer) (λ (d : Deed). HasCode d.answer)
     (λ d fits. code_among (codes_of d.task.kind) d.answer.code (codes_are d.task.kind)
-    (fits_code (NearWord run.course.begin.start run.course.entries (records_of run.places)) run.course d.task d.answer fits))
+    (fits_code (NearWord run.course.begin.start run.course.entries (records_of run.places)) run.course d.task d.answer
+    fits))
     run.deeds is.sound.answers
 
 follow_kept : (image : List ℕ) (runs : List LifeRun) → FollowFrom image runs → All SankFew runs → All IsKept runs
@@ -353,7 +409,8 @@ follow_kept image (run ∷ runs) (start, is, follow) few =
 
 begun_all : (P : Deed → Type 0) (count : ℕ) (ds : List Deed) → All P ds → All P (answers_begun count ds)
 begun_all P count [] h = All-nil P
-begun_all P count (d ∷ ds) h = go (nat_lt 0 count) (begun_all P (count - length (answer_octets d.answer)) ds (All-tail P d ds h))
+begun_all P count (d ∷ ds) h =
+    go (nat_lt 0 count) (begun_all P (count - length (answer_octets d.answer)) ds (All-tail P d ds h))
   where
     go : (b : Bool) → All P (answers_begun (count - length (answer_octets d.answer)) ds)
         → All P (if b then d ∷ answers_begun (count - length (answer_octets d.answer)) ds else [])
@@ -369,18 +426,23 @@ FrontsShow = (answers : List Answer) → All IsAnswer answers → (count : ℕ)
 module _ (shows : FrontsShow) (fronts : FrontsCount) where
   own_codes : (run : LifeRun) → IsKept run → (own : List Answer) → CountsAnswers run.sunk own → All HasCode own
   own_codes run is own counts =
-      alike_all HasCode (λ x y e code. subst IsAnswerCode (sym e.code) code) own (counted_of (length run.sunk) (told run.deeds ++ is.due.es))
+      alike_all HasCode (λ x y e code. subst IsAnswerCode (sym e.code) code) own
+      (counted_of (length run.sunk) (told run.deeds ++ is.due.es))
       (own_alike fronts run is.due own counts)
-      (counted_all HasCode run.deeds is.due.es (length run.sunk) (begun_all (λ (d : Deed). HasCode d.answer) (length run.sunk) run.deeds is.codes)
-      (All-weaker (λ (e : Answer). e.code ≡ END) HasCode (λ e code. subst IsAnswerCode (sym code) refl) is.due.es is.due.ends))
+      (counted_all HasCode run.deeds is.due.es (length run.sunk)
+      (begun_all (λ (d : Deed). HasCode d.answer) (length run.sunk) run.deeds is.codes)
+      (All-weaker (λ (e : Answer). e.code ≡ END) HasCode (λ e code. subst IsAnswerCode (sym code) refl) is.due.es
+      is.due.ends))
 
   run_counts : (run : LifeRun) → IsKept run → (own : List Answer) × RunCounts run.sunk own
   run_counts run is =
       let found = shows (told run.deeds ++ is.due.es) is.due.answers_are (length run.sunk) in
-      let counts : CountsAnswers run.sunk found.0 = subst (λ (l : List ℕ). CountsAnswers l found.0) (sym is.due.sunk_is) found.1 in
+      let counts : CountsAnswers run.sunk found.0 =
+      subst (λ (l : List ℕ). CountsAnswers l found.0) (sym is.due.sunk_is) found.1 in
       (found.0, record { short = is.short; counts = counts; known = own_codes run is found.0 counts })
 
-  runs_count : (runs : List LifeRun) → All IsKept runs → (answers : List Answer) × RunsCount (map (λ (run : LifeRun). run.sunk) runs) answers
+  runs_count : (runs : List LifeRun) → All IsKept runs → (answers : List Answer)
+      × RunsCount (map (λ (run : LifeRun). run.sunk) runs) answers
   runs_count [] are = ([], refl)
   runs_count (run ∷ runs) are =
       let own = run_counts run (All-head IsKept run runs are) in
@@ -401,8 +463,11 @@ module _ (shows : FrontsShow) (fronts : FrontsCount) where
 abbrev pub UsedOnce : Type 0
 UsedOnce = (image : List ℕ) (runs : List LifeRun) → IsLife image runs → OnceInLife runs
 
-pub repeats_nothing : FrontsCount → UsedOnce → (image : List ℕ) (runs : List LifeRun) (kept : LifeRun → Bool) (answers : List Answer) → IsLife image runs
+pub repeats_nothing : FrontsCount → UsedOnce
+    → (image : List ℕ) (runs : List LifeRun) (kept : LifeRun → Bool) (answers : List Answer) → IsLife image runs
     → RunsCount (sunk_by kept runs) answers → RepeatNothing answers
 repeats_nothing fronts once image runs kept answers life counts =
     runs_pairs fronts (filter kept runs) (kept_runs kept IsDue runs (follow_due image runs life.follow)) answers counts
-    (kept_pairs kept GivenUnlike runs (λ i j d lt low. apart_unlike (slice_index_or (given_in runs) i d) (slice_index_or (given_in runs) j d) (once image runs life i j d lt low)))
+    (kept_pairs kept GivenUnlike runs (λ i j d lt low.
+    apart_unlike (slice_index_or (given_in runs) i d) (slice_index_or (given_in runs) j d)
+    (once image runs life i j d lt low)))

@@ -1,5 +1,7 @@
 -- Entries that were put behind a log: their places, what they are, and that each is legal.
-use Rattle.std.proofs.Common.{◌≡◌, ℕ, zero, suc, ◌+◌, ◌<◌, ◌≤◌, Bool, true, false, List, [], ◌∷◌, ◌++◌, length, take, Option, Some, refl, sym, ◌∙◌, ap, subst, inl, inr, arith, length-append, if◌then◌else◌, eqb}
+use Rattle.std.proofs.Common.{◌≡◌, ℕ, zero, suc, ◌+◌, ◌<◌, ◌≤◌, Bool, true, false, List, [], ◌∷◌, ◌++◌, length, take}
+use Rattle.std.proofs.Common.{Option, Some, refl, sym, ◌∙◌, ap, subst, inl, inr, arith, length-append, if◌then◌else◌}
+use Rattle.std.proofs.Common.{eqb}
 use Rattle.std.specs.Bool.{⊤}
 use Rattle.std.specs.List.{slice_get}
 use Rattle.std.proofs.lemmas.List.{take_all}
@@ -98,9 +100,11 @@ module _ (near : ℕ → ℕ → Type 0) (plan : PlanLines) (start : State) (tas
   -- each is legal in the state that those before it leave
   abbrev pub LegalInTurn : State → List Entry → Type 0
   LegalInTurn state [] = ⊤
-  LegalInTurn state (entry ∷ entries) = IsLegal near plan state tasks entry × LegalInTurn (applied state entry.change) entries
+  LegalInTurn state (entry ∷ entries) = IsLegal near plan state tasks entry
+      × LegalInTurn (applied state entry.change) entries
 
-  after_last : (log : List Logged) (e : Entry) → after start (entries_of (log ++ lines.Entry e ∷ [])) ≡ applied (after start (entries_of log)) e.change
+  after_last : (log : List Logged) (e : Entry) → after start (entries_of (log ++ lines.Entry e ∷ []))
+      ≡ applied (after start (entries_of log)) e.change
   after_last log e = ap (after start) (lines_entries log (e ∷ [])) ∙ after_both start (entries_of log) (e ∷ [])
 
   pub legal_behind : (log : List Logged) (es : List Entry) → LegalInTurn (after start (entries_of log)) es → (x : ℕ)
@@ -108,12 +112,15 @@ module _ (near : ℕ → ℕ → Type 0) (plan : PlanLines) (start : State) (tas
   legal_behind log [] legal x in' = absurd (omega arith)
   legal_behind log (e ∷ es) legal x in' = elim (cases_eq (length log) x) [
     | inl is ↦ subst (IsLegalAt near plan start tasks (log ++ lines.Entry e ∷ lines_of es)) is (λ entry at.
-        let same : Some (lines.Entry e) ≡ Some (lines.Entry entry) = sym (here log (lines_of es) (lines.Entry e)) ∙ at in
+        let same : Some (lines.Entry e) ≡ Some (lines.Entry entry) =
+        sym (here log (lines_of es) (lines.Entry e)) ∙ at in
         let entry_is : e ≡ entry = cc in
-        rw (front log (lines.Entry e ∷ lines_of es)) (subst (λ (z : Entry). IsLegal near plan (after start (entries_of log)) tasks z) entry_is legal.0))
+        rw (front log (lines.Entry e ∷ lines_of es))
+        (subst (λ (z : Entry). IsLegal near plan (after start (entries_of log)) tasks z) entry_is legal.0))
     | inr off ↦
         let f : eqb (length log) x ≡ false = grind (arith, nat_tests) in
-        let rest : 0 < stands x (places (suc (length log)) (length es)) = more_stands (length log) x (places (suc (length log)) (length es)) f in' in
+        let rest : 0 < stands x (places (suc (length log)) (length es)) =
+        more_stands (length log) x (places (suc (length log)) (length es)) f in' in
         let there : 0 < stands x (places (length (log ++ lines.Entry e ∷ [])) (length es)) =
         subst (λ (n : ℕ). 0 < stands x (places n (length es))) (sym (longer log (lines.Entry e))) rest in
         subst (λ (l : List Logged). IsLegalAt near plan start tasks l x) (sym (next log (lines_of es) (lines.Entry e)))
@@ -121,24 +128,29 @@ module _ (near : ℕ → ℕ → Type 0) (plan : PlanLines) (start : State) (tas
         (subst (λ (s : State). LegalInTurn s es) (sym (after_last log e)) legal.1) x there)
   ]
 
-pub lines_more : (log : List Logged) (es more : List Entry) → log ++ lines_of (es ++ more) ≡ (log ++ lines_of es) ++ lines_of more
+pub lines_more : (log : List Logged) (es more : List Entry)
+    → log ++ lines_of (es ++ more) ≡ (log ++ lines_of es) ++ lines_of more
 lines_more [] [] more = refl
 lines_more [] (e ∷ es) more = ap (λ (l : List Logged). lines.Entry e ∷ l) (lines_more [] es more)
 lines_more (x ∷ log) es more = ap (λ (l : List Logged). x ∷ l) (lines_more log es more)
 
-pub tested_more : (test : Option Logged → Bool) (es more : List Entry) → tested test (es ++ more) ≡ tested test es + tested test more
+pub tested_more : (test : Option Logged → Bool) (es more : List Entry)
+    → tested test (es ++ more) ≡ tested test es + tested test more
 tested_more test [] more = omega arith
 tested_more test (e ∷ es) more = let h = tested_more test es more in omega arith
 
 pub tested_few : (test : Option Logged → Bool) (es : List Entry) → tested test es ≤ length es
 tested_few test [] = omega arith
-tested_few test (e ∷ es) = let h = tested_few test es in let one = at_most_one (test (Some (lines.Entry e))) in omega arith where
-  at_most_one : (b : Bool) → (if b then 1 else 0) ≤ 1
-  at_most_one true = omega arith
-  at_most_one false = omega arith
+tested_few test (e ∷ es) = let h = tested_few test es in let one = at_most_one (test (Some (lines.Entry e))) in
+    omega arith where
+      at_most_one : (b : Bool) → (if b then 1 else 0) ≤ 1
+      at_most_one true = omega arith
+      at_most_one false = omega arith
 
-pub legal_then : (near : ℕ → ℕ → Type 0) (plan : PlanLines) (start state : State) (tasks : List Record) (es : List Entry) (e : Entry)
-    → LegalInTurn near plan start tasks state es → IsLegal near plan (after state es) tasks e → LegalInTurn near plan start tasks state (es ++ e ∷ [])
+pub legal_then : (near : ℕ → ℕ → Type 0) (plan : PlanLines) (start state : State) (tasks : List Record)
+    (es : List Entry) (e : Entry)
+    → LegalInTurn near plan start tasks state es → IsLegal near plan (after state es) tasks e
+    → LegalInTurn near plan start tasks state (es ++ e ∷ [])
 legal_then near plan start state tasks [] e legal own = (own, tt)
 legal_then near plan start state tasks (x ∷ es) e legal own =
     (legal.0, legal_then near plan start (applied state x.change) tasks es e legal.1 own)
@@ -157,5 +169,8 @@ last_behind log e =
     ap length (lines_entries log (e ∷ [])) ∙ length-append (entries_of log) (e ∷ []) in
     let before : length (entries_of (take (length log) (log ++ lines.Entry e ∷ []))) ≡ length (entries_of log) =
     ap (λ (l : List Logged). length (entries_of l)) (front log (lines.Entry e ∷ [])) in
-    let size : length (log ++ lines.Entry e ∷ []) ≡ length log + 1 = length-append log (lines.Entry e ∷ []) in
-    (omega arith, ap (λ (l : List Logged). length (entries_of l)) (take_all (length log + 1) (log ++ lines.Entry e ∷ []) (omega arith)))
+    let size : length (log ++ lines.Entry e ∷ []) ≡ length log + 1 = length-append log (lines.Entry e ∷ []) in (
+      omega arith,
+      ap (λ (l : List Logged). length (entries_of l))
+          (take_all (length log + 1) (log ++ lines.Entry e ∷ []) (omega arith)),
+    )

@@ -1,5 +1,6 @@
 -- What the ways of a number add to the lists of one who handles a record.
-use Rattle.std.proofs.Common.{◌≡◌, ◌⊎◌, ℕ, ◌+◌, ◌-◌, ◌<◌, ◌≤◌, ◌==◌, max, Bool, true, false, List, [], ◌∷◌, ◌++◌, refl, sym, ◌∙◌, ap, subst, arith, inl, inr, append-nil, eqb}
+use Rattle.std.proofs.Common.{◌≡◌, ◌⊎◌, ℕ, ◌+◌, ◌-◌, ◌<◌, ◌≤◌, ◌==◌, max, Bool, true, false, List, [], ◌∷◌, ◌++◌, refl}
+use Rattle.std.proofs.Common.{sym, ◌∙◌, ap, subst, arith, inl, inr, append-nil, eqb}
 use Rattle.std.proofs.lemmas.Bool.{cases_eq}
 use Rattle.std.proofs.lemmas.Bool.Decides.{nat_tests}
 use Rattle.sdls_base.specs.Numbers.{one_if, times}
@@ -36,7 +37,8 @@ count_low : (r row n : ℕ) → count_of r ((row, n) ∷ []) ≤ 1
 count_low r row n = let h = at_most_one (row == r) in omega arith
 
 module _ (begin : Begin) (task : Record) (v w : View) where
-  -- What was shown of a row, and what was added for it. It was no less than each word seen before, and no more than the one
+  -- What was shown of a row, and what was added for it. It was no less than each word seen before, and no more than the
+  -- one
   -- seen last.
   pub record Shows (row n : ℕ) (drawn spent raised added : List (ℕ × ℕ)) : Type 0 where
     pub counted : Counted begin task v w drawn spent raised added
@@ -50,7 +52,8 @@ module _ (begin : Begin) (task : Record) (v w : View) where
     raised_is = ap (λ (k : Numbers). k.raised) is ∙ sym (append-nil v.numbers.raised);
     added_is = ap (λ (k : Numbers). k.added) is ∙ sym (append-nil v.numbers.added);
     shares = ap (λ (k : Numbers). k.shares) is;
-    nexts = λ row. (let h : top row w.numbers.nexts ≡ top row v.numbers.nexts = ap (λ (k : Numbers). top row k.nexts) is in omega arith);
+    nexts = λ row. (let h : top row w.numbers.nexts ≡ top row v.numbers.nexts =
+        ap (λ (k : Numbers). top row k.nexts) is in omega arith);
     few = λ row. omega arith;
     between = λ r x l. absurd (omega arith);
     of_drawn = λ r x. omega arith;
@@ -58,9 +61,11 @@ module _ (begin : Begin) (task : Record) (v w : View) where
   }
 
   -- a word that was found, and nothing more
-  pub found_shows : (row end n : ℕ) → top row v.numbers.nexts ≤ n → w.numbers ≡ arming row end n v.numbers → Shows row n [] [] [] []
+  pub found_shows : (row end n : ℕ) → top row v.numbers.nexts ≤ n → w.numbers ≡ arming row end n v.numbers
+      → Shows row n [] [] [] []
   found_shows row end n least is =
-      let nexts : (r : ℕ) → top r w.numbers.nexts ≡ top r (v.numbers.nexts ++ (row, n) ∷ []) = λ r. ap (λ (k : Numbers). top r k.nexts) is in
+      let nexts : (r : ℕ) → top r w.numbers.nexts ≡ top r (v.numbers.nexts ++ (row, n) ∷ []) =
+      λ r. ap (λ (k : Numbers). top r k.nexts) is in
       record {
         counted = record {
           drawn_is = ap (λ (k : Numbers). k.drawn) is ∙ sym (append-nil v.numbers.drawn);
@@ -80,11 +85,15 @@ module _ (begin : Begin) (task : Record) (v w : View) where
 
   -- a word that was found, and raised to a number
   pub raise_shows : (row number n : ℕ) → top row v.numbers.nexts ≤ n → w.numbers ≡ raising row number n v.numbers
-      → (number ≤ 1) ⊎ IsAsked begin (entries_in w) (task ∷ []) row number → Shows row n [] [] ((row, number) ∷ []) ((row, number - n) ∷ [])
+      → (number ≤ 1) ⊎ IsAsked begin (entries_in w) (task ∷ []) row number
+      → Shows row n [] [] ((row, number) ∷ []) ((row, number - n) ∷ [])
   raise_shows row number n least is asked =
-      let twice : (r : ℕ) → top r w.numbers.nexts ≡ max (top r v.numbers.nexts) (top r ((row, n) ∷ (row, max n number) ∷ [])) =
-      λ r. ap (λ (k : Numbers). top r k.nexts) is ∙ top-append r v.numbers.nexts ((row, n) ∷ (row, max n number) ∷ []) in
-      let own : top row ((row, n) ∷ (row, max n number) ∷ []) ≡ max n (max (max n number) 0) = here_twice row n (max n number) in
+      let twice : (r : ℕ) → top r w.numbers.nexts ≡ max (top r v.numbers.nexts)
+      (top r ((row, n) ∷ (row, max n number) ∷ [])) =
+      λ r. ap (λ (k : Numbers). top r k.nexts) is ∙ top-append r v.numbers.nexts
+      ((row, n) ∷ (row, max n number) ∷ []) in
+      let own : top row ((row, n) ∷ (row, max n number) ∷ []) ≡ max n (max (max n number) 0) =
+      here_twice row n (max n number) in
       record {
         counted = record {
           drawn_is = ap (λ (k : Numbers). k.drawn) is ∙ sym (append-nil v.numbers.drawn);
@@ -96,7 +105,8 @@ module _ (begin : Begin) (task : Record) (v w : View) where
           few = λ r. omega arith;
           between = λ r x l. absurd (omega arith);
           of_drawn = λ r x. omega arith;
-          raised_by = one_all (λ (pair : ℕ × ℕ). (pair.1 ≤ 1) ⊎ IsAsked begin (entries_in w) (task ∷ []) pair.0 pair.1) (row, number) asked;
+          raised_by = one_all (λ (pair : ℕ × ℕ). (pair.1 ≤ 1) ⊎ IsAsked begin (entries_in w) (task ∷ []) pair.0 pair.1)
+              (row, number) asked;
         };
         least = least;
         most = (let h = twice row in omega arith);
@@ -109,14 +119,17 @@ module _ (begin : Begin) (task : Record) (v w : View) where
 
   module _ (may : drawers (task ∷ []) ≡ 1) where
     -- a number that was drawn and not spent, whatever became of limits and tickets
-    pub drawn_as : (row end n : ℕ) (u : Numbers) → Draws row end n v.numbers u → w.numbers.drawn ≡ u.drawn → w.numbers.spent ≡ u.spent
-        → w.numbers.raised ≡ u.raised → w.numbers.added ≡ u.added → w.numbers.shares ≡ u.shares → w.numbers.nexts ≡ u.nexts
+    pub drawn_as : (row end n : ℕ) (u : Numbers) → Draws row end n v.numbers u → w.numbers.drawn ≡ u.drawn
+        → w.numbers.spent ≡ u.spent
+        → w.numbers.raised ≡ u.raised → w.numbers.added ≡ u.added → w.numbers.shares ≡ u.shares
+        → w.numbers.nexts ≡ u.nexts
         → Shows row n ((row, n) ∷ []) [] [] ((row, 1) ∷ [])
     drawn_as row end n u d drawn spent raised added shares nexts =
         let is = d.is in
         let low = d.found in
         let mid = d.follows in
-        let tops : (r : ℕ) → top r w.numbers.nexts ≡ top r ((v.numbers.nexts ++ (row, d.next) ∷ []) ++ (row, n + 1) ∷ []) =
+        let tops : (r : ℕ) → top r w.numbers.nexts
+        ≡ top r ((v.numbers.nexts ++ (row, d.next) ∷ []) ++ (row, n + 1) ∷ []) =
         λ r. ap (top r) nexts ∙ ap (λ (k : Numbers). top r k.nexts) is in
         let last : top row w.numbers.nexts ≡ max (top row (v.numbers.nexts ++ (row, d.next) ∷ [])) (n + 1) =
         tops row ∙ top_here row (n + 1) (v.numbers.nexts ++ (row, d.next) ∷ []) in
@@ -132,7 +145,8 @@ module _ (begin : Begin) (task : Record) (v w : View) where
             few = λ r. (let c = count_low r row n in omega arith);
             between = λ r x l.
                 let (same, number) = one_time row n r x l in
-                let from : top r v.numbers.nexts ≤ x = subst (λ (q : ℕ). top q v.numbers.nexts ≤ x) same (omega arith) in
+                let from : top r v.numbers.nexts ≤ x =
+                subst (λ (q : ℕ). top q v.numbers.nexts ≤ x) same (omega arith) in
                 let to : x < top r w.numbers.nexts = subst (λ (q : ℕ). x < top q w.numbers.nexts) same (omega arith) in
                 (from, to);
             of_drawn = λ r x. omega arith;
@@ -142,16 +156,20 @@ module _ (begin : Begin) (task : Record) (v w : View) where
           most = omega arith;
         }
 
-    drawn_counted : (row end n : ℕ) → Draws row end n v.numbers w.numbers → Shows row n ((row, n) ∷ []) [] [] ((row, 1) ∷ [])
+    drawn_counted : (row end n : ℕ) → Draws row end n v.numbers w.numbers
+        → Shows row n ((row, n) ∷ []) [] [] ((row, 1) ∷ [])
     drawn_counted row end n d = drawn_as row end n w.numbers d refl refl refl refl refl refl
 
-    pub draws_shows : (row end n : ℕ) → Draws row end n v.numbers w.numbers → Shows row n ((row, n) ∷ []) [] [] ((row, 1) ∷ [])
+    pub draws_shows : (row end n : ℕ) → Draws row end n v.numbers w.numbers
+        → Shows row n ((row, n) ∷ []) [] [] ((row, 1) ∷ [])
     draws_shows row end n d = drawn_counted row end n d
 
-    pub back_shows : (row end n : ℕ) → ComesBack row end n v.numbers w.numbers → Shows row n ((row, n) ∷ []) [] [] ((row, 1) ∷ [])
+    pub back_shows : (row end n : ℕ) → ComesBack row end n v.numbers w.numbers
+        → Shows row n ((row, n) ∷ []) [] [] ((row, 1) ∷ [])
     back_shows row end n b =
         let is = b.is in
-        drawn_as row end n b.between b.draws (ap (λ (k : Numbers). k.drawn) is) (ap (λ (k : Numbers). k.spent) is) (ap (λ (k : Numbers). k.raised) is)
+        drawn_as row end n b.between b.draws (ap (λ (k : Numbers). k.drawn) is) (ap (λ (k : Numbers). k.spent) is)
+        (ap (λ (k : Numbers). k.raised) is)
         (ap (λ (k : Numbers). k.added) is) (ap (λ (k : Numbers). k.shares) is) (ap (λ (k : Numbers). k.nexts) is)
 
     -- a number that was drawn and spent
@@ -174,7 +192,8 @@ module _ (begin : Begin) (task : Record) (v w : View) where
             few = λ r. (let c = count_low r row n in omega arith);
             between = λ r x l.
                 let (same, number) = one_time row n r x l in
-                let from : top r v.numbers.nexts ≤ x = subst (λ (q : ℕ). top q v.numbers.nexts ≤ x) same (omega arith) in
+                let from : top r v.numbers.nexts ≤ x =
+                subst (λ (q : ℕ). top q v.numbers.nexts ≤ x) same (omega arith) in
                 let to : x < top r w.numbers.nexts = subst (λ (q : ℕ). x < top q w.numbers.nexts) same (omega arith) in
                 (from, to);
             of_drawn = λ r x. omega arith;
@@ -191,5 +210,7 @@ module _ (begin : Begin) (task : Record) (v w : View) where
       pub shows : Shows row n drawn [] [] added
 
     pub out_shows : (row end n : ℕ) → RunsOut row end n v.numbers w.numbers → OutOf row n
-    out_shows row end n (past, inl (least, is)) = record { drawn = []; added = []; shows = found_shows row end n least is }
-    out_shows row end n (past, inr d) = record { drawn = (row, n) ∷ []; added = (row, 1) ∷ []; shows = drawn_counted row end n d }
+    out_shows row end n (past, inl (least, is)) =
+        record { drawn = []; added = []; shows = found_shows row end n least is }
+    out_shows row end n (past, inr d) =
+        record { drawn = (row, n) ∷ []; added = (row, 1) ∷ []; shows = drawn_counted row end n d }

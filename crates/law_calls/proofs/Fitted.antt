@@ -1,5 +1,6 @@
 -- When an answer of a call fits its record, by what the run's history was then.
-use Rattle.std.proofs.Common.{◌≡◌, ◌≢◌, ◌⊎◌, ℕ, ◌+◌, ◌-◌, ◌≤◌, List, [], ◌∷◌, ◌++◌, length, Some, None, length-append, refl, sym, ◌∙◌, ap, subst, arith, inl, inr}
+use Rattle.std.proofs.Common.{◌≡◌, ◌≢◌, ◌⊎◌, ℕ, ◌+◌, ◌-◌, ◌≤◌, List, [], ◌∷◌, ◌++◌, length, Some, None, length-append}
+use Rattle.std.proofs.Common.{refl, sym, ◌∙◌, ap, subst, arith, inl, inr}
 use Rattle.std.specs.List.{slice_get}
 use Rattle.std.proofs.lemmas.List.{take-append-le, take_all}
 use Rattle.sdls_base.specs.declared.change.Change.{Change}
@@ -31,13 +32,15 @@ behind [] e = refl
 behind (x ∷ es) e = behind es e
 
 module _ (near : ℕ → ℕ → Type 0) (course : Course) (task : Record) where
-  by_any : (kind : RecordKind) (answer : Answer) → kind ≢ Monitor → FitsAny near course task answer → FitsKind near course task answer kind
+  by_any : (kind : RecordKind) (answer : Answer) → kind ≢ Monitor → FitsAny near course task answer
+      → FitsKind near course task answer kind
   by_any Protect answer plain any = inr (inr (inr any))
   by_any Open answer plain any = inr any
   by_any Command answer plain any = inr any
   by_any Monitor answer plain any = absurd (plain refl)
 
-  pub fits_any : (answer : Answer) → task.kind ≢ Monitor → FitsAny near course task answer → Fits near course task answer
+  pub fits_any : (answer : Answer) → task.kind ≢ Monitor → FitsAny near course task answer
+      → Fits near course task answer
   fits_any answer plain any = by_any task.kind answer plain any
 
   -- memory may run out for a record of any kind
@@ -48,7 +51,8 @@ module _ (near : ℕ → ℕ → Type 0) (course : Course) (task : Record) where
   by_wanting Monitor answer wants = inr wants
 
   -- the entry that the answer tells is the last
-  module _ (front : List Entry) (state : State) (entry : Entry) (position : ℕ) (entries : course.entries ≡ front ++ entry ∷ [])
+  module _ (front : List Entry) (state : State) (entry : Entry) (position : ℕ)
+      (entries : course.entries ≡ front ++ entry ∷ [])
       (state_is : state ≡ after course.begin.start front) (position_is : position ≡ length front + 1) where
     before : position - 1 ≡ length front
     before = omega arith
@@ -60,26 +64,34 @@ module _ (near : ℕ → ℕ → Type 0) (course : Course) (task : Record) where
         ∙ after_front course.begin.start front (entry ∷ []) ∙ sym state_is
 
     pub there : slice_get course.entries (position - 1) ≡ Some entry
-    there = ap (slice_get course.entries) before ∙ ap (λ (es : List Entry). slice_get es (length front)) entries ∙ behind front entry
+    there = ap (slice_get course.entries) before ∙ ap (λ (es : List Entry). slice_get es (length front)) entries
+        ∙ behind front entry
 
-    pub opened_fits : task.kind ≡ Open → (reply : OpenReply) (field : List ℕ) → IsOpenReply course.begin.plan state task.link task.octets reply field
-        → entry ≡ frame_entry course.begin.plan state task.index reply → Fits near course task (answer_of (opened_told reply field) position)
+    pub opened_fits : task.kind ≡ Open → (reply : OpenReply) (field : List ℕ)
+        → IsOpenReply course.begin.plan state task.link task.octets reply field
+        → entry ≡ frame_entry course.begin.plan state task.index reply
+        → Fits near course task (answer_of (opened_told reply field) position)
     opened_fits kind reply field replies entry_is =
-        subst (λ (k : RecordKind). FitsKind near course task (answer_of (opened_told reply field) position) k) (sym kind) (inl (record {
+        subst (λ (k : RecordKind). FitsKind near course task (answer_of (opened_told reply field) position) k)
+        (sym kind) (inl (record {
           reply = reply;
           field = field;
-          replies = subst (λ (s : State). IsOpenReply course.begin.plan s task.link task.octets reply field) (sym before_is) replies;
+          replies = subst (λ (s : State). IsOpenReply course.begin.plan s task.link task.octets reply field)
+              (sym before_is) replies;
           stands = record {
             least = omega arith;
-            there = there ∙ ap (λ (e : Entry). Some e) (entry_is ∙ ap (λ (s : State). frame_entry course.begin.plan s task.index reply) (sym before_is));
+            there = there ∙ ap (λ (e : Entry). Some e)
+                (entry_is ∙ ap (λ (s : State). frame_entry course.begin.plan s task.index reply) (sym before_is));
           };
           told = refl;
         }))
 
-    pub commanded_fits : task.kind ≡ Command → (seen : Seen) (change : Change) (reply : Reply) → IsStepOf state task.octets seen (change, reply)
+    pub commanded_fits : task.kind ≡ Command → (seen : Seen) (change : Change) (reply : Reply)
+        → IsStepOf state task.octets seen (change, reply)
         → entry ≡ record_entry task.index seen change → Fits near course task (answer_of (replied_told reply) position)
     commanded_fits kind seen change reply step entry_is =
-        subst (λ (k : RecordKind). FitsKind near course task (answer_of (replied_told reply) position) k) (sym kind) (inl (record {
+        subst (λ (k : RecordKind). FitsKind near course task (answer_of (replied_told reply) position) k) (sym kind)
+        (inl (record {
           seen = seen;
           change = change;
           reply = reply;
@@ -91,13 +103,16 @@ module _ (near : ℕ → ℕ → Type 0) (course : Course) (task : Record) where
   pub wanting_fits : Fits near course task unserved_answer
   wanting_fits = by_wanting task.kind unserved_answer (record { told = refl; position_is = refl })
 
-  tells : (code count position : ℕ) → position ≡ length course.entries → Rose course.faults_before count → count ≤ course.faults
+  tells : (code count position : ℕ) → position ≡ length course.entries → Rose course.faults_before count
+      → count ≤ course.faults
       → TellsRisenCount course code (answer_of (counting code 0 count) position)
   tells code count position is rose low = record { told = refl; rose = rose; counted = low; position_is = is }
 
-  pub faulted_fits : task.kind ≢ Monitor → (count position : ℕ) → position ≡ length course.entries → Rose course.faults_before count → count ≤ course.faults
+  pub faulted_fits : task.kind ≢ Monitor → (count position : ℕ) → position ≡ length course.entries
+      → Rose course.faults_before count → count ≤ course.faults
       → MayAppendOnce near course task → (front : List Entry) (entry : Entry) → course.entries ≡ front ++ entry ∷ []
-      → (entry.index ≡ None) ⊎ (entry.index ≡ Some task.index) → Fits near course task (answer_of (counting SITE_FAULT 0 count) position)
+      → (entry.index ≡ None) ⊎ (entry.index ≡ Some task.index)
+      → Fits near course task (answer_of (counting SITE_FAULT 0 count) position)
   faulted_fits plain count position is rose low may front entry entries own =
       let size : length course.entries ≡ length front + 1 = ap length entries ∙ length-append front (entry ∷ []) in
       let before : position - 1 ≡ length front = omega arith in
@@ -107,12 +122,15 @@ module _ (near : ℕ → ℕ → Type 0) (course : Course) (task : Record) where
         entry = entry;
         last = record {
           least = omega arith;
-          there = ap (slice_get course.entries) before ∙ ap (λ (es : List Entry). slice_get es (length front)) entries ∙ behind front entry;
+          there = ap (slice_get course.entries) before ∙ ap (λ (es : List Entry). slice_get es (length front)) entries
+              ∙ behind front entry;
         };
         own = own;
       }))
 
-  pub stopped_fits : task.kind ≢ Monitor → (count position : ℕ) → position ≡ length course.entries → Rose course.faults_before count → count ≤ course.faults
-      → (task.kind ≢ Protect) ⊎ MayAppendOnce near course task → Fits near course task (answer_of (counting STOPPED 0 count) position)
+  pub stopped_fits : task.kind ≢ Monitor → (count position : ℕ) → position ≡ length course.entries
+      → Rose course.faults_before count → count ≤ course.faults
+      → (task.kind ≢ Protect) ⊎ MayAppendOnce near course task
+      → Fits near course task (answer_of (counting STOPPED 0 count) position)
   stopped_fits plain count position is rose low may = fits_any (answer_of (counting STOPPED 0 count) position) plain
       (inr (inl (record { tells = tells STOPPED count position is rose low; may = may })))

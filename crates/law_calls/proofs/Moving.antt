@@ -1,5 +1,6 @@
 -- What the ways of a number do to the words of rows, as moves of the machine.
-use Rattle.std.proofs.Common.{◌≡◌, ℕ, ◌+◌, ◌-◌, ◌<◌, ◌≤◌, ◌==◌, max, Bool, true, false, List, [], ◌∷◌, ◌++◌, refl, sym, ◌∙◌, ap, subst, arith, inl, inr, if◌then◌else◌, eqb, eq-eqb}
+use Rattle.std.proofs.Common.{◌≡◌, ℕ, ◌+◌, ◌-◌, ◌<◌, ◌≤◌, ◌==◌, max, Bool, true, false, List, [], ◌∷◌, ◌++◌, refl, sym}
+use Rattle.std.proofs.Common.{◌∙◌, ap, subst, arith, inl, inr, if◌then◌else◌, eqb, eq-eqb}
 use Rattle.std.proofs.lemmas.Bool.{cases_eq}
 use Rattle.std.proofs.lemmas.Bool.Decides.{nat_tests}
 use Rattle.sdls_base.specs.Numbers.{times}
@@ -20,17 +21,20 @@ amount_both row [] b = omega arith
 amount_both row (p ∷ a) b = let h = amount_both row a b in omega arith
 
 module _ (begin : Begin) (v w : View) where
-  -- what was added to the words is what the move adds, which lies between them, and the words grew by it; if by no more, the
+  -- what was added to the words is what the move adds, which lies between them, and the words grew by it; if by no
+  -- more, the
   -- move is the machine's
   pub record Moves (move : Move) : Type 0 where
     pub added : (row : ℕ) → amount row w.numbers.added ≡ amount row v.numbers.added + adds row move
     pub grown : (row : ℕ) → words_in v row + adds row move ≤ words_in w row
     pub between : LiesBetween begin.rows (words_in v) (words_in w) move
-    pub at : ((row : ℕ) → row < begin.rows → words_in w row ≡ words_in v row + adds row move) → IsAt begin.rows (words_in v) move
+    pub at : ((row : ℕ) → row < begin.rows → words_in w row ≡ words_in v row + adds row move)
+        → IsAt begin.rows (words_in v) move
 
   pub moves_none : w.numbers ≡ v.numbers → Moves Kept
   moves_none is = record {
-    added = λ row. (let h : amount row w.numbers.added ≡ amount row v.numbers.added = ap (λ (k : Numbers). amount row k.added) is in omega arith);
+    added = λ row. (let h : amount row w.numbers.added ≡ amount row v.numbers.added =
+        ap (λ (k : Numbers). amount row k.added) is in omega arith);
     grown = λ row. (let h : words_in w row ≡ words_in v row = ap (λ (k : Numbers). top row k.nexts) is in omega arith);
     between = tt;
     at = λ still. tt;
@@ -46,19 +50,22 @@ module _ (begin : Begin) (v w : View) where
   module _ (task : Record) (row : ℕ) (low : row < begin.rows) where
     pub moves_found : (n : ℕ) → Shows begin task v w row n [] [] [] [] → Moves (Found row n)
     moves_found n s = record {
-      added = λ r. (let h : amount r w.numbers.added ≡ amount r (v.numbers.added ++ []) = ap (amount r) s.counted.added_is in
+      added = λ r. (let h : amount r w.numbers.added ≡ amount r (v.numbers.added ++ []) =
+          ap (amount r) s.counted.added_is in
           let b = amount_both r v.numbers.added [] in omega arith);
       grown = λ r. (let g = s.counted.nexts r in omega arith);
       between = (low, s.least, s.most);
       at = found_alone begin.rows v w row n low s.least s.most;
     }
 
-    one_more : (n : ℕ) (spent : List (ℕ × ℕ)) → Shows begin task v w row n ((row, n) ∷ []) spent [] ((row, 1) ∷ []) → (r : ℕ)
+    one_more : (n : ℕ) (spent : List (ℕ × ℕ)) → Shows begin task v w row n ((row, n) ∷ []) spent [] ((row, 1) ∷ [])
+        → (r : ℕ)
         → words_in v r + (if row == r then 1 else 0) ≤ words_in w r
     one_more n spent s r = elim (cases_eq row r) [
       | inl same ↦
           let least : words_in v r ≤ n = subst (λ (q : ℕ). words_in v q ≤ n) same s.least in
-          let above : n < words_in w r = subst (λ (q : ℕ). n < words_in w q) same (s.counted.between row n (once row n)).1 in
+          let above : n < words_in w r =
+          subst (λ (q : ℕ). n < words_in w q) same (s.counted.between row n (once row n)).1 in
           let one : eqb row r ≡ true = grind (arith, nat_tests) in
           subst (λ (b : Bool). words_in v r + (if b then 1 else 0) ≤ words_in w r) (sym one) (omega arith)
       | inr off ↦
@@ -67,14 +74,18 @@ module _ (begin : Begin) (v w : View) where
           subst (λ (b : Bool). words_in v r + (if b then 1 else 0) ≤ words_in w r) (sym none) (omega arith)
     ] where
       once : (own x : ℕ) → 0 < times own x ((own, x) ∷ [])
-      once own x = let t : eqb own own ≡ true = eq-eqb own own refl in let u : eqb x x ≡ true = eq-eqb x x refl in rw (t, u) (omega arith)
+      once own x = let t : eqb own own ≡ true = eq-eqb own own refl in let u : eqb x x ≡ true = eq-eqb x x refl in
+          rw (t, u) (omega arith)
 
-    above : (n : ℕ) (spent : List (ℕ × ℕ)) → Shows begin task v w row n ((row, n) ∷ []) spent [] ((row, 1) ∷ []) → n < words_in w row
+    above : (n : ℕ) (spent : List (ℕ × ℕ)) → Shows begin task v w row n ((row, n) ∷ []) spent [] ((row, 1) ∷ [])
+        → n < words_in w row
     above n spent s = (s.counted.between row n (once row n)).1 where
       once : (own x : ℕ) → 0 < times own x ((own, x) ∷ [])
-      once own x = let t : eqb own own ≡ true = eq-eqb own own refl in let u : eqb x x ≡ true = eq-eqb x x refl in rw (t, u) (omega arith)
+      once own x = let t : eqb own own ≡ true = eq-eqb own own refl in let u : eqb x x ≡ true = eq-eqb x x refl in
+          rw (t, u) (omega arith)
 
-    pub moves_drew : (n : ℕ) (spent : List (ℕ × ℕ)) → Shows begin task v w row n ((row, n) ∷ []) spent [] ((row, 1) ∷ []) → Moves (Drew row n)
+    pub moves_drew : (n : ℕ) (spent : List (ℕ × ℕ))
+        → Shows begin task v w row n ((row, n) ∷ []) spent [] ((row, 1) ∷ []) → Moves (Drew row n)
     moves_drew n spent s = record {
       added = λ r. last_added row 1 r s.counted.added_is;
       grown = one_more n spent s;
@@ -83,7 +94,8 @@ module _ (begin : Begin) (v w : View) where
     }
 
     -- a number at or past the end: the word was found below it
-    pub moves_over : (end n : ℕ) → end ≤ n → Draws row end n v.numbers w.numbers → Shows begin task v w row n ((row, n) ∷ []) [] [] ((row, 1) ∷ [])
+    pub moves_over : (end n : ℕ) → end ≤ n → Draws row end n v.numbers w.numbers
+        → Shows begin task v w row n ((row, n) ∷ []) [] [] ((row, 1) ∷ [])
         → Moves (Overdrew row n)
     moves_over end n past d s = record {
       added = λ r. last_added row 1 r s.counted.added_is;
@@ -98,11 +110,14 @@ module _ (begin : Begin) (v w : View) where
           absurd (omega arith);
     }
 
-    pub moves_raised : (n number : ℕ) → top row v.numbers.nexts ≤ n → w.numbers ≡ raising row number n v.numbers → Moves (Raised row n number)
+    pub moves_raised : (n number : ℕ) → top row v.numbers.nexts ≤ n → w.numbers ≡ raising row number n v.numbers
+        → Moves (Raised row n number)
     moves_raised n number least is =
         let twice : (r : ℕ) → words_in w r ≡ max (words_in v r) (top r ((row, n) ∷ (row, max n number) ∷ [])) =
-        λ r. ap (λ (k : Numbers). top r k.nexts) is ∙ top-append r v.numbers.nexts ((row, n) ∷ (row, max n number) ∷ []) in
-        let own : top row ((row, n) ∷ (row, max n number) ∷ []) ≡ max n (max (max n number) 0) = here_twice row n (max n number) in
+        λ r. ap (λ (k : Numbers). top r k.nexts) is ∙ top-append r v.numbers.nexts
+        ((row, n) ∷ (row, max n number) ∷ []) in
+        let own : top row ((row, n) ∷ (row, max n number) ∷ []) ≡ max n (max (max n number) 0) =
+        here_twice row n (max n number) in
         record {
           added = λ r. last_added row (number - n) r (ap (λ (k : Numbers). k.added) is);
           grown = λ r. elim (cases_eq row r) [
@@ -110,12 +125,14 @@ module _ (begin : Begin) (v w : View) where
                 let one : eqb row r ≡ true = grind (arith, nat_tests) in
                 let t = twice row in
                 let here : words_in v row + (number - n) ≤ words_in w row = omega arith in
-                let there : words_in v r + (number - n) ≤ words_in w r = subst (λ (q : ℕ). words_in v q + (number - n) ≤ words_in w q) same here in
+                let there : words_in v r + (number - n) ≤ words_in w r =
+                subst (λ (q : ℕ). words_in v q + (number - n) ≤ words_in w q) same here in
                 subst (λ (b : Bool). words_in v r + (if b then number - n else 0) ≤ words_in w r) (sym one) there
             | inr off ↦
                 let none : eqb row r ≡ false = grind (arith, nat_tests) in
                 let t = twice r in
-                subst (λ (b : Bool). words_in v r + (if b then number - n else 0) ≤ words_in w r) (sym none) (omega arith)
+                subst (λ (b : Bool). words_in v r + (if b then number - n else 0) ≤ words_in w r) (sym none)
+                (omega arith)
           ];
           between = (low, least, let t = twice row in omega arith);
           at = raised_alone begin.rows v w row n number low least (let t = twice row in omega arith);

@@ -1,5 +1,7 @@
 -- What was done for one record, put together: numbers, entries behind the log that was found, and the answer.
-use Rattle.std.proofs.Common.{◌≡◌, ◌≢◌, ◌⊎◌, Some, ℕ, zero, suc, ◌+◌, ◌<◌, ◌≤◌, ◌==◌, Bool, false, List, [], ◌∷◌, ◌++◌, length, Option, refl, sym, ◌∙◌, ap, subst, arith, inl, inr, length-append, if◌then◌else◌, eqb, eq-eqb, true}
+use Rattle.std.proofs.Common.{◌≡◌, ◌≢◌, ◌⊎◌, Some, ℕ, zero, suc, ◌+◌, ◌<◌, ◌≤◌, ◌==◌, Bool, false, List, [], ◌∷◌, ◌++◌}
+use Rattle.std.proofs.Common.{length, Option, refl, sym, ◌∙◌, ap, subst, arith, inl, inr, length-append, if◌then◌else◌}
+use Rattle.std.proofs.Common.{eqb, eq-eqb, true}
 use Rattle.std.specs.List.{All}
 use Rattle.std.proofs.lemmas.Bool.{cases_eq}
 use Rattle.std.proofs.lemmas.Bool.Decides.{nat_tests}
@@ -29,7 +31,8 @@ use Rattle.law_workers.specs.Deeds.{course_in, StandsWithin, Agree, IsSpent, Mad
 use Rattle.law_workers.specs.Order.{Layout, TakeTurns, is_line, is_piece, Lined, Handled}
 use Rattle.law_workers.proofs.Logs.{count_one, same_behind}
 use Rattle.law_calls.specs.Answering.{Answered}
-use Rattle.law_calls.proofs.Behind.{lines_of, tested, lines_length, places_within, count_behind, all_lines, no_pieces, LegalInTurn, legal_behind}
+use Rattle.law_calls.proofs.Behind.{lines_of, tested, lines_length, places_within, count_behind, all_lines, no_pieces}
+use Rattle.law_calls.proofs.Behind.{LegalInTurn, legal_behind}
 
 pub one_all : {X : Type 0} (P : X → Type 0) (x : X) → P x → All P (x ∷ [])
 one_all {X} P x p zero e low = p
@@ -55,7 +58,8 @@ own_index own i h = elim (cases_eq own i) [
   | inl is ↦ is
   | inr off ↦
       let f : eqb own i ≡ false = grind (arith, nat_tests) in
-      let k : 1 ≤ (if false then 1 else 0) + 0 = subst (λ (b : Bool). 1 ≤ (if b then 1 else 0) + 0) f h in absurd (omega arith)
+      let k : 1 ≤ (if false then 1 else 0) + 0 = subst (λ (b : Bool). 1 ≤ (if b then 1 else 0) + 0) f h in
+      absurd (omega arith)
 ]
 
 module _ (begin : Begin) (task : Record) (v w : View) where
@@ -68,18 +72,27 @@ module _ (begin : Begin) (task : Record) (v w : View) where
     pub shares : w.numbers.shares ≡ v.numbers.shares
     pub nexts : (row : ℕ) → top row v.numbers.nexts ≤ top row w.numbers.nexts
     pub few : (row : ℕ) → count_of row drawn ≤ drawers (task ∷ [])
-    pub between : (row number : ℕ) → 0 < times row number drawn → (top row v.numbers.nexts ≤ number) × (number < top row w.numbers.nexts)
+    pub between : (row number : ℕ) → 0 < times row number drawn → (top row v.numbers.nexts ≤ number)
+        × (number < top row w.numbers.nexts)
     pub of_drawn : (row number : ℕ) → times row number spent ≤ times row number drawn
     pub raised_by : All (λ pair. (pair.1 ≤ 1) ⊎ IsAsked begin (entries_in w) (task ∷ []) pair.0 pair.1) raised
 
-  module _ (layout : Layout) (segment : ℕ) (log : List Logged) (es : List Entry) (drawn spent raised added : List (ℕ × ℕ))
+  module _ (layout : Layout) (segment : ℕ) (log : List Logged) (es : List Entry)
+      (drawn spent raised added : List (ℕ × ℕ))
       (turned : Turned log es v.turn w.turn) (counted : Counted drawn spent raised added)
-      (legal : LegalInTurn (IsBetween begin v w) begin.plan begin.start (task ∷ []) (after begin.start (entries_of log)) es)
+      (legal : LegalInTurn (IsBetween begin v w) begin.plan begin.start (task ∷ []) (after begin.start (entries_of log))
+      es)
       (one : (index : ℕ) → tested (is_of_record index) es ≤ indexed index (task ∷ []))
       (reserve : tested is_of_none es ≤ drawers (task ∷ []))
       (few : length es ≤ length (task ∷ []) + drawers (task ∷ [])) where
     abbrev pub gains : Gains
-    gains = record { drawn = drawn; spent = spent; raised = raised; added = added; made = places (length log) (length es) }
+    gains = record {
+      drawn = drawn;
+      spent = spent;
+      raised = raised;
+      added = added;
+      made = places (length log) (length es);
+    }
 
     gained : Gained v w gains
     gained = record {
@@ -96,17 +109,22 @@ module _ (begin : Begin) (task : Record) (v w : View) where
     grows : KnowsMore v w
     grows = record { nexts = counted.nexts; earlier = turned.earlier; opening = turned.opening; epochs = turned.epochs }
 
-    count_is : (test : Option Logged → Bool) → count_at test (log_of w) (places (length log) (length es)) ≡ tested test es
-    count_is test = ap (λ (l : List Logged). count_at test l (places (length log) (length es))) turned.log_is ∙ count_behind test log es
+    count_is : (test : Option Logged → Bool) → count_at test (log_of w) (places (length log) (length es))
+        ≡ tested test es
+    count_is test = ap (λ (l : List Logged). count_at test l (places (length log) (length es))) turned.log_is
+        ∙ count_behind test log es
 
     pub works : Works begin v w gains (task ∷ [])
     works = record {
       made = λ x in'.
           let (low, high) = places_within (length log) (length es) x in' in
           let size : length (log_of w) ≡ length log + length es =
-          ap length turned.log_is ∙ length-append log (lines_of es) ∙ ap (λ (n : ℕ). length log + n) (lines_length es) in
+          ap length turned.log_is ∙ length-append log (lines_of es) ∙ ap (λ (n : ℕ). length log + n)
+          (lines_length es) in
           let before = turned.low in (omega arith, omega arith);
-      legal = λ x in'. subst (λ (l : List Logged). IsLegalAt (IsBetween begin v w) begin.plan begin.start (task ∷ []) l x) (sym turned.log_is)
+      legal = λ x in'.
+          subst (λ (l : List Logged). IsLegalAt (IsBetween begin v w) begin.plan begin.start (task ∷ []) l x)
+          (sym turned.log_is)
           (legal_behind (IsBetween begin v w) begin.plan begin.start (task ∷ []) log es legal x in');
       one_entry = λ i. let c = count_is (is_of_record i) in let o = one i in omega arith;
       reserves = let c = count_is is_of_none in omega arith;
@@ -116,7 +134,8 @@ module _ (begin : Begin) (task : Record) (v w : View) where
       raised = counted.raised_by;
     }
 
-    lined : Lined (TakeTurns layout) (log_of w) (places (length log) (length es)) (length (task ∷ []) + drawers (task ∷ [])) 0
+    lined : Lined (TakeTurns layout) (log_of w) (places (length log) (length es))
+        (length (task ∷ []) + drawers (task ∷ [])) 0
     lined = record {
       in_order = λ x y i j in_x in_y is_i is_j less turn.
           let made : List ℕ = places (length log) (length es) in
@@ -141,7 +160,8 @@ module _ (begin : Begin) (task : Record) (v w : View) where
     pub none_made : tested (is_of_record task.index) es ≡ 0 → (made : List ℕ) → w.turn.made ≡ v.turn.made ++ made
         → count_at (is_of_record task.index) (log_of w) made ≡ 0
     none_made none made is =
-        let same : made ≡ places (length log) (length es) = same_behind v.turn.made made (places (length log) (length es)) (sym is ∙ turned.made) in
+        let same : made ≡ places (length log) (length es) =
+        same_behind v.turn.made made (places (length log) (length es)) (sym is ∙ turned.made) in
         ap (count_at (is_of_record task.index) (log_of w)) same ∙ count_is (is_of_record task.index) ∙ none
 
     -- the record was handled, and has no answer
@@ -168,7 +188,8 @@ module _ (begin : Begin) (task : Record) (v w : View) where
     -- the record was handled, and has this answer
     pub handled_answered : (answer : Answer) → Fits (IsBetween begin v w) (course_in begin w) task answer
         → StandsWithin begin v w (deed_of segment task answer) → IsSpent begin w gains (deed_of segment task answer)
-        → (answer.code ≡ SITE_FAULT → MadeLast w gains) → (IsUnmade answer.code → tested (is_of_record task.index) es ≡ 0)
+        → (answer.code ≡ SITE_FAULT → MadeLast w gains)
+        → (IsUnmade answer.code → tested (is_of_record task.index) es ≡ 0)
         → Handled layout begin v w (task ∷ []) (deed_of segment task answer ∷ [])
     handled_answered answer fits stands_there used failed unmade = record {
       does = record {
@@ -178,23 +199,31 @@ module _ (begin : Begin) (task : Record) (v w : View) where
         sparing = turned.sparing;
         works = works;
         answers = record {
-          fit = one_all (λ (d : Deed). Fits (IsBetween begin v w) (course_in begin w) d.task d.answer) (deed_of segment task answer) fits;
+          fit = one_all (λ (d : Deed). Fits (IsBetween begin v w) (course_in begin w) d.task d.answer)
+              (deed_of segment task answer) fits;
           stand = one_all (StandsWithin begin v w) (deed_of segment task answer) stands_there;
-          agree = one_all (λ (d : Deed). All (Agree begin (entries_in w) d) (deed_of segment task answer ∷ [])) (deed_of segment task answer) (one_all (Agree begin (entries_in w) (deed_of segment task answer)) (deed_of segment task answer) (record {
-            pairs = λ apart. absurd (apart refl);
-            faults = λ apart. absurd (apart refl);
-            order = λ less. absurd (omega arith);
-          }));
+          agree = one_all (λ (d : Deed). All (Agree begin (entries_in w) d) (deed_of segment task answer ∷ []))
+              (deed_of segment task answer)
+              (one_all (Agree begin (entries_in w) (deed_of segment task answer)) (deed_of segment task answer)
+              (record {
+                pairs = λ apart. absurd (apart refl);
+                faults = λ apart. absurd (apart refl);
+                order = λ less. absurd (omega arith);
+              }));
           used = one_all (IsSpent begin w gains) (deed_of segment task answer) used;
-          failed = one_all (λ (d : Deed). d.answer.code ≡ SITE_FAULT → MadeLast w gains) (deed_of segment task answer) failed;
+          failed = one_all (λ (d : Deed). d.answer.code ≡ SITE_FAULT → MadeLast w gains) (deed_of segment task answer)
+              failed;
         };
-        unmade = one_all (λ (d : Deed). IsUnmade d.answer.code → IsWithoutEntry w gains (task ∷ []) d.task.index) (deed_of segment task answer)
+        unmade = one_all (λ (d : Deed). IsUnmade d.answer.code → IsWithoutEntry w gains (task ∷ []) d.task.index)
+            (deed_of segment task answer)
             (λ code. without (unmade code));
       };
       lined = lined;
     }
 
 -- an answer that does not say that memory ran out
-pub answered_so : (begin : Begin) (layout : Layout) (segment : ℕ) (v w : View) (task : Record) (answer : Answer) → answer.code ≢ NO_MEMORY
-    → Handled layout begin v w (task ∷ []) (deed_of segment task answer ∷ []) → Answered layout begin segment v w task (Some answer)
+pub answered_so : (begin : Begin) (layout : Layout) (segment : ℕ) (v w : View) (task : Record) (answer : Answer)
+    → answer.code ≢ NO_MEMORY
+    → Handled layout begin v w (task ∷ []) (deed_of segment task answer ∷ [])
+    → Answered layout begin segment v w task (Some answer)
 answered_so begin layout segment v w task answer other handled = (handled, λ code. absurd (other code))

@@ -1,5 +1,6 @@
 -- The reserve of a number that a call drew: a stage of the call where it was made, and an answer where it was refused.
-use Rattle.std.proofs.Common.{◌≡◌, ◌⊎◌, ℕ, ◌+◌, ◌<◌, ◌≤◌, Bool, List, [], ◌∷◌, ◌++◌, length, Some, Ok, Err, refl, sym, ◌∙◌, ap, subst, arith, inl, inr, length-append, ◌≢◌}
+use Rattle.std.proofs.Common.{◌≡◌, ◌⊎◌, ℕ, ◌+◌, ◌<◌, ◌≤◌, Bool, List, [], ◌∷◌, ◌++◌, length, Some, Ok, Err, refl, sym}
+use Rattle.std.proofs.Common.{◌∙◌, ap, subst, arith, inl, inr, length-append, ◌≢◌}
 use Rattle.sdls_base.specs.KeyId.{end_of}
 use Rattle.sdls_base.specs.declared.entry.Entry.{Entry}
 use Rattle.key_book.specs.KeyBook.{place_of}
@@ -27,7 +28,8 @@ use Rattle.law_calls.proofs.Visit.{plan_is, whole, led_known}
 use Rattle.law_calls.proofs.Stages.{Call, Stage, Added, stage_found, barred, unstored}
 
 module _ (told : Bool) (c : Call told)
-    (may_draw : drawers (c.task ∷ []) ≡ 1) (key n row : ℕ) (place : place_of c.found.state.keys key ≡ Some row) (below : n < end_of key)
+    (may_draw : drawers (c.task ∷ []) ≡ 1) (key n row : ℕ) (place : place_of c.found.state.keys key ≡ Some row)
+    (below : n < end_of key)
     (is_near : IsBetween c.begin c.old_view c.new_view key n) where
   abbrev entry : Entry
   entry = reserve_of c.found.plan c.found.state key n
@@ -39,9 +41,11 @@ module _ (told : Bool) (c : Call told)
   plan_same = plan_is told c.begin c.found c.given c.taken c.new_view.turn c.began c.free c.visits
 
   legal : CanEnter c.found → mark_of c.found.state key ≤ n
-      → IsLegal (IsBetween c.begin c.old_view c.new_view) c.begin.plan (after c.begin.start (entries_of c.found.log)) (c.task ∷ [])
+      → IsLegal (IsBetween c.begin c.old_view c.new_view) c.begin.plan (after c.begin.start (entries_of c.found.log))
+      (c.task ∷ [])
       (reserve_of c.found.plan c.found.state key n)
-  legal can unmarked = subst (λ (s : State). IsLegal (IsBetween c.begin c.old_view c.new_view) c.begin.plan s (c.task ∷ [])
+  legal can unmarked =
+      subst (λ (s : State). IsLegal (IsBetween c.begin c.old_view c.new_view) c.begin.plan s (c.task ∷ [])
       (reserve_of c.found.plan c.found.state key n)) (state_is can) (inr (inr (record {
         key = key;
         number = n;
@@ -62,7 +66,8 @@ module _ (told : Bool) (c : Call told)
       let all = c.visits.found_kept.whole m.0.0 in
       let entries : entries_of middle.log ≡ entries_of c.found.log ++ e ∷ [] =
       ap (λ (b : BookView). entries_of b.log) is ∙ lines_entries c.found.log (e ∷ []) in
-      let size : length (entries_of middle.log) ≡ length (entries_of c.found.log) + 1 = ap length entries ∙ length-append (entries_of c.found.log) (e ∷ []) in
+      let size : length (entries_of middle.log) ≡ length (entries_of c.found.log) + 1 =
+      ap length entries ∙ length-append (entries_of c.found.log) (e ∷ []) in
       let stand : middle.standing ≡ c.found.standing + 1 = ap (λ (b : BookView). b.standing) is in
       record {
         log = ap (λ (b : BookView). b.log) is;
@@ -104,7 +109,8 @@ module _ (told : Bool) (c : Call told)
 
   unmarked_at : (p : ℕ) → state_after (course_in c.begin c.new_view) p ≡ c.found.state → mark_of c.found.state key ≤ n
       → IsUnmarked (IsBetween c.begin c.old_view c.new_view) (state_after (course_in c.begin c.new_view) p) key n
-  unmarked_at p same unmarked = subst (λ (s : State). IsUnmarked (IsBetween c.begin c.old_view c.new_view) s key n) (sym same)
+  unmarked_at p same unmarked = subst (λ (s : State). IsUnmarked (IsBetween c.begin c.old_view c.new_view) s key n)
+      (sym same)
       (record { is_near = is_near; unmarked = unmarked; below = below })
 
   -- A reserve that was refused. The record may need it, by what else is known of it.
@@ -123,4 +129,5 @@ module _ (told : Bool) (c : Call told)
       let low = c.visits.found_kept.stands in
       unstored told c c.found [] (stage_found told c) (reserve_of c.found.plan c.found.state key n) numbers can
       (legal can unmarked) (λ index. omega arith) (omega arith) plain fault position is fails
-      (λ same stored. may (length (entries_of c.found.log)) low same (unmarked_at (length (entries_of c.found.log)) same unmarked))
+      (λ same stored. may (length (entries_of c.found.log)) low same
+      (unmarked_at (length (entries_of c.found.log)) same unmarked))

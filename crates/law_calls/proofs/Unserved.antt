@@ -39,17 +39,21 @@ same_turn v = record {
   filled = refl;
 }
 
-pub unserved : (begin : Begin) (layout : Layout) (segment : ℕ) (v : View) (task : Record) → Answered layout begin segment v v task (Some unserved_answer)
+pub unserved : (begin : Begin) (layout : Layout) (segment : ℕ) (v : View) (task : Record)
+    → Answered layout begin segment v v task (Some unserved_answer)
 unserved begin layout segment v task = (
-  handled_answered begin task v v layout segment v.turn.known.log [] [] [] [] [] (same_turn v) (counted_none begin task v v refl) tt (λ index. omega arith) (omega arith) (omega arith) unserved_answer
+  handled_answered begin task v v layout segment v.turn.known.log [] [] [] [] [] (same_turn v)
+      (counted_none begin task v v refl) tt (λ index. omega arith) (omega arith) (omega arith) unserved_answer
       (wanting_fits (IsBetween begin v v) (course_in begin v) task)
       (late_stands begin segment task v v NO_MEMORY 0 0 refl refl (λ is. absurd (omega arith)))
-      (λ key number uses. absurd (unused_late NO_MEMORY 0 0 key number (λ is. absurd (omega arith)) (λ is. absurd (omega arith)) uses))
+      (λ key number uses.
+      absurd (unused_late NO_MEMORY 0 0 key number (λ is. absurd (omega arith)) (λ is. absurd (omega arith)) uses))
       (λ is. absurd (omega arith)) (λ _. refl),
   λ code other. refl,
 )
 
-pub unserved_exactly : (begin : Begin) (segment : ℕ) (v : View) (task : Record) → AnsweredExactly begin segment v v task (Some unserved_answer)
+pub unserved_exactly : (begin : Begin) (segment : ℕ) (v : View) (task : Record)
+    → AnsweredExactly begin segment v v task (Some unserved_answer)
 unserved_exactly begin segment v task =
     wanting_exactly begin segment task v v Kept (moves_none begin v v refl) v.turn.known.log [] (same_turn v) tt []
     (looks_pass begin v v [] (same_turn v) (sym (append-nil v.numbers.spent))) (λ _. refl) (λ same all. all) (λ _. refl)

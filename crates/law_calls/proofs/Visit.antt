@@ -1,5 +1,6 @@
 -- What is known of the two books of a worker that took the turn once.
-use Rattle.std.proofs.Common.{◌≡◌, ℕ, ◌-◌, ◌<◌, ◌≤◌, Bool, false, nat_lt, List, ◌++◌, length, take, Some, sym, ◌∙◌, ap, subst, arith, inl, inr, length-append}
+use Rattle.std.proofs.Common.{◌≡◌, ℕ, ◌-◌, ◌<◌, ◌≤◌, Bool, false, nat_lt, List, ◌++◌, length, take, Some, sym, ◌∙◌, ap}
+use Rattle.std.proofs.Common.{subst, arith, inl, inr, length-append}
 use Rattle.std.proofs.lemmas.Bool.{cases_lt}
 use Rattle.std.proofs.lemmas.Bool.Decides.{nat_tests}
 use Rattle.std.proofs.lemmas.List.{take-append-le}
@@ -56,7 +57,8 @@ module _ (told : Bool) (begin : Begin) (found given : BookView) (v w : Turn)
   -- no more puts failed than pieces were put
   pub sparing_seen : IsSparing v.known w.known
   sparing_seen = subst (λ (t : Turn). IsSparing v.known t.known) (sym turn_is)
-      (sparing_again v.known (known_of_book found) (known_of_book given) visits.takes.follows.earlier visits.takes.earlier
+      (sparing_again v.known (known_of_book found) (known_of_book given) visits.takes.follows.earlier
+      visits.takes.earlier
       visits.takes.opening visits.takes.follows.sparing visits.takes.sparing)
 
   -- what is known afterwards
@@ -91,10 +93,12 @@ module _ (told : Bool) (begin : Begin) (found given : BookView) (v w : Turn)
   pub entries_low : length (entries_of v.known.log) ≤ length (entries_of found.log)
   entries_low =
       let r = visits.takes.follows.earlier.log in
-      let s : length (entries_of found.log) ≡ length (entries_of (v.known.log ++ r.0)) = ap (λ (l : List Logged). length (entries_of l)) r.1 in
+      let s : length (entries_of found.log) ≡ length (entries_of (v.known.log ++ r.0)) =
+      ap (λ (l : List Logged). length (entries_of l)) r.1 in
       let t = entries_first v.known.log r.0 in omega arith where
         entries_first : (a b : List Logged) → length (entries_of a) ≤ length (entries_of (a ++ b))
-        entries_first a b = let h : length (entries_of (a ++ b)) ≡ length (entries_of a ++ entries_of b) = ap length (both a b) in
+        entries_first a b = let h : length (entries_of (a ++ b)) ≡ length (entries_of a ++ entries_of b) =
+            ap length (both a b) in
             let k = length-append (entries_of a) (entries_of b) in omega arith
 
   pub epoch_low : epoch_seen v ≤ found.changes
@@ -131,11 +135,13 @@ module _ (told : Bool) (begin : Begin) (found given : BookView) (v w : Turn)
   -- the entries that stood, as they were found
   pub standing_found : take found.standing (entries_of w.known.log) ≡ take found.standing (entries_of found.log)
   standing_found = ap (take found.standing) known_rest
-      ∙ take-append-le found.standing (entries_of found.log) (entries_of visits.takes.earlier.log.0) visits.found_kept.stands
+      ∙ take-append-le found.standing (entries_of found.log) (entries_of visits.takes.earlier.log.0)
+      visits.found_kept.stands
 
   pub found_within : found.standing ≤ length (entries_of w.known.log)
   found_within =
-      let s : length (entries_of w.known.log) ≡ length (entries_of found.log ++ entries_of visits.takes.earlier.log.0) = ap length known_rest in
+      let s : length (entries_of w.known.log) ≡ length (entries_of found.log ++ entries_of visits.takes.earlier.log.0) =
+      ap length known_rest in
       let t = length-append (entries_of found.log) (entries_of visits.takes.earlier.log.0) in
       let l = visits.found_kept.stands in omega arith
 
@@ -160,11 +166,13 @@ module _ (told : Bool) (begin : Begin) (found given : BookView) (v w : Turn)
     pub turned : Turned found.log es v w
     turned =
         let size : length given.log - length found.log ≡ length es =
-        (let s : length given.log ≡ length (found.log ++ lines_of es) = ap length added in let t = length-append found.log (lines_of es) in
+        (let s : length given.log ≡ length (found.log ++ lines_of es) = ap length added in
+        let t = length-append found.log (lines_of es) in
         let u = lines_length es in omega arith) in
         record {
           earlier = subst (λ (t : Turn). Earlier v.known t.known) (sym turn_is)
-              (earlier_again v.known (known_of_book found) (known_of_book given) visits.takes.follows.earlier visits.takes.earlier visits.takes.opening);
+              (earlier_again v.known (known_of_book found) (known_of_book given) visits.takes.follows.earlier
+              visits.takes.earlier visits.takes.opening);
           sparing = sparing_seen;
           opening = ap (λ (t : Turn). t.known.opening) turn_is ∙ opening_is;
           epochs = (let a = epoch_low in let b = epoch_high in let c = visits.takes.earlier.changes in omega arith);

@@ -1,5 +1,6 @@
 -- Where the rule of the counters holds, the world is kept.
-use Rattle.std.proofs.Common.{◌≡◌, ℕ, ◌+◌, ◌<◌, ◌≤◌, le_trans, true, false, map, refl, sym, ap, ◌∙◌, subst, arith, Some, None, Option, slice_get}
+use Rattle.std.proofs.Common.{◌≡◌, ℕ, ◌+◌, ◌<◌, ◌≤◌, le_trans, true, false, map, refl, sym, ap, ◌∙◌, subst, arith, Some}
+use Rattle.std.proofs.Common.{None, Option, slice_get}
 use Rattle.counter_table.specs.declared.view.Known.{Known}
 use Rattle.counter_table.specs.declared.view.Numbers.{Numbers}
 use Rattle.counter_table.specs.declared.view.View.{View}
@@ -24,7 +25,8 @@ module _ {B : Type 0} (told : B → Known) (count : ℕ) (s : Scene) (ruled : Is
   sane : (id : ℕ) (v : View) → slice_get s.views id ≡ Some v → IsSane v.numbers
   sane id v at = ruled.rule.numbers.sane id v.numbers (at_map (λ (u : View). u.numbers) s.views id v at)
 
-  spent_drawn : (row x id : ℕ) (v : View) → slice_get s.views id ≡ Some v → times row x v.numbers.spent ≤ times row x v.numbers.drawn
+  spent_drawn : (row x id : ℕ) (v : View) → slice_get s.views id ≡ Some v
+      → times row x v.numbers.spent ≤ times row x v.numbers.drawn
   spent_drawn row x id v at = let h = (sane id v at).drawn row x in omega arith
 
   doer_kept : (n id : ℕ) (v : View) → slice_get s.views id ≡ Some v → DoerKept (doer n v.numbers)
@@ -42,7 +44,8 @@ module _ {B : Type 0} (told : B → Known) (count : ℕ) (s : Scene) (ruled : Is
 
     drawn_once : (x : ℕ) → total (λ (v : View). times row x v.numbers.drawn) s.views ≤ once_below x (next_of s row)
     drawn_once x =
-        let h = fits.once x in let e = total-map (λ (n : Numbers). times row x n.drawn) (λ (v : View). v.numbers) s.views in omega arith
+        let h = fits.once x in
+        let e = total-map (λ (n : Numbers). times row x n.drawn) (λ (v : View). v.numbers) s.views in omega arith
 
     below_mark : limit_of s row ≤ known_mark s.book row
     below_mark = le_trans (ruled.rule.turn.limits row below) (ruled.marks row)
@@ -59,7 +62,8 @@ module _ {B : Type 0} (told : B → Known) (count : ℕ) (s : Scene) (ruled : Is
       funded = λ i a at x some.
           let there = doer_there 0 i s.views a at in
           let h = (seat i there.0 there.1).spent x in
-          let e : times row x a.funded ≡ times row x there.0.numbers.spent = ap (λ (d : Doer). times row x d.funded) there.2 in
+          let e : times row x a.funded ≡ times row x there.0.numbers.spent =
+          ap (λ (d : Doer). times row x d.funded) there.2 in
           below_where x (limit_of s row) (omega arith);
       lifted = below_mark;
       stored = omega arith;
@@ -72,7 +76,8 @@ ruled_kept told count s ruled = record {
       let z : 0 + row ≡ row = omega arith in
       let below = place_below s.ids row there.0 there.1 in
       let rows = ruled.rows in
-      let is : key_at s.words s.book row there.0 ≡ k = sym (there.2 ∙ ap (λ (m : ℕ). key_at s.words s.book m there.0) z) in
+      let is : key_at s.words s.book row there.0 ≡ k =
+      sym (there.2 ∙ ap (λ (m : ℕ). key_at s.words s.book m there.0) z) in
       subst (λ (key : Key). KeyKept row key (world_of s)) is (row_kept told count s ruled row (omega arith) there.0);
   actors = λ i a at.
       let there = doer_there 0 i s.views a at in

@@ -12,7 +12,8 @@ after_all-append w [] ys = refl
 after_all-append w (x ∷ xs) ys = after_all-append (after w x) xs ys
 
 module _ {B : Type 0} (told : B → Known) where
-  event_ties : (count : ℕ) (s : Scene) → IsRuled told count s → (e : Event) → MayHappen e s → world_of (scene_after e s) ≡ after_all (world_of s) (core_steps e s)
+  event_ties : (count : ℕ) (s : Scene) → IsRuled told count s → (e : Event) → MayHappen e s
+      → world_of (scene_after e s) ≡ after_all (world_of s) (core_steps e s)
   event_ties count s ruled (steps id v move) may = moves_tie told count s ruled id v may.0 move may.1
   event_ties count s ruled (stores id v row key mark later) may =
       stores_tie told count s ruled id v may.0 may.1 row key mark later may.2 may.3 may.4

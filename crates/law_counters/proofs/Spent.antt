@@ -1,5 +1,6 @@
 -- The used pairs stay those that the workers spent, and a share given or taken back moves none.
-use Rattle.std.proofs.Common.{◌≡◌, ◌≢◌, ℕ, zero, suc, ◌+◌, nat_lt, true, false, Bool, List, [], ◌∷◌, ◌++◌, set, length, length-set, sym, refl, ap, ◌∙◌, arith, Some, slice_get, if◌then◌else◌}
+use Rattle.std.proofs.Common.{◌≡◌, ◌≢◌, ℕ, zero, suc, ◌+◌, nat_lt, true, false, Bool, List, [], ◌∷◌, ◌++◌, set, length}
+use Rattle.std.proofs.Common.{length-set, sym, refl, ap, ◌∙◌, arith, Some, slice_get, if◌then◌else◌}
 use Rattle.counter_table.specs.declared.view.View.{View}
 use Rattle.counter_table.specs.Numbers as numbers
 use Rattle.counter_table.specs.Turn as turning
@@ -14,7 +15,8 @@ use Rattle.law_counters.proofs.Lists.{doers_set, doers_same, doers-snoc}
 use Rattle.law_counters.proofs.Holders.{holder_same, holder-snoc}
 
 -- a step that spends nothing
-still : (views : List View) (used : List (ℕ × ℕ)) (id : ℕ) (v w : View) → slice_get views id ≡ Some v → w.numbers.spent ≡ v.numbers.spent
+still : (views : List View) (used : List (ℕ × ℕ)) (id : ℕ) (v w : View) → slice_get views id ≡ Some v
+    → w.numbers.spent ≡ v.numbers.spent
     → AreSpent views used → AreSpent (set views id w) used
 still views used id v w at same spent row x =
     let t = total_set (λ (u : View). times row x u.numbers.spent) views id v w at in
@@ -36,7 +38,10 @@ spent_stays s spent id v at (arms row key end) = still s.views s.used id v _ at 
 spent_stays s spent id v at (draws row key) = still s.views s.used id v _ at refl spent
 spent_stays s spent id v at (peeks row key x) = by_limit (nat_lt x (limit_of s row)) where
   looked : Bool → View
-  looked b = record v { numbers = if b then numbers.spending row x (limit_of s row) v.numbers else numbers.returning row (limit_of s row) v.numbers }
+  looked b = record v {
+    numbers = if b then numbers.spending row x (limit_of s row) v.numbers
+        else numbers.returning row (limit_of s row) v.numbers;
+  }
 
   by_limit : (b : Bool) → AreSpent (set s.views id (looked b)) (if b then s.used ++ (row, x) ∷ [] else s.used)
   by_limit true = one_more s.views s.used id v (looked true) (row, x) at refl spent
@@ -55,7 +60,8 @@ split_ties s id v at =
     let left : List View = set s.views id keeps in
     let place : 0 + length left ≡ length s.views = (let h = length-set s.views id keeps in omega arith) in
     let a : doers 0 (left ++ new ∷ []) ≡ doers 0 s.views ++ idle (length s.views) ∷ [] =
-    doers-snoc 0 left new ∙ ap (λ (ds : List Doer). ds ++ doer (0 + length left) new.numbers ∷ []) (doers_same 0 id s.views v keeps at refl)
+    doers-snoc 0 left new ∙ ap (λ (ds : List Doer). ds ++ doer (0 + length left) new.numbers ∷ [])
+    (doers_same 0 id s.views v keeps at refl)
     ∙ ap (λ (k : ℕ). doers 0 s.views ++ doer k new.numbers ∷ []) place in
     let h = holder-snoc 0 left new refl ∙ holder_same 0 id s.views v keeps at refl in (
       (λ j. record (world_of s) { actors = a j; holder = h j }),
@@ -64,7 +70,8 @@ split_ties s id v at =
           let m = total-snoc (λ (u : View). times row x u.numbers.spent) left new in omega arith),
     )
 
-get_apart : {A : Type 0} (xs : List A) (i j : ℕ) (w u : A) → j ≢ i → slice_get xs j ≡ Some u → slice_get (set xs i w) j ≡ Some u
+get_apart : {A : Type 0} (xs : List A) (i j : ℕ) (w u : A) → j ≢ i → slice_get xs j ≡ Some u
+    → slice_get (set xs i w) j ≡ Some u
 get_apart [] i j w u n e = e
 get_apart (x ∷ xs) zero zero w u n e = absurd (n refl)
 get_apart (x ∷ xs) zero (suc j) w u n e = e

@@ -1,5 +1,6 @@
 -- Sums over workers, as the rule of the counters and the core have them.
-use Rattle.std.proofs.Common.{◌≡◌, ◌⊎◌, ⊎_elim, ℕ, zero, suc, ◌+◌, ◌<◌, ◌≤◌, List, [], ◌∷◌, map, refl, ap, arith, Some, None, slice_get}
+use Rattle.std.proofs.Common.{◌≡◌, ◌⊎◌, ⊎_elim, ℕ, zero, suc, ◌+◌, ◌<◌, ◌≤◌, List, [], ◌∷◌, map, refl, ap, arith, Some}
+use Rattle.std.proofs.Common.{None, slice_get}
 use Rattle.std.proofs.lemmas.Bool.Decides.{nat_tests}
 use mathlib.Core.Option.{some}
 use lib.ListN.{get_elem?}
@@ -14,28 +15,33 @@ total-map f g [] = refl
 total-map f g (x ∷ xs) = ap (λ (k : ℕ). f (g x) + k) (total-map f g xs)
 
 -- the place of a list, as the rule of the counters says it, of a part of each worker
-pub at_map : {A C : Type 0} (g : A → C) (xs : List A) (i : ℕ) (x : A) → slice_get xs i ≡ Some x → get_elem? (map g xs) i ≡ some (g x)
+pub at_map : {A C : Type 0} (g : A → C) (xs : List A) (i : ℕ) (x : A) → slice_get xs i ≡ Some x
+    → get_elem? (map g xs) i ≡ some (g x)
 at_map g [] i x e = absurd (let none : None ≡ Some x = e in cc)
 at_map g (y ∷ ys) zero x e = ap (λ z. some (g z)) (some_same e)
 at_map g (y ∷ ys) (suc i) x e = at_map g ys i x e
 
 module _ (f g : View → ℕ) where
-  pub total_less : (vs : List View) → ((id : ℕ) (v : View) → slice_get vs id ≡ Some v → f v ≤ g v) → total f vs ≤ total g vs
+  pub total_less : (vs : List View) → ((id : ℕ) (v : View) → slice_get vs id ≡ Some v → f v ≤ g v)
+      → total f vs ≤ total g vs
   total_less [] each = omega arith
   total_less (v ∷ vs) each = let h = total_less vs (λ id. each (suc id)) in let here = each 0 v refl in omega arith
 
-  pub total_same : (vs : List View) → ((id : ℕ) (v : View) → slice_get vs id ≡ Some v → f v ≡ g v) → total f vs ≡ total g vs
+  pub total_same : (vs : List View) → ((id : ℕ) (v : View) → slice_get vs id ≡ Some v → f v ≡ g v)
+      → total f vs ≡ total g vs
   total_same [] each = refl
   total_same (v ∷ vs) each = let h = total_same vs (λ id. each (suc id)) in let here = each 0 v refl in omega arith
 
-pub total_none : (f : View → ℕ) (vs : List View) → ((id : ℕ) (v : View) → slice_get vs id ≡ Some v → f v ≤ 0) → total f vs ≤ 0
+pub total_none : (f : View → ℕ) (vs : List View) → ((id : ℕ) (v : View) → slice_get vs id ≡ Some v → f v ≤ 0)
+    → total f vs ≤ 0
 total_none f [] each = omega arith
 total_none f (v ∷ vs) each = let h = total_none f vs (λ id. each (suc id)) in let here = each 0 v refl in omega arith
 
 -- what was spent, and what was drawn and not spent, is what was drawn
 pub unused_sum : (row x n : ℕ) (vs : List View)
     → ((id : ℕ) (v : View) → slice_get vs id ≡ Some v → times row x v.numbers.spent ≤ times row x v.numbers.drawn)
-    → total (λ v. times row x v.numbers.spent) vs + total (unused row x) (doers n vs) ≡ total (λ v. times row x v.numbers.drawn) vs
+    → total (λ v. times row x v.numbers.spent) vs + total (unused row x) (doers n vs)
+    ≡ total (λ v. times row x v.numbers.drawn) vs
 unused_sum row x n [] each = refl
 unused_sum row x n (v ∷ vs) each =
     let h = unused_sum row x (suc n) vs (λ id. each (suc id)) in
@@ -63,10 +69,12 @@ pub spent_below : (row x next limit mark : ℕ) (vs : List View)
 spent_below row x next limit mark vs each once low = ⊎_elim below above (below_or_not x limit) where
   below : x < limit → total (λ (v : View). times row x v.numbers.spent) vs ≤ once_below x mark
   below h =
-      let a = total_less (λ v. times row x v.numbers.spent) (λ v. times row x v.numbers.drawn) vs (λ id v at. (each id v at).0) in
+      let a = total_less (λ v. times row x v.numbers.spent) (λ v. times row x v.numbers.drawn) vs
+      (λ id v at. (each id v at).0) in
       let b = once_below_one x next in let c = once_there x mark (omega arith) in omega arith
 
   above : limit ≤ x → total (λ (v : View). times row x v.numbers.spent) vs ≤ once_below x mark
   above h =
       let z = none_there x limit h in
-      let a = total_none (λ v. times row x v.numbers.spent) vs (λ id v at. let e = (each id v at).1 in omega arith) in omega arith
+      let a = total_none (λ v. times row x v.numbers.spent) vs (λ id v at. let e = (each id v at).1 in omega arith) in
+      omega arith

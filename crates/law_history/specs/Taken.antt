@@ -7,7 +7,8 @@ use Rattle.unit_state.specs.declared.state.State.{State}
 use Rattle.unit_state.specs.State.{key_row}
 use Rattle.run_promise.specs.Numbers.{floor_of}
 
--- No opening accepts the number under the key any more: it is no higher than the key's floor, and past in the window of an
+-- No opening accepts the number under the key any more: it is no higher than the key's floor, and past in the window of
+-- an
 -- association that receives with the key.
 pub record IsTaken (state : State) (key number : ℕ) : Type 0 where
   pub floor : number ≤ floor_of state key

@@ -9,7 +9,8 @@ use Rattle.sdls_base.specs.declared.key_item.KeyItem.{KeyItem}
 use Rattle.sdls_base.specs.declared.states.KeyState.{KeyState}
 use Rattle.sdls_base.specs.declared.states.KeyState.TheVariants.{PreActive, Active, Deactivated, Destroyed}
 use Rattle.sdls_base.specs.declared.change.Change.{Change}
-use Rattle.sdls_base.specs.declared.change.Change.TheVariants.{Marks, Load, KeyStates, Create, Rekey, SaTo, SetNumber, SetWindow, Accepted, Nothing}
+use Rattle.sdls_base.specs.declared.change.Change.TheVariants.{Marks, Load, KeyStates, Create, Rekey, SaTo, SetNumber}
+use Rattle.sdls_base.specs.declared.change.Change.TheVariants.{SetWindow, Accepted, Nothing}
 use Rattle.sdls_base.specs.declared.change.NewSa.{NewSa}
 use Rattle.key_book.specs.declared.key_row.KeyRow.{KeyRow}
 use Rattle.sa_book.specs.declared.sa_row.SaRow.{SaRow}
@@ -19,10 +20,13 @@ use Rattle.sa_book.specs.SaBook.{in_use}
 use Rattle.sa_book.specs.SaRefusal.{create_refusal, rekey_refusal, set_number_refusal, set_window_refusal}
 use Rattle.unit_state.specs.State.{key_row, association_row}
 use Rattle.unit_state.specs.declared.state.State.{State}
-use Rattle.unit_state.specs.Allows.{Allows, AllowsMarks, AllowsLoad, AllowsStates, AllowsCreate, AllowsRekey, AllowsNumber, AllowsWindow, IsActiveMaster, IsSessionKey}
+use Rattle.unit_state.specs.Allows.{Allows, AllowsMarks, AllowsLoad, AllowsStates, AllowsCreate, AllowsRekey}
+use Rattle.unit_state.specs.Allows.{AllowsNumber, AllowsWindow, IsActiveMaster, IsSessionKey}
 use Rattle.unit_state.specs.Taking.{least_with}
 use Rattle.book_record.specs.Record.{HasRecord, HasTypes, IsKey, IsSpi}
-use Rattle.law_image.proofs.Deciding.{Decided, decided_and, decided_three, decided_four, decided_as, decided_not, decided_lt, decided_le, decided_none, decided_some, decided_some_and, decided_all, decided_any, decided_channels, decided_field, decided_key_length}
+use Rattle.law_image.proofs.Deciding.{Decided, decided_and, decided_three, decided_four, decided_as, decided_not}
+use Rattle.law_image.proofs.Deciding.{decided_lt, decided_le, decided_none, decided_some, decided_some_and, decided_all}
+use Rattle.law_image.proofs.Deciding.{decided_any, decided_channels, decided_field, decided_key_length}
 
 master : (class : KeyClass) → Decided (class ≡ Master)
 master Master = inl refl
@@ -36,10 +40,12 @@ pre_active Deactivated = inr (λ is. cc)
 pre_active Destroyed = inr (λ is. cc)
 
 key_count : (n : ℕ) → Decided (IsKeyCount n)
-key_count n = decided_as (decided_and (decided_le 1 n) (decided_le n MOST_KEYS_AT_ONCE)) (λ both. record { least = both.0; most = both.1 }) (λ is. (is.least, is.most))
+key_count n = decided_as (decided_and (decided_le 1 n) (decided_le n MOST_KEYS_AT_ONCE))
+    (λ both. record { least = both.0; most = both.1 }) (λ is. (is.least, is.most))
 
 session_key : (item : KeyItem) → Decided (IsSessionKey item)
-session_key item = decided_as (decided_and (decided_not (master (class_of item.id))) (decided_key_length (length item.bytes)))
+session_key item =
+    decided_as (decided_and (decided_not (master (class_of item.id))) (decided_key_length (length item.bytes)))
     (λ both. record { class = both.0; length = both.1 }) (λ is. (is.class, is.length))
 
 active : (state : KeyState) → Decided (state ≡ Active)
@@ -55,19 +61,23 @@ active_master row = decided_as (decided_and (master (class_of row.id)) (active r
 module _ (state : State) where
   marks : (key mark floor : ℕ) → Decided (AllowsMarks state key mark floor)
   marks key mark floor = decided_as
-      (decided_four (decided_some (key_row state key)) (decided_le 1 mark) (decided_le mark (end_of key)) (decided_lt floor (end_of key)))
+      (decided_four (decided_some (key_row state key)) (decided_le 1 mark) (decided_le mark (end_of key))
+      (decided_lt floor (end_of key)))
       (λ all. record { there = all.0; from_one = all.1; to_end = all.2; below_end = all.3 })
       (λ is. (is.there, is.from_one, is.to_end, is.below_end))
 
   load : (items : List KeyItem) → Decided (AllowsLoad state items)
   load items = decided_as
-      (decided_four (decided_any IsActiveMaster active_master state.keys) (key_count (length items)) (decided_all IsSessionKey session_key items)
+      (decided_four (decided_any IsActiveMaster active_master state.keys) (key_count (length items))
+      (decided_all IsSessionKey session_key items)
       (decided_none (load_refusal state.keys items)))
-      (λ all. record { master = all.0; count = all.1; each = all.2; book = all.3 }) (λ is. (is.master, is.count, is.each, is.book))
+      (λ all. record { master = all.0; count = all.1; each = all.2; book = all.3 })
+      (λ is. (is.master, is.count, is.each, is.book))
 
   states : (ids : List ℕ) (to : KeyState) → Decided (AllowsStates state ids to)
   states ids to = decided_as
-      (decided_and (key_count (length ids)) (decided_none (moves_refusal state.keys ids to (in_use state.associations))))
+      (decided_and (key_count (length ids))
+      (decided_none (moves_refusal state.keys ids to (in_use state.associations))))
       (λ all. record { count = all.0; book = all.1 }) (λ is. (is.count, is.book))
 
   create : (new : NewSa) → Decided (AllowsCreate state new)
@@ -86,13 +96,15 @@ module _ (state : State) where
   rekey : (spi key number : ℕ) → Decided (AllowsRekey state spi key number)
   rekey spi key number = decided_some_and _
       (λ (row : SaRow). decided_some_and _ (λ (held : KeyRow).
-      decided_none (rekey_refusal state.associations spi key held.state number (least_with 1 row.direction held))) (key_row state key))
+      decided_none (rekey_refusal state.associations spi key held.state number (least_with 1 row.direction held)))
+      (key_row state key))
       (association_row state spi)
 
   number_is : (spi number : ℕ) → Decided (AllowsNumber state spi number)
   number_is spi number = decided_some_and _
       (λ (row : SaRow). decided_some_and _ (λ (key : ℕ). decided_some_and _ (λ (held : KeyRow).
-      decided_none (set_number_refusal state.associations spi number (least_with 1 row.direction held))) (key_row state key)) row.key)
+      decided_none (set_number_refusal state.associations spi number (least_with 1 row.direction held)))
+      (key_row state key)) row.key)
       (association_row state spi)
 
   -- whether it allows a change that is stored

@@ -41,7 +41,8 @@ module _ (text : List ℕ) (plan : PlanLines) (first : State) (said : SaysPlan t
   pub begins_at_rest : BeginsAtRest New (bare_of text) plan.slots (content_of Two first)
   begins_at_rest =
       let slots = (plan_rules text plan said.read).slots in
-      begins New (bare_of text) (content_of Two first) plan.slots (inr refl) (bare_plan_is_short text plan said.read) slots.0 slots.1
+      begins New (bare_of text) (content_of Two first) plan.slots (inr refl) (bare_plan_is_short text plan said.read)
+      slots.0 slots.1
       (content_sized Two first first_rows)
 
   pub beginning_shows : Shows (image_of_plan text plan first) (restarted first)

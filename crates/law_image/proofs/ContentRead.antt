@@ -1,5 +1,7 @@
 -- The one state that octets can be the content of, read off their places: for `refused_exactly`.
-use Rattle.std.proofs.Common.{◌≡◌, ℕ, zero, suc, ◌-◌, ◌^◌, ◌<◌, ◌≤◌, List, [], ◌∷◌, ◌++◌, length, take, drop, replicate, map, Option, Some, None, IfSome, IsSomeAnd, refl, sym, ◌∙◌, ap, subst, arith, append_assoc}
+use Rattle.std.proofs.Common.{◌≡◌, ℕ, zero, suc, ◌-◌, ◌^◌, ◌<◌, ◌≤◌, List, [], ◌∷◌, ◌++◌, length, take, drop, replicate}
+use Rattle.std.proofs.Common.{map, Option, Some, None, IfSome, IsSomeAnd, refl, sym, ◌∙◌, ap, subst, arith}
+use Rattle.std.proofs.Common.{append_assoc}
 use Rattle.std.specs.List.{AllByRecursion}
 use Rattle.std.specs.Option.{option_map_or}
 use Rattle.std.proofs.Math.Seq.{drop-append_seam, take-append_seam}
@@ -28,7 +30,8 @@ use Rattle.book_record.specs.Padded.{padded}
 use Rattle.book_record.specs.RowReading.{key_parts_at, sa_parts_at}
 use Rattle.book_record.specs.SaParts.{sa_row_octets}
 use Rattle.book_record.proofs.Rows.{key_row_length, key_row_says, padded_length, sa_row_length, sa_row_says}
-use Rattle.image_content.specs.Content.{associations_at, content_of, counts_of, key_parts, key_room_of, key_rows, sa_parts, sa_room_of, sa_rows}
+use Rattle.image_content.specs.Content.{associations_at, content_of, counts_of, key_parts, key_room_of, key_rows}
+use Rattle.image_content.specs.Content.{sa_parts, sa_room_of, sa_rows}
 use Rattle.image_content.specs.Reading.{FitsVersion, IsContent, key_count, sa_count}
 use Rattle.law_image.proofs.Contents.{IsKeyOf, IsSaOf, head_sized, keys_sized}
 
@@ -85,16 +88,21 @@ front_of octets rest n size = subst (λ (m : ℕ). take m (octets ++ rest) ≡ o
 back_of : (octets rest : List ℕ) (n : ℕ) → length octets ≡ n → drop n (octets ++ rest) ≡ rest
 back_of octets rest n size = subst (λ (m : ℕ). drop m (octets ++ rest) ≡ rest) size (drop-append_seam octets rest)
 
-keys_back : (rows : List KeyRow) (rest : List ℕ) → AllByRecursion IsKeyOf rows → keys_at (length rows) (key_rows rows ++ rest) ≡ rows
+keys_back : (rows : List KeyRow) (rest : List ℕ) → AllByRecursion IsKeyOf rows
+    → keys_at (length rows) (key_rows rows ++ rest) ≡ rows
 keys_back [] rest all = refl
 keys_back (row ∷ rows) rest all =
     let octets = key_row_octets (key_parts row) in
     let size : length octets ≡ 96 = key_row_length (key_parts row) octets all.0 in
-    let split : (octets ++ key_rows rows) ++ rest ≡ octets ++ (key_rows rows ++ rest) = append_assoc octets (key_rows rows) rest in
-    let front : take 96 ((octets ++ key_rows rows) ++ rest) ≡ octets = ap (take 96) split ∙ front_of octets (key_rows rows ++ rest) 96 size in
-    let back : drop 96 ((octets ++ key_rows rows) ++ rest) ≡ key_rows rows ++ rest = ap (drop 96) split ∙ back_of octets (key_rows rows ++ rest) 96 size in
+    let split : (octets ++ key_rows rows) ++ rest ≡ octets ++ (key_rows rows ++ rest) =
+    append_assoc octets (key_rows rows) rest in
+    let front : take 96 ((octets ++ key_rows rows) ++ rest) ≡ octets =
+    ap (take 96) split ∙ front_of octets (key_rows rows ++ rest) 96 size in
+    let back : drop 96 ((octets ++ key_rows rows) ++ rest) ≡ key_rows rows ++ rest =
+    ap (drop 96) split ∙ back_of octets (key_rows rows ++ rest) 96 size in
     let first : key_of (key_parts_at (take 96 ((octets ++ key_rows rows) ++ rest))) ≡ row =
-    ap (λ (s : List ℕ). key_of (key_parts_at s)) front ∙ ap (λ (parts : KeyParts). key_of parts) (key_row_says (key_parts row) octets all.0).value in
+    ap (λ (s : List ℕ). key_of (key_parts_at s)) front ∙ ap (λ (parts : KeyParts). key_of parts)
+    (key_row_says (key_parts row) octets all.0).value in
     let others : keys_at (length rows) (drop 96 ((octets ++ key_rows rows) ++ rest)) ≡ rows =
     ap (λ (s : List ℕ). keys_at (length rows) s) back ∙ keys_back rows rest all.1 in
     λ i. first i ∷ others i
@@ -110,13 +118,17 @@ sas_back keys [] rest all = refl
 sas_back keys (row ∷ rows) rest all =
     let octets = sa_row_octets (sa_parts row) in
     let size : length octets ≡ 32 = sa_row_length (sa_parts row) octets all.0.is in
-    let split : (octets ++ sa_rows rows) ++ rest ≡ octets ++ (sa_rows rows ++ rest) = append_assoc octets (sa_rows rows) rest in
-    let front : take 32 ((octets ++ sa_rows rows) ++ rest) ≡ octets = ap (take 32) split ∙ front_of octets (sa_rows rows ++ rest) 32 size in
-    let back : drop 32 ((octets ++ sa_rows rows) ++ rest) ≡ sa_rows rows ++ rest = ap (drop 32) split ∙ back_of octets (sa_rows rows ++ rest) 32 size in
+    let split : (octets ++ sa_rows rows) ++ rest ≡ octets ++ (sa_rows rows ++ rest) =
+    append_assoc octets (sa_rows rows) rest in
+    let front : take 32 ((octets ++ sa_rows rows) ++ rest) ≡ octets =
+    ap (take 32) split ∙ front_of octets (sa_rows rows ++ rest) 32 size in
+    let back : drop 32 ((octets ++ sa_rows rows) ++ rest) ≡ sa_rows rows ++ rest =
+    ap (drop 32) split ∙ back_of octets (sa_rows rows ++ rest) 32 size in
     let low : sa_of keys (sa_parts row) ≡ row =
     ap (λ (window : Window). record row { window = window }) (sym all.0.window) in
     let first : sa_of keys (sa_parts_at (take 32 ((octets ++ sa_rows rows) ++ rest))) ≡ row =
-    ap (λ (s : List ℕ). sa_of keys (sa_parts_at s)) front ∙ ap (λ (parts : SaParts). sa_of keys parts) (sa_row_says (sa_parts row) octets all.0.is).value ∙ low in
+    ap (λ (s : List ℕ). sa_of keys (sa_parts_at s)) front ∙ ap (λ (parts : SaParts). sa_of keys parts)
+    (sa_row_says (sa_parts row) octets all.0.is).value ∙ low in
     let others : sas_at keys (length rows) (drop 32 ((octets ++ sa_rows rows) ++ rest)) ≡ rows =
     ap (λ (s : List ℕ). sas_at keys (length rows) s) back ∙ sas_back keys rows rest all.1 in
     λ i. first i ∷ others i
@@ -141,7 +153,8 @@ sas_said : (version : Version) (keys associations : ℕ) (rest : List ℕ) → a
 sas_said One keys associations rest few = refl
 sas_said Two keys associations rest few = from_be_bytes-to_be_bytes_2 associations (omega (arith, few))
 
-places : (version : Version) (state : State) → FitsVersion version state → length (key_rows state.keys) ≤ key_room_of version
+places : (version : Version) (state : State) → FitsVersion version state
+    → length (key_rows state.keys) ≤ key_room_of version
     → Places version state (content_of version state)
 unfolding content_of
 places version state fits short =
@@ -156,17 +169,21 @@ places version state fits short =
     let key_gap = replicate (key_room_of version - length keys) none in
     let behind = replicate (503 - length counts) none ++ (room ++ sa_room) in
     let whole : content ≡ head ++ (room ++ sa_room) = append_assoc head room sa_room in
-    let counted : content ≡ counts ++ behind = whole ∙ append_assoc counts (replicate (503 - length counts) none) (room ++ sa_room) in
+    let counted : content ≡ counts ++ behind =
+    whole ∙ append_assoc counts (replicate (503 - length counts) none) (room ++ sa_room) in
     let from_keys : drop 503 content ≡ room ++ sa_room =
-    ap (λ (s : List ℕ). drop 503 s) whole ∙ back_of head (room ++ sa_room) 503 (head_sized version (length state.keys) (length state.associations)) in
+    ap (λ (s : List ℕ). drop 503 s) whole ∙ back_of head (room ++ sa_room) 503
+    (head_sized version (length state.keys) (length state.associations)) in
     let from_sas : drop (associations_at version) content ≡ sa_room =
     sym (drop-drop (key_room_of version) 503 content) ∙ ap (λ (s : List ℕ). drop (key_room_of version) s) from_keys
     ∙ back_of room sa_room (key_room_of version) (padded_length (key_room_of version) keys short) in
     record {
       key_rest = key_gap ++ sa_room;
       sa_rest = replicate (sa_room_of version - length sas) none;
-      keys_counted = ap key_count counted ∙ keys_said version (length state.keys) (length state.associations) behind fits.keys;
-      sas_counted = ap (sa_count version) counted ∙ sas_said version (length state.keys) (length state.associations) behind fits.associations;
+      keys_counted = ap key_count counted ∙ keys_said version (length state.keys) (length state.associations) behind
+          fits.keys;
+      sas_counted = ap (sa_count version) counted ∙ sas_said version (length state.keys) (length state.associations)
+          behind fits.associations;
       keys = from_keys ∙ append_assoc keys key_gap sa_room;
       associations = from_sas;
     }
@@ -174,14 +191,16 @@ places version state fits short =
 -- ---- the windows
 
 -- a key that is held has a row
-has_row : (keys : List KeyRow) (key : ℕ) (row : SaRow) → IsSomeAnd (row_of keys key) (MayHold row) → (held : KeyRow) × (row_of keys key ≡ Some held)
+has_row : (keys : List KeyRow) (key : ℕ) (row : SaRow) → IsSomeAnd (row_of keys key) (MayHold row)
+    → (held : KeyRow) × (row_of keys key ≡ Some held)
 has_row keys key row holds = go (row_of keys key) holds
   where
     go : (found : Option KeyRow) → IsSomeAnd found (MayHold row) → (held : KeyRow) × (found ≡ Some held)
     go None holds = absurd holds
     go (Some held) holds = (held, refl)
 
-low_high : (keys : List KeyRow) (direction : Direction) (key : Option ℕ) (high : ℕ) → sa_rules.HasHigh direction key high
+low_high : (keys : List KeyRow) (direction : Direction) (key : Option ℕ) (high : ℕ)
+    → sa_rules.HasHigh direction key high
     → IfSome key (λ id. (held : KeyRow) × (row_of keys id ≡ Some held)) → restarted_high keys direction key high ≡ high
     → high ≡ restarted_high keys direction key 0
 low_high keys Receive (Some id) high has (held, there) left =
@@ -190,7 +209,8 @@ low_high keys Receive (Some id) high has (held, there) left =
 low_high keys Receive None high has held left = has
 low_high keys Send key high has held left = has
 
-held_row : (keys : List KeyRow) (row : SaRow) (key : Option ℕ) → IfSome key (λ id. IsSomeAnd (row_of keys id) (MayHold row))
+held_row : (keys : List KeyRow) (row : SaRow) (key : Option ℕ)
+    → IfSome key (λ id. IsSomeAnd (row_of keys id) (MayHold row))
     → IfSome key (λ id. (held : KeyRow) × (row_of keys id ≡ Some held))
 held_row keys row None holds = tt
 held_row keys row (Some id) holds = has_row keys id row holds
@@ -199,12 +219,14 @@ low_window : (keys : List KeyRow) (row : SaRow) → sa_rules.IsSaRow row → Has
     → row.window ≡ new_window (restarted_high keys row.direction row.key 0) (field_of row.window)
 low_window keys row rules holds left =
     let small : row.window.width < 2 ^ 56 = omega (arith, rules.width.most) in
-    let stays : restarted_high keys row.direction row.key row.window.high ≡ row.window.high = ap (λ (r : SaRow). r.window.high) left in
+    let stays : restarted_high keys row.direction row.key row.window.high ≡ row.window.high =
+    ap (λ (r : SaRow). r.window.high) left in
     let low = low_high keys row.direction row.key row.window.high rules.high (held_row keys row row.key holds) stays in
     sym (ap (λ (r : SaRow). r.window) left) ∙ ap (λ (high : ℕ). begun_at high row.window) (stays ∙ low)
     ∙ sym (new_window-field (restarted_high keys row.direction row.key 0) row.window small)
 
-low_rows : (keys : List KeyRow) (rows : List SaRow) → AllByRecursion IsSaOf rows → AllByRecursion sa_rules.IsSaRow rows → AllByRecursion (HasKey keys) rows
+low_rows : (keys : List KeyRow) (rows : List SaRow) → AllByRecursion IsSaOf rows → AllByRecursion sa_rules.IsSaRow rows
+    → AllByRecursion (HasKey keys) rows
     → map (restarted_row keys) rows ≡ rows → AllByRecursion (IsLowRow keys) rows
 low_rows keys [] are rules holds left = tt
 low_rows keys (row ∷ rows) are rules holds left =
@@ -219,7 +241,8 @@ low_rows keys (row ∷ rows) are rules holds left =
 
 -- ---- the state is read back
 
-pub state_back : (version : Version) (channels device content : List ℕ) (state : State) → IsContent version state content
+pub state_back : (version : Version) (channels device content : List ℕ) (state : State)
+    → IsContent version state content
     → state.channels ≡ channels → state.device ≡ device → state_at version channels device content ≡ state
 unfolding state_at
 state_back version channels device content state is same_channels same_device =
@@ -230,17 +253,24 @@ state_back version channels device content state is same_channels same_device =
     let at : Places version state content =
     subst (Places version state) (sym is.spelled) (places version state is.rows.fits (omega (arith, size, few))) in
     let keys : keys_in content ≡ state.keys =
-    ap (λ (n : ℕ). keys_at n (drop 503 content)) at.keys_counted ∙ ap (λ (s : List ℕ). keys_at (length state.keys) s) at.keys
+    ap (λ (n : ℕ). keys_at n (drop 503 content)) at.keys_counted ∙ ap (λ (s : List ℕ). keys_at (length state.keys) s)
+    at.keys
     ∙ keys_back state.keys at.key_rest typed in
     let low = low_rows state.keys state.associations sas
     (recursion_from_All sa_rules.IsSaRow state.associations is.rules.associations.each)
-    (recursion_from_All (HasKey state.keys) state.associations is.rules.held) (ap (λ (s : State). s.associations) is.left) in
+    (recursion_from_All (HasKey state.keys) state.associations is.rules.held)
+    (ap (λ (s : State). s.associations) is.left) in
     let associations : sas_in version (keys_in content) content ≡ state.associations =
     ap (λ (rows : List KeyRow). sas_in version rows content) keys
     ∙ ap (λ (n : ℕ). sas_at state.keys n (drop (associations_at version) content)) at.sas_counted
     ∙ ap (λ (s : List ℕ). sas_at state.keys (length state.associations) s) at.associations
     ∙ sas_back state.keys state.associations at.sa_rest low in
-    λ i. record { keys = keys i; associations = associations i; channels = sym same_channels i; device = sym same_device i }
+    λ i. record {
+      keys = keys i;
+      associations = associations i;
+      channels = sym same_channels i;
+      device = sym same_device i;
+    }
 
 -- ---- a restart leaves the state that is read
 
@@ -248,19 +278,22 @@ high_left : (keys : List KeyRow) (direction : Direction) (key : Option ℕ)
     → restarted_high keys direction key (restarted_high keys direction key 0) ≡ restarted_high keys direction key 0
 high_left keys Receive (Some key) = go (row_of keys key)
   where
-    go : (found : Option KeyRow) → option_map_or (λ (row : KeyRow). row.floor) found (option_map_or (λ (row : KeyRow). row.floor) found 0)
+    go : (found : Option KeyRow) → option_map_or (λ (row : KeyRow). row.floor) found
+        (option_map_or (λ (row : KeyRow). row.floor) found 0)
         ≡ option_map_or (λ (row : KeyRow). row.floor) found 0
     go None = refl
     go (Some row) = refl
 high_left keys Receive None = refl
 high_left keys Send key = refl
 
-sas_left : (keys : List KeyRow) (n : ℕ) (octets : List ℕ) → map (restarted_row keys) (sas_at keys n octets) ≡ sas_at keys n octets
+sas_left : (keys : List KeyRow) (n : ℕ) (octets : List ℕ) → map (restarted_row keys) (sas_at keys n octets)
+    ≡ sas_at keys n octets
 sas_left keys zero octets = refl
 sas_left keys (suc n) octets =
     let parts = sa_parts_at (take 32 octets) in
     let first : restarted_row keys (sa_of keys parts) ≡ sa_of keys parts =
-    ap (λ (high : ℕ). record (sa_of keys parts) { window = new_window high parts.sa.window }) (high_left keys parts.sa.direction parts.key) in
+    ap (λ (high : ℕ). record (sa_of keys parts) { window = new_window high parts.sa.window })
+    (high_left keys parts.sa.direction parts.key) in
     let others = sas_left keys n (drop 32 octets) in
     λ i. first i ∷ others i
 
@@ -272,6 +305,7 @@ read_left version channels device content =
     (sas_left (keys_in content) (sa_count version content) (drop (associations_at version) content))
 
 pub read_beside : (version : Version) (channels device content : List ℕ)
-    → ((state_at version channels device content).channels ≡ channels) × ((state_at version channels device content).device ≡ device)
+    → ((state_at version channels device content).channels ≡ channels)
+    × ((state_at version channels device content).device ≡ device)
 unfolding state_at
 read_beside version channels device content = (refl, refl)

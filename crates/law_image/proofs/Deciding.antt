@@ -1,5 +1,6 @@
 -- What holds or does not, for `refused_exactly`: conjunctions, bounds, lists.
-use Rattle.std.proofs.Common.{◌≡◌, ◌⊎◌, inl, inr, ⊎_elim, ℕ, suc, zero, ◌+◌, ◌<◌, ◌≤◌, List, [], ◌∷◌, length, slice_index_or, Option, None, Some, IsSome, IsSomeAnd, refl, sym, subst, arith}
+use Rattle.std.proofs.Common.{◌≡◌, ◌⊎◌, inl, inr, ⊎_elim, ℕ, suc, zero, ◌+◌, ◌<◌, ◌≤◌, List, [], ◌∷◌, length}
+use Rattle.std.proofs.Common.{slice_index_or, Option, None, Some, IsSome, IsSomeAnd, refl, sym, subst, arith}
 use Rattle.std.specs.List.{All, Any}
 use Rattle.std.proofs.lemmas.Bool.{cases_eq, cases_lt, false≢true}
 use Rattle.std.specs.List.{AllByRecursion as ByRecursion, slice_index}
@@ -67,7 +68,8 @@ pub decided_some : {X : Type 0} (o : Option X) → Decided (IsSome o)
 decided_some None = inr (λ is. false≢true is)
 decided_some (Some x) = inl refl
 
-pub decided_some_and : {X : Type 0} (P : X → Type 0) → ((x : X) → Decided (P x)) → (o : Option X) → Decided (IsSomeAnd o P)
+pub decided_some_and : {X : Type 0} (P : X → Type 0) → ((x : X) → Decided (P x)) → (o : Option X)
+    → Decided (IsSomeAnd o P)
 decided_some_and P each None = inr (λ is. is)
 decided_some_and P each (Some x) = each x
 
@@ -112,7 +114,9 @@ decided_below P each (suc n) = go (decided_below P each n) (each n)
     go (inr off) here = inr (λ all. off (λ k less. all k (omega arith)))
 
 pub decided_channels : (channels : List ℕ) → Decided (AreChannels channels)
-decided_channels channels = decided_as (decided_three (decided_le 1 (length channels)) (decided_le (length channels) MOST_CHANNELS) (ascending channels))
+decided_channels channels =
+    decided_as (decided_three (decided_le 1 (length channels)) (decided_le (length channels) MOST_CHANNELS)
+    (ascending channels))
     (λ parts. record { one = parts.0; most = parts.1; ascending = λ k less. parts.2 k (omega arith) less })
     (λ is. (is.one, is.most, λ k low less. is.ascending k less))
   where
@@ -125,11 +129,14 @@ decided_channels channels = decided_as (decided_three (decided_le 1 (length chan
       | inr beyond ↦ inl (λ h. absurd (beyond h))
     ]
 
-    ascending : (xs : List ℕ) → Decided ((k : ℕ) → k < length xs → k + 1 < length xs → slice_index xs k < slice_index xs (k + 1))
-    ascending xs = decided_below (λ k. k + 1 < length xs → slice_index xs k < slice_index xs (k + 1)) (one_pair xs) (length xs)
+    ascending : (xs : List ℕ)
+        → Decided ((k : ℕ) → k < length xs → k + 1 < length xs → slice_index xs k < slice_index xs (k + 1))
+    ascending xs = decided_below (λ k. k + 1 < length xs → slice_index xs k < slice_index xs (k + 1)) (one_pair xs)
+        (length xs)
 
 pub decided_width : (width : ℕ) → Decided (IsWidth width)
-decided_width width = decided_as (decided_and (decided_le 1 width) (decided_le width MOST_WINDOW)) (λ both. record { least = both.0; most = both.1 })
+decided_width width = decided_as (decided_and (decided_le 1 width) (decided_le width MOST_WINDOW))
+    (λ both. record { least = both.0; most = both.1 })
     (λ is. (is.least, is.most))
 
 pub decided_field : (field : ℕ) → Decided (IsWindowField field)

@@ -16,19 +16,23 @@ use Rattle.law_image.proofs.DecidingRules.{decided_association, decided_key, dec
 -- whether the rows of a state fit the version
 fits : (version : Version) (state : State) → Decided (FitsVersion version state)
 fits version state = decided_as
-    (decided_and (decided_le (length state.keys) (most_keys_of version)) (decided_le (length state.associations) (most_associations_of version)))
+    (decided_and (decided_le (length state.keys) (most_keys_of version))
+    (decided_le (length state.associations) (most_associations_of version)))
     (λ both. record { keys = both.0; associations = both.1 }) (λ is. (is.keys, is.associations))
 
 has_rows : (version : Version) (state : State) → Decided (HasRows version state)
 has_rows version state = decided_as
-    (decided_three (decided_all IsKeyOf decided_key state.keys) (decided_all IsSaOf decided_association state.associations) (fits version state))
+    (decided_three (decided_all IsKeyOf decided_key state.keys)
+    (decided_all IsSaOf decided_association state.associations) (fits version state))
     (λ all. record { keys = all.0; associations = all.1; fits = all.2 }) (λ is. (is.keys, is.associations, is.fits))
 
 -- whether they are that of the state that is read off them
-decided_read : (version : Version) (channels device content : List ℕ) → Decided (IsContent version (state_at version channels device content) content)
+decided_read : (version : Version) (channels device content : List ℕ)
+    → Decided (IsContent version (state_at version channels device content) content)
 decided_read version channels device content =
     let read = state_at version channels device content in
-    decided_as (decided_three (decided_rules read) (has_rows version read) (decided_octets content (content_of version read)))
+    decided_as (decided_three (decided_rules read) (has_rows version read)
+    (decided_octets content (content_of version read)))
     (λ all. record { rules = all.0; rows = all.1; left = read_left version channels device content; spelled = all.2 })
     (λ is. (is.rules, is.rows, is.spelled))
 
@@ -38,7 +42,11 @@ decided_content plan version content =
     let channels : List ℕ = map (λ row. row.0) plan.channels in
     let beside = read_beside version channels plan.device content in
     decided_as (decided_read version channels plan.device content)
-    (λ is. (state_at version channels plan.device content, record { channels = beside.0; device = beside.1; spelled = is }))
+    (λ is. (
+      state_at version channels plan.device content,
+      record { channels = beside.0; device = beside.1; spelled = is },
+    ))
     (λ (state, under).
     subst (λ (s : State). IsContent version s content)
-    (sym (state_back version channels plan.device content state under.spelled under.channels under.device)) under.spelled)
+    (sym (state_back version channels plan.device content state under.spelled under.channels under.device))
+    under.spelled)

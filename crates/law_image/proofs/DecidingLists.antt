@@ -1,9 +1,11 @@
 -- What holds of lists, or does not: for `refused_exactly`.
-use Rattle.std.proofs.Common.{◌≡◌, ℕ, suc, List, [], ◌∷◌, get_or, Option, Some, None, IfSome, refl, subst, inl, inr, arith, ◌⊎◌}
+use Rattle.std.proofs.Common.{◌≡◌, ℕ, suc, List, [], ◌∷◌, get_or, Option, Some, None, IfSome, refl, subst, inl, inr}
+use Rattle.std.proofs.Common.{arith, ◌⊎◌}
 use Rattle.std.specs.List.{All, AllPairs, Contains}
 use Rattle.std.specs.Option.{IsNone}
 use Rattle.std.proofs.lemmas.Bool.{cases_eq}
-use Rattle.std.proofs.lemmas.List.Elements.{All-contains, All-contains_itself, All-cons, All-nil, All-tail, Contains-get_or}
+use Rattle.std.proofs.lemmas.List.Elements.{All-contains, All-contains_itself, All-cons, All-nil, All-tail}
+use Rattle.std.proofs.lemmas.List.Elements.{Contains-get_or}
 use Rattle.std.proofs.lemmas.List.Kept.{AllPairs-cons}
 use Rattle.law_image.proofs.Deciding.{Decided, decided_all, decided_and, decided_as, decided_not}
 
@@ -39,10 +41,12 @@ pairs_head R x xs all k d low = all 0 (suc k) d (omega arith) (omega arith)
 pairs_tail : {X : Type 0} (R : X → X → Type 0) (x : X) (xs : List X) → AllPairs R (x ∷ xs) → AllPairs R xs
 pairs_tail R x xs all i j d lt low = all (suc i) (suc j) d (omega arith) (omega arith)
 
-pub decided_pairs : {X : Type 0} (R : X → X → Type 0) → ((a b : X) → Decided (R a b)) → (xs : List X) → Decided (AllPairs R xs)
+pub decided_pairs : {X : Type 0} (R : X → X → Type 0) → ((a b : X) → Decided (R a b)) → (xs : List X)
+    → Decided (AllPairs R xs)
 decided_pairs R each [] = inl (λ i j d lt low. absurd (omega arith))
 decided_pairs R each (x ∷ xs) =
-    decided_as (decided_and (decided_all (R x) (each x) xs) (decided_pairs R each xs)) (λ both. AllPairs-cons R x xs both.0 both.1)
+    decided_as (decided_and (decided_all (R x) (each x) xs) (decided_pairs R each xs))
+    (λ both. AllPairs-cons R x xs both.0 both.1)
     (λ all. (pairs_head R x xs all, pairs_tail R x xs all))
 
 -- a number is in a list, or each number of the list is another

@@ -26,8 +26,11 @@ use Rattle.book_record.specs.KeyParts as key_row
 use Rattle.book_record.specs.Record.{IsKey}
 use Rattle.book_record.specs.SaParts as sa_row
 use Rattle.image_content.specs.Content.{key_parts, sa_parts}
-use Rattle.law_image.proofs.Deciding.{Decided, decided_all, decided_and, decided_as, decided_channels, decided_eq, decided_four, decided_key_length, decided_le, decided_lt, decided_not, decided_or, decided_some_and, decided_three, decided_width}
-use Rattle.law_image.proofs.DecidingLists.{decided_apart, decided_if, decided_if_some, decided_is_none, decided_octets, decided_pairs}
+use Rattle.law_image.proofs.Deciding.{Decided, decided_all, decided_and, decided_as, decided_channels, decided_eq}
+use Rattle.law_image.proofs.Deciding.{decided_four, decided_key_length, decided_le, decided_lt, decided_not, decided_or}
+use Rattle.law_image.proofs.Deciding.{decided_some_and, decided_three, decided_width}
+use Rattle.law_image.proofs.DecidingLists.{decided_apart, decided_if, decided_if_some, decided_is_none, decided_octets}
+use Rattle.law_image.proofs.DecidingLists.{decided_pairs}
 
 -- ---- states, directions, classes
 
@@ -67,14 +70,17 @@ same_class Cmac Cmac = inl refl
 -- ---- keys
 
 has_bytes : (state : KeyState) (bytes digest : List ℕ) → Decided (HasBytes state bytes digest)
-has_bytes PreActive bytes digest = decided_and (decided_key_length (length bytes)) (decided_octets digest (sha256 bytes))
+has_bytes PreActive bytes digest =
+    decided_and (decided_key_length (length bytes)) (decided_octets digest (sha256 bytes))
 has_bytes Active bytes digest = decided_and (decided_key_length (length bytes)) (decided_octets digest (sha256 bytes))
-has_bytes Deactivated bytes digest = decided_and (decided_key_length (length bytes)) (decided_octets digest (sha256 bytes))
+has_bytes Deactivated bytes digest =
+    decided_and (decided_key_length (length bytes)) (decided_octets digest (sha256 bytes))
 has_bytes Destroyed bytes digest = decided_octets bytes []
 
 key_rules : (row : KeyRow) → Decided (IsKeyRow row)
 key_rules row = decided_as
-    (decided_four (has_bytes row.state row.bytes row.digest) (decided_le 1 row.mark) (decided_le row.mark (end_of row.id))
+    (decided_four (has_bytes row.state row.bytes row.digest) (decided_le 1 row.mark)
+    (decided_le row.mark (end_of row.id))
     (decided_lt row.floor (end_of row.id)))
     (λ all. record { bytes = all.0; mark_from_one = all.1; mark_to_end = all.2; floor_below_end = all.3 })
     (λ is. (is.bytes, is.mark_from_one, is.mark_to_end, is.floor_below_end))
@@ -112,11 +118,21 @@ sa_rules : (row : SaRow) → Decided (IsSaRow row)
 sa_rules row = decided_as
     (decided_four
     (decided_and
-    (decided_and (decided_if (unkeyed row.state) (decided_is_none row.key)) (decided_if (decided_is_none row.key) (unkeyed row.state)))
-    (decided_if_some (λ key. class_of key ≡ class_of_suite row.suite) (λ key. same_class (class_of key) (class_of_suite row.suite)) row.key))
+    (decided_and (decided_if (unkeyed row.state) (decided_is_none row.key))
+    (decided_if (decided_is_none row.key) (unkeyed row.state)))
+    (decided_if_some (λ key. class_of key ≡ class_of_suite row.suite)
+    (λ key. same_class (class_of key) (class_of_suite row.suite)) row.key))
     (has_high row.direction row.key row.window.high)
-    (decided_and (decided_width row.window.width) (decided_le row.window.back MOST_BACK)) (decided_channels row.channels))
-    (λ all. record { keyless = all.0.0; suite = all.0.1; high = all.1; width = all.2.0; back = all.2.1; channels = all.3 })
+    (decided_and (decided_width row.window.width) (decided_le row.window.back MOST_BACK))
+    (decided_channels row.channels))
+    (λ all. record {
+      keyless = all.0.0;
+      suite = all.0.1;
+      high = all.1;
+      width = all.2.0;
+      back = all.2.1;
+      channels = all.3;
+    })
     (λ is. ((is.keyless, is.suite), is.high, (is.width, is.back), is.channels))
 
 -- no key is held by both
@@ -131,15 +147,18 @@ no_key (Some x) (Some y) = elim (decided_eq x y) [
 rows_apart : (a b : SaRow) → Decided (RowsAreApart a b)
 rows_apart a b = decided_as
     (decided_three (decided_lt a.spi b.spi)
-    (decided_if (operational a.state) (decided_if (operational b.state) (decided_if (same_direction a.direction b.direction)
+    (decided_if (operational a.state)
+    (decided_if (operational b.state) (decided_if (same_direction a.direction b.direction)
     (decided_apart a.channels b.channels))))
-    (decided_if (same_direction a.direction Receive) (decided_if (same_direction b.direction Receive) (no_key a.key b.key))))
+    (decided_if (same_direction a.direction Receive)
+    (decided_if (same_direction b.direction Receive) (no_key a.key b.key))))
     (λ all. record { order = all.0; channels = all.1; keys = all.2 })
     (λ is. (is.order, is.channels, is.keys))
 
 sa_book : (rows : List SaRow) → Decided (IsSaBook rows)
 sa_book rows = decided_as
-    (decided_three (decided_le (length rows) MOST_ASSOCIATIONS) (decided_all IsSaRow sa_rules rows) (decided_pairs RowsAreApart rows_apart rows))
+    (decided_three (decided_le (length rows) MOST_ASSOCIATIONS) (decided_all IsSaRow sa_rules rows)
+    (decided_pairs RowsAreApart rows_apart rows))
     (λ all. record { most = all.0; each = all.1; apart = all.2 })
     (λ is. (is.most, is.each, is.apart))
 
@@ -168,6 +187,7 @@ has_key keys row = decided_if_some (λ key. IsSomeAnd (row_of keys key) (MayHold
 
 pub decided_rules : (state : State) → Decided (KeepsRules state)
 decided_rules state = decided_as
-    (decided_three (key_book state.keys) (sa_book state.associations) (decided_all (HasKey state.keys) (has_key state.keys) state.associations))
+    (decided_three (key_book state.keys) (sa_book state.associations)
+    (decided_all (HasKey state.keys) (has_key state.keys) state.associations))
     (λ all. record { keys = all.0; associations = all.1; held = all.2 })
     (λ is. (is.keys, is.associations, is.held))

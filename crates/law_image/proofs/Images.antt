@@ -1,11 +1,14 @@
--- What an opening or a migration leaves that is cut off: for `opening_keeps_forms` and `migration_keeps_state`. With it,
+-- What an opening or a migration leaves that is cut off: for `opening_keeps_forms` and `migration_keeps_state`. With
+-- it,
 -- lemmas on what images and their opened forms hold, passed on for what lies above.
-use Rattle.std.proofs.Common.{slice_index, ◌≢◌, ◌≡◌, ◌⊎◌, ℕ, ◌+◌, ◌≤◌, List, length, set, None, refl, sym, ap, ◌∙◌, subst, inl, inr, arith}
+use Rattle.std.proofs.Common.{slice_index, ◌≢◌, ◌≡◌, ◌⊎◌, ℕ, ◌+◌, ◌≤◌, List, length, set, None, refl, sym, ap, ◌∙◌}
+use Rattle.std.proofs.Common.{subst, inl, inr, arith}
 use Rattle.disk_journal.proofs.Gating.{AreRecords, records_are}
 use Rattle.disk_journal.proofs.Ranges.{set_but}
 use Rattle.disk_journal.specs.Moments.{AllBut}
 use Rattle.disk_journal.specs.Banks.{bank_at, slot_at, other, slot_gate, slot_body}
-use Rattle.disk_journal.specs.Image.{Held, IsAtRest, IsOpenedForm, held, migrated, plan_of, records, image_layout, current, current_at, first_closed, slot_count}
+use Rattle.disk_journal.specs.Image.{Held, IsAtRest, IsOpenedForm, held, migrated, plan_of, records, image_layout}
+use Rattle.disk_journal.specs.Image.{current, current_at, first_closed, slot_count}
 use Rattle.disk_journal.specs.Fault.{image_fault}
 use Rattle.disk_journal.specs.Forms.{Holds, HasOneClosed, Becomes, StaysWithin}
 use Rattle.disk_journal.proofs.Again.{stays_within}
@@ -25,11 +28,13 @@ pub use Rattle.disk_journal.proofs.Moments.{only_syncs_moments}
 
 -- the records by place
 pub records_of : (image : List ℕ)
-    → AreRecords (slot_gate (image_layout image) image (current_at image)) (slot_body (image_layout image) image (current_at image))
+    → AreRecords (slot_gate (image_layout image) image (current_at image))
+    (slot_body (image_layout image) image (current_at image))
     (slot_count image) (records image)
 unfolding records
 records_of image =
-    records_are (slot_gate (image_layout image) image (current_at image)) (slot_body (image_layout image) image (current_at image))
+    records_are (slot_gate (image_layout image) image (current_at image))
+    (slot_body (image_layout image) image (current_at image))
     (slot_count image)
 
 -- the octet that migrates an image of version 1 is not 1
@@ -56,7 +61,8 @@ same_next : (image left : List ℕ) → Holds left (held image) → HoldsNext im
 same_next image left same = record { opens = same.opens; next = inl same.is }
 
 moved_next : (image left : List ℕ) (next : Held) → IsMigration image next → Holds left next → HoldsNext image left
-moved_next image left next moves is = record { opens = is.opens; next = inr (subst (IsMigration image) (sym is.is) moves) }
+moved_next image left next moves is =
+    record { opens = is.opens; next = inr (subst (IsMigration image) (sym is.is) moves) }
 
 regated_keeps : (image left : List ℕ) → image_fault image ≡ None → StaysWithin image left → KeepsForms image left
 regated_keeps image left opens stays = record {
@@ -83,7 +89,8 @@ migrating image left moves = elim moves.becomes.holds [
 ]
 
 migrating_form : (image left form : List ℕ) → IsMigrating image left → IsOpenedForm left form → HoldsNext image form
-migrating_form image left form moves opened = moved_next image form moves.next moves.is_migration (moves.becomes.forms form opened)
+migrating_form image left form moves opened =
+    moved_next image form moves.next moves.is_migration (moves.becomes.forms form opened)
 
 moved_keeps : (image left : List ℕ) → IsMigrating image left → KeepsForms image left
 moved_keeps image left moves = record {
@@ -93,8 +100,10 @@ moved_keeps image left moves = record {
 }
 
 -- an opening that is cut off
-pub stays_opened : (image left : List ℕ) → image_fault image ≡ None → HasOneClosed image → LeftByOpening image left → KeepsForms image left
-stays_opened image left opens one (inl (inl regates)) = regated_keeps image left opens (stays_within image left opens one regates)
+pub stays_opened : (image left : List ℕ) → image_fault image ≡ None → HasOneClosed image → LeftByOpening image left
+    → KeepsForms image left
+stays_opened image left opens one (inl (inl regates)) =
+    regated_keeps image left opens (stays_within image left opens one regates)
 stays_opened image left opens one (inl (inr becomes)) = same_keeps image left (holds_same image left becomes)
 stays_opened image left opens one (inr moves) = moved_keeps image left moves
 
@@ -111,7 +120,8 @@ bank_plan image form at front low is =
 moving_plan : (image form : List ℕ) → HasFront image (image_layout image) → form ≡ set image MIGRATED_AT OPEN
     → plan_of form ≡ plan_of image
 moving_plan image form front is =
-    let change : AllBut MIGRATED_AT 1 image form = subst (AllBut MIGRATED_AT 1 image) (sym is) (set_but image MIGRATED_AT OPEN) in
+    let change : AllBut MIGRATED_AT 1 image form =
+    subst (AllBut MIGRATED_AT 1 image) (sym is) (set_but image MIGRATED_AT OPEN) in
     let long : length form ≡ length image = change.same_length in
     moved_plan (image_layout image) image form front
     (record { no_shorter = omega arith; same = λ i below away. change.outside i away })
@@ -128,8 +138,10 @@ form_plan image form opens opened =
           let place : opened.0 ≡ slot_at layout (bank_at layout (current image)) (first_closed image) = slot.1 in
           bank_plan image form opened.0 front (omega arith) opened.3
       | inr (inl beside) ↦
-          let low : HEADER_LENGTH + PLAN_ROOM ≤ bank_at layout (other (current image)) = behind layout (other (current image)) far in
-          bank_plan image form opened.0 front (subst (λ (at : ℕ). HEADER_LENGTH + PLAN_ROOM ≤ at) (sym beside) low) opened.3
+          let low : HEADER_LENGTH + PLAN_ROOM ≤ bank_at layout (other (current image)) =
+          behind layout (other (current image)) far in
+          bank_plan image form opened.0 front (subst (λ (at : ℕ). HEADER_LENGTH + PLAN_ROOM ≤ at) (sym beside) low)
+          opened.3
       | inr (inr moves) ↦ moving_plan image form front (opened.3 ∙ ap (λ (at : ℕ). set image at OPEN) moves.1)
     ]
 
@@ -140,7 +152,8 @@ abbrev pub ShowsOne : Type 0
 ShowsOne = (image : List ℕ) (one other : State) → Shows image one → Shows image other → one ≡ other
 
 -- what holds the same as an image shows what the image shows
-same_shows : (image left : List ℕ) (state : State) → image_fault image ≡ None → held left ≡ held image → Shows left state → Shows image state
+same_shows : (image left : List ℕ) (state : State) → image_fault image ≡ None → held left ≡ held image
+    → Shows left state → Shows image state
 same_shows image left state opens same shows = record {
   what = held image;
   holds = record { opens = opens; is = refl };
@@ -148,9 +161,11 @@ same_shows image left state opens same shows = record {
 }
 
 -- the migration of an image shows the state that it was made of
-migration_shows : (image left : List ℕ) → image_fault left ≡ None → (moves : IsMigration image (held left)) → Shows left moves.state
+migration_shows : (image left : List ℕ) → image_fault left ≡ None → (moves : IsMigration image (held left))
+    → Shows left moves.state
 migration_shows image left opens moves =
-    let said : Says (held image) moves.state = subst (λ (what : Held). Says what moves.state) (sym moves.shows.holds.is) moves.shows.says in
+    let said : Says (held image) moves.state =
+    subst (λ (what : Held). Says what moves.state) (sym moves.shows.holds.is) moves.shows.says in
     record {
       what = migrated moves.content (held image);
       holds = record { opens = opens; is = moves.is };
@@ -162,14 +177,16 @@ module _ (once : ShowsOne) (image left : List ℕ) (state : State) where
   pub shows_next : HoldsNext image left → Shows image state → Shows left state
   shows_next holds shows = elim holds.next [
     | inl same ↦ same_shows left image state holds.opens (sym same) shows
-    | inr moves ↦ subst (Shows left) (once image moves.state state moves.shows shows) (migration_shows image left holds.opens moves)
+    | inr moves ↦ subst (Shows left) (once image moves.state state moves.shows shows)
+        (migration_shows image left holds.opens moves)
   ]
 
   moved_shows : image_fault left ≡ None → IsMigration image (held left) → Shows left state → Shows image state
   moved_shows opens moves shows =
       subst (Shows image) (once left moves.state state (migration_shows image left opens moves) shows) moves.shows
 
-  either_shows : image_fault image ≡ None → HoldsNext image left ⊎ IsOpenedForm image left → Shows left state → IsShown image state
+  either_shows : image_fault image ≡ None → HoldsNext image left ⊎ IsOpenedForm image left → Shows left state
+      → IsShown image state
   either_shows opens (inr form) shows = inr (left, form, shows)
   either_shows opens (inl holds) shows = elim holds.next [
     | inl same ↦ inl (same_shows image left state opens same shows)
@@ -177,14 +194,16 @@ module _ (once : ShowsOne) (image left : List ℕ) (state : State) where
   ]
 
 -- a state that is shown after an opening was shown before
-pub shown_before : ShowsOne → (image left : List ℕ) (state : State) → image_fault image ≡ None → KeepsForms image left → IsShown left state
+pub shown_before : ShowsOne → (image left : List ℕ) (state : State) → image_fault image ≡ None → KeepsForms image left
+    → IsShown left state
     → IsShown image state
 shown_before once image left state opens keeps (inl shows) = either_shows once image left state opens keeps.holds shows
 shown_before once image left state opens keeps (inr (form, opened, shows)) =
     either_shows once image form state opens (keeps.forms form opened) shows
 
 -- a migration that is cut off shows the state of the image
-pub shown_throughout : ShowsOne → (image left : List ℕ) (state : State) → IsMigrating image left → Shows image state → ShowsThroughout left state
+pub shown_throughout : ShowsOne → (image left : List ℕ) (state : State) → IsMigrating image left → Shows image state
+    → ShowsThroughout left state
 shown_throughout once image left state moves shows = record {
   shows = shows_next once image left state (migrating image left moves) shows;
   forms = λ form opened. shows_next once image form state (migrating_form image left form moves opened) shows;

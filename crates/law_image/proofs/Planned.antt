@@ -1,5 +1,6 @@
 -- The plan that a text says keeps the rules of plans.
-use Rattle.std.proofs.Common.{◌≡◌, ◌⊎◌, ℕ, ◌+◌, Bool, true, false, nat_le, nat_lt, ◌==◌, List, [], ◌∷◌, length, codes, Option, Some, None, Result, Ok, Err, refl, ap, subst, inl, inr, arith, if◌then◌else◌}
+use Rattle.std.proofs.Common.{◌≡◌, ◌⊎◌, ℕ, ◌+◌, Bool, true, false, nat_le, nat_lt, ◌==◌, List, [], ◌∷◌, length, codes}
+use Rattle.std.proofs.Common.{Option, Some, None, Result, Ok, Err, refl, ap, subst, inl, inr, arith, if◌then◌else◌}
 use Rattle.std.specs.Result.{result_unwrap_or}
 use Rattle.std.specs.Str.{bytes_eq}
 use Rattle.std.proofs.lemmas.Bool.{and_parts}
@@ -17,7 +18,10 @@ use Rattle.unit_plan.specs.KeyLine.{key_said}
 use Rattle.unit_plan.specs.LineForm.{association_of, bounded, device_said, number_said, version_said}
 use Rattle.unit_plan.specs.Lines.{lines_of, words_of}
 use Rattle.unit_plan.specs.LinkLine.{is_layout, is_link, link_said}
-use Rattle.unit_plan.specs.Plan.{accept_taken, admitted, after, number_in_order, link_admitted, channel_admitted, key_admitted, association_added, association_taken, block_taken, channel_taken, device_taken, in_order, is_skipped, key_taken, line_taken, link_taken, plan_of, slots_taken, taken, version_taken}
+use Rattle.unit_plan.specs.Plan.{accept_taken, admitted, after, number_in_order, link_admitted, channel_admitted}
+use Rattle.unit_plan.specs.Plan.{key_admitted, association_added, association_taken, block_taken, channel_taken}
+use Rattle.unit_plan.specs.Plan.{device_taken, in_order, is_skipped, key_taken, line_taken, link_taken, plan_of}
+use Rattle.unit_plan.specs.Plan.{slots_taken, taken, version_taken}
 use Rattle.unit_plan.specs.PlanError.{◌>>=◌, check, fault, require}
 use Rattle.unit_plan.specs.PlanLines.{PlanLines, no_lines}
 use Rattle.unit_plan.specs.PlanRules.{IsAssociation, IsPlan}
@@ -33,7 +37,8 @@ pub no_fault : {A : Type 0} (fault : PlanFault) (x : A) → ◌≡◌ {A = Resul
 no_fault fault x h = cc h
 
 -- a step behind another
-pub behind : {A B : Type 0} (r : Result A PlanFault) (f : A → Result B PlanFault) (y : B) → (r >>= f) ≡ Ok y → (x : A) × (r ≡ Ok x) × (f x ≡ Ok y)
+pub behind : {A B : Type 0} (r : Result A PlanFault) (f : A → Result B PlanFault) (y : B) → (r >>= f) ≡ Ok y
+    → (x : A) × (r ≡ Ok x) × (f x ≡ Ok y)
 behind (Ok x) f y h = (x, refl, h)
 behind (Err fault) f y h = absurd (no_fault fault y h)
 
@@ -47,7 +52,8 @@ passed line cause false u h = absurd (no_fault _ u h)
 
 -- ---- one line
 
-version_kept : (line : ℕ) (plan next : PlanLines) (words : List (List ℕ)) → IsPlan plan → version_taken line plan words ≡ Ok next → IsPlan next
+version_kept : (line : ℕ) (plan next : PlanLines) (words : List (List ℕ)) → IsPlan plan
+    → version_taken line plan words ≡ Ok next → IsPlan next
 unfolding version_taken
 version_kept line plan next words ok h =
     let said = behind (require line Form (version_said words)) _ next h in
@@ -61,7 +67,8 @@ version_kept line plan next words ok h =
       associations = ok.associations;
     })
 
-device_kept : (line : ℕ) (plan next : PlanLines) (words : List (List ℕ)) → IsPlan plan → device_taken line plan words ≡ Ok next → IsPlan next
+device_kept : (line : ℕ) (plan next : PlanLines) (words : List (List ℕ)) → IsPlan plan
+    → device_taken line plan words ≡ Ok next → IsPlan next
 unfolding device_taken
 device_kept line plan next words ok h =
     let device = behind (require line Form (device_said words)) _ next h in
@@ -75,7 +82,8 @@ device_kept line plan next words ok h =
       associations = ok.associations;
     })
 
-slots_kept : (line : ℕ) (plan next : PlanLines) (words : List (List ℕ)) → IsPlan plan → slots_taken line plan words ≡ Ok next → IsPlan next
+slots_kept : (line : ℕ) (plan next : PlanLines) (words : List (List ℕ)) → IsPlan plan
+    → slots_taken line plan words ≡ Ok next → IsPlan next
 unfolding slots_taken
 slots_kept line plan next words ok h =
     let n = behind (number_in_order line plan 2 16 65536 words) _ next h in
@@ -91,7 +99,8 @@ slots_kept line plan next words ok h =
       associations = ok.associations;
     })
 
-block_kept : (line : ℕ) (plan next : PlanLines) (words : List (List ℕ)) → IsPlan plan → block_taken line plan words ≡ Ok next → IsPlan next
+block_kept : (line : ℕ) (plan next : PlanLines) (words : List (List ℕ)) → IsPlan plan
+    → block_taken line plan words ≡ Ok next → IsPlan next
 unfolding block_taken
 block_kept line plan next words ok h =
     let n = behind (number_in_order line plan 3 1 65536 words) _ next h in
@@ -107,7 +116,8 @@ block_kept line plan next words ok h =
       associations = ok.associations;
     })
 
-accept_kept : (line : ℕ) (plan next : PlanLines) (words : List (List ℕ)) → IsPlan plan → accept_taken line plan words ≡ Ok next → IsPlan next
+accept_kept : (line : ℕ) (plan next : PlanLines) (words : List (List ℕ)) → IsPlan plan
+    → accept_taken line plan words ≡ Ok next → IsPlan next
 unfolding accept_taken
 accept_kept line plan next words ok h =
     let n = behind (number_in_order line plan 4 1 65536 words) _ next h in
@@ -123,14 +133,16 @@ accept_kept line plan next words ok h =
       associations = ok.associations;
     })
 
-link_kept : (line : ℕ) (plan next : PlanLines) (words : List (List ℕ)) → IsPlan plan → link_taken line plan words ≡ Ok next → IsPlan next
+link_kept : (line : ℕ) (plan next : PlanLines) (words : List (List ℕ)) → IsPlan plan
+    → link_taken line plan words ≡ Ok next → IsPlan next
 unfolding link_taken
 link_kept line plan next words ok h =
     let said = behind (require line Form (link_said words)) _ next h in
     let known = behind (link_admitted line plan said.0.0 said.0.1) _ next said.2 in
     let ordered = behind (in_order line plan 5) _ known.0 known.1 in
     let bounds = behind (check line Range (is_link said.0.0 said.0.1)) _ known.0 ordered.2 in
-    let parts = and_parts (nat_le said.0.0 15) (is_layout said.0.1.layout) (passed line Range (is_link said.0.0 said.0.1) bounds.0 bounds.1) in
+    let parts = and_parts (nat_le said.0.0 15) (is_layout said.0.1.layout)
+    (passed line Range (is_link said.0.0 said.0.1) bounds.0 bounds.1) in
     let link : IsLink said.0.1 = record {
       layout = layout_within said.0.1.layout parts.1;
       mask = link_low words said.0 (required line Form (link_said words) said.0 said.1);
@@ -140,12 +152,14 @@ link_kept line plan next words ok h =
       block = ok.block;
       accept = ok.accept;
       links = All-append (λ (entry : ℕ × Link). IsLink entry.1) plan.links (said.0 ∷ []) ok.links
-          (All-cons (λ (entry : ℕ × Link). IsLink entry.1) said.0 [] link (All-nil (λ (entry : ℕ × Link). IsLink entry.1)));
+          (All-cons (λ (entry : ℕ × Link). IsLink entry.1) said.0 [] link
+          (All-nil (λ (entry : ℕ × Link). IsLink entry.1)));
       keys = ok.keys;
       associations = ok.associations;
     })
 
-channel_kept : (line : ℕ) (plan next : PlanLines) (words : List (List ℕ)) → IsPlan plan → channel_taken line plan words ≡ Ok next → IsPlan next
+channel_kept : (line : ℕ) (plan next : PlanLines) (words : List (List ℕ)) → IsPlan plan
+    → channel_taken line plan words ≡ Ok next → IsPlan next
 unfolding channel_taken
 channel_kept line plan next words ok h =
     let said = behind (require line Form (channel_said words)) _ next h in
@@ -162,7 +176,8 @@ channel_kept line plan next words ok h =
 abbrev IsLong : PlanKey → Type 0
 IsLong key = IsKeyLength (length key.item.bytes)
 
-key_kept : (line : ℕ) (plan next : PlanLines) (words : List (List ℕ)) → IsPlan plan → key_taken line plan words ≡ Ok next → IsPlan next
+key_kept : (line : ℕ) (plan next : PlanLines) (words : List (List ℕ)) → IsPlan plan
+    → key_taken line plan words ≡ Ok next → IsPlan next
 unfolding key_taken
 key_kept line plan next words ok h =
     let said = behind (require line Form (key_said words)) _ next h in
@@ -177,14 +192,16 @@ key_kept line plan next words ok h =
       associations = ok.associations;
     })
 
-association_kept : (line : ℕ) (plan next : PlanLines) (words : List (List ℕ)) → IsPlan plan → association_taken line plan words ≡ Ok next → IsPlan next
+association_kept : (line : ℕ) (plan next : PlanLines) (words : List (List ℕ)) → IsPlan plan
+    → association_taken line plan words ≡ Ok next → IsPlan next
 unfolding association_taken association_added
 association_kept line plan next words ok h =
     let said = behind (require line Form (association_said words)) _ next h in
     let ordered = behind (in_order line plan 5) _ next said.2 in
     let found = behind (require line Range (association_of line said.0)) _ next ordered.2 in
     let known = behind (admitted plan found.0) _ next found.2 in
-    let within = association_within line said.0 found.0 (required line Range (association_of line said.0) found.0 found.1) in
+    let within =
+    association_within line said.0 found.0 (required line Range (association_of line said.0) found.0 found.1) in
     subst IsPlan (same_ok _ next known.2) (record {
       slots = ok.slots;
       block = ok.block;
@@ -199,7 +216,8 @@ either : (b : Bool) → (b ≡ true) ⊎ (b ≡ false)
 either true = inl refl
 either false = inr refl
 
-words_kept : (line : ℕ) (plan next : PlanLines) (words : List (List ℕ)) → IsPlan plan → taken line plan words ≡ Ok next → IsPlan next
+words_kept : (line : ℕ) (plan next : PlanLines) (words : List (List ℕ)) → IsPlan plan → taken line plan words ≡ Ok next
+    → IsPlan next
 unfolding taken
 words_kept line plan next [] ok h = absurd (no_fault _ next h)
 words_kept line plan next (word ∷ words) ok h =
@@ -222,15 +240,19 @@ words_kept line plan next (word ∷ words) ok h =
                                     | inl is ↦ link_kept line plan next words ok (rw (o0, o1, o2, o3, o4, is) at h)
                                     | inr o5 ↦
                                         elim (either (bytes_eq word (codes "channel"))) [
-                                          | inl is ↦ channel_kept line plan next words ok (rw (o0, o1, o2, o3, o4, o5, is) at h)
+                                          | inl is ↦ channel_kept line plan next words ok
+                                              (rw (o0, o1, o2, o3, o4, o5, is) at h)
                                           | inr o6 ↦
                                               elim (either (bytes_eq word (codes "key"))) [
-                                                | inl is ↦ key_kept line plan next words ok (rw (o0, o1, o2, o3, o4, o5, o6, is) at h)
+                                                | inl is ↦ key_kept line plan next words ok
+                                                    (rw (o0, o1, o2, o3, o4, o5, o6, is) at h)
                                                 | inr o7 ↦
                                                     elim (either (bytes_eq word (codes "sa"))) [
-                                                      | inl is ↦ association_kept line plan next words ok (rw (o0, o1, o2, o3, o4, o5, o6, o7, is) at h)
+                                                      | inl is ↦ association_kept line plan next words ok
+                                                          (rw (o0, o1, o2, o3, o4, o5, o6, o7, is) at h)
                                                       | inr o8 ↦
-                                                          absurd (no_fault _ next (rw (o0, o1, o2, o3, o4, o5, o6, o7, o8) at h))
+                                                          absurd (no_fault _ next
+                                                          (rw (o0, o1, o2, o3, o4, o5, o6, o7, o8) at h))
                                                     ]
                                               ]
                                         ]
@@ -241,7 +263,8 @@ words_kept line plan next (word ∷ words) ok h =
           ]
     ]
 
-line_kept : (line : ℕ) (plan next : PlanLines) (text : List ℕ) → IsPlan plan → line_taken line plan text ≡ Ok next → IsPlan next
+line_kept : (line : ℕ) (plan next : PlanLines) (text : List ℕ) → IsPlan plan → line_taken line plan text ≡ Ok next
+    → IsPlan next
 line_kept line plan next text ok h = go (is_skipped text) h
   where
     go : (b : Bool) → (if b then Ok plan else taken line plan (words_of text)) ≡ Ok next → IsPlan next
@@ -250,7 +273,8 @@ line_kept line plan next text ok h = go (is_skipped text) h
 
 -- ---- all lines
 
-lines_kept : (line : ℕ) (plan next : PlanLines) (lines : List (List ℕ)) → IsPlan plan → after line plan lines ≡ Ok next → IsPlan next
+lines_kept : (line : ℕ) (plan next : PlanLines) (lines : List (List ℕ)) → IsPlan plan → after line plan lines ≡ Ok next
+    → IsPlan next
 lines_kept line plan next [] ok h =
     let ended = behind (check line Order (plan.heads == 5)) _ next h in subst IsPlan (same_ok plan next ended.2) ok
 lines_kept line plan next (text ∷ lines) ok h =

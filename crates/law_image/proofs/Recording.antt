@@ -31,7 +31,8 @@ no_change one is = cc
 -- whether it is that of this change
 of_change : (state : State) (body : List ℕ) (change : Change) → Decided (IsRecord change body × Allows state change)
 of_change state body change = decided_as
-    (decided_and (allowed_with state change) (decided_and (has_record change) (same_octets body (record_octets change))))
+    (decided_and (allowed_with state change)
+    (decided_and (has_record change) (same_octets body (record_octets change))))
     (λ all. (record { types = all.0.0; bounds = all.1.0; spelled = all.1.1 }, all.0.1))
     (λ is. ((is.0.types, is.1), (is.0.bounds, is.0.spelled)))
 
@@ -39,7 +40,8 @@ of_change state body change = decided_as
 abbrev pub OfItsKind : Type 0
 OfItsKind = (change : Change) (body : List ℕ) → IsRecord change body → change_of body ≡ Some change
 
-pub taken : OfItsKind → (state : State) (body : List ℕ) → IsTaken state body ⊎ ((change : Change) → IsRecord change body → ¬ Allows state change)
+pub taken : OfItsKind → (state : State) (body : List ℕ) → IsTaken state body
+    ⊎ ((change : Change) → IsRecord change body → ¬ Allows state change)
 taken law state body = go (change_of body) refl
   where
     of_one : (change : Change) → change_of body ≡ Some change → Decided (IsRecord change body × Allows state change)
@@ -47,8 +49,12 @@ taken law state body = go (change_of body) refl
     of_one change is (inl both) = inl (change, both.0, both.1)
     of_one change is (inr off) = inr (λ other is_record allows.
         let same : change ≡ other = same_change change other (sym is ∙ law other body is_record) in
-        off (subst (λ (c : Change). IsRecord c body) (sym same) is_record, subst (λ (c : Change). Allows state c) (sym same) allows))
+        off (
+          subst (λ (c : Change). IsRecord c body) (sym same) is_record,
+          subst (λ (c : Change). Allows state c) (sym same) allows,
+        ))
 
-    go : (found : Option Change) → change_of body ≡ found → IsTaken state body ⊎ ((change : Change) → IsRecord change body → ¬ Allows state change)
+    go : (found : Option Change) → change_of body ≡ found → IsTaken state body
+        ⊎ ((change : Change) → IsRecord change body → ¬ Allows state change)
     go None is = inr (λ change is_record allows. no_change change (sym is ∙ law change body is_record))
     go (Some change) is = of_one change is (of_change state body change)

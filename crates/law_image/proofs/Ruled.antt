@@ -11,7 +11,8 @@ use Rattle.disk_journal.specs.Image.{Held}
 use Rattle.unit_image.specs.Shows.{Says, Shows}
 use Rattle.unit_image.proofs.Restarted.{restarted_rules}
 
-led_rules : (state last : State) (bodies : List (List ℕ)) → KeepsRules state → LeadTo state bodies last → KeepsRules last
+led_rules : (state last : State) (bodies : List (List ℕ)) → KeepsRules state → LeadTo state bodies last
+    → KeepsRules last
 led_rules state last [] ok led = subst KeepsRules (sym led) ok
 led_rules state last (body ∷ bodies) ok (change, is_record, allowed, rest) =
     led_rules (applied state change) last bodies (rules_kept state change ok allowed) rest
@@ -19,11 +20,13 @@ led_rules state last (body ∷ bodies) ok (change, is_record, allowed, rest) =
 pub said_rules : (what : Held) (state : State) → Says what state → KeepsRules state
 said_rules what state says =
     let first = says.begins.content.spelled.rules in
-    subst KeepsRules (sym says.left) (restarted_rules says.last (led_rules says.first says.last what.records first says.led))
+    subst KeepsRules (sym says.left)
+    (restarted_rules says.last (led_rules says.first says.last what.records first says.led))
 
 pub shown_rules : (image : List ℕ) (state : State) → Shows image state → KeepsRules state
 shown_rules image state shows = said_rules shows.what state shows.says
 
 pub shown_left : (image : List ℕ) (state : State) → Shows image state → restarted state ≡ state
 shown_left image state shows =
-    let left : state ≡ restarted shows.says.last = shows.says.left in ap restarted left ∙ restarted_twice shows.says.last ∙ sym left
+    let left : state ≡ restarted shows.says.last = shows.says.left in
+    ap restarted left ∙ restarted_twice shows.says.last ∙ sym left

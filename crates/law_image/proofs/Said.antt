@@ -1,5 +1,6 @@
 -- What the words of a line say lies in its bounds.
-use Rattle.std.proofs.Common.{◌≡◌, ◌⊎◌, ℕ, ◌+◌, ◌^◌, ◌≤◌, Bool, true, false, nat_le, ◌&&◌, List, length, codes, Option, Some, None, Result, Ok, Err, refl, sym, ◌∙◌, ap, subst, inl, inr, arith, if◌then◌else◌}
+use Rattle.std.proofs.Common.{◌≡◌, ◌⊎◌, ℕ, ◌+◌, ◌^◌, ◌≤◌, Bool, true, false, nat_le, ◌&&◌, List, length, codes, Option}
+use Rattle.std.proofs.Common.{Some, None, Result, Ok, Err, refl, sym, ◌∙◌, ap, subst, inl, inr, arith, if◌then◌else◌}
 use Rattle.std.specs.Option.{option_map, option_or}
 use Rattle.std.specs.Str.{bytes_eq}
 use Rattle.std.proofs.lemmas.Bool.{and_parts, leb-true}
@@ -19,13 +20,15 @@ use Rattle.unit_plan.specs.AssociationLine.{are_channel_ids}
 use Rattle.unit_plan.specs.Field.{capped_at, choice_at, decoded}
 use Rattle.unit_plan.specs.KeyLine.{before_octets, key_octets, key_said}
 use Rattle.unit_plan.specs.LineForm.{association_of, bounded}
-use Rattle.unit_plan.specs.LinkLine.{aos_at, frame_at, frame_of, is_layout, link_said, mask_at, mask_of, mask_said, tc_at, tm_at}
+use Rattle.unit_plan.specs.LinkLine.{aos_at, frame_at, frame_of, is_layout, link_said, mask_at, mask_of, mask_said}
+use Rattle.unit_plan.specs.LinkLine.{tc_at, tm_at}
 use Rattle.unit_plan.specs.PlanRules.{IsAssociation}
 use Rattle.unit_plan.specs.Reading.{◌>>=◌, end_of, first_of, ok_of}
 use Rattle.unit_plan.proofs.ChannelIds.{channel_ids_iff}
 
 -- a value behind another
-behind : {A B : Type 0} (o : Option A) (f : A → Option B) (y : B) → (o >>= f) ≡ Some y → (x : A) × (o ≡ Some x) × (f x ≡ Some y)
+behind : {A B : Type 0} (o : Option A) (f : A → Option B) (y : B) → (o >>= f) ≡ Some y
+    → (x : A) × (o ≡ Some x) × (f x ≡ Some y)
 behind (Some x) f y h = (x, refl, h)
 behind None f y h = absurd (none-some y h)
 
@@ -81,20 +84,24 @@ usual_low : (segment : Bool) → (usual_tc segment).length ≤ 6
 usual_low true = omega arith
 usual_low false = omega arith
 
-said_low : (usual : Mask) (word : List ℕ) (mask : Mask) → usual.length ≤ 6 → mask_said usual word ≡ Some mask → mask.length ≤ 6
+said_low : (usual : Mask) (word : List ℕ) (mask : Mask) → usual.length ≤ 6 → mask_said usual word ≡ Some mask
+    → mask.length ≤ 6
 said_low usual word mask low h = go (bytes_eq word (codes "-")) (decoded usual.length word) h
   where
-    go : (b : Bool) (o : Option (List ℕ)) → (if b then Some usual else option_map (mask_of usual.length) o) ≡ Some mask → mask.length ≤ 6
+    go : (b : Bool) (o : Option (List ℕ)) → (if b then Some usual else option_map (mask_of usual.length) o) ≡ Some mask
+        → mask.length ≤ 6
     go true o h = subst (λ (m : Mask). m.length ≤ 6) (same_Some usual mask h) low
     go false None h = absurd (none-some mask h)
     go false (Some octets) h = subst (λ (m : Mask). m.length ≤ 6) (same_Some (mask_of usual.length octets) mask h) low
 
-mask_low : (usual : Mask) (words : List (List ℕ)) (read : Mask × List (List ℕ)) → usual.length ≤ 6 → mask_at usual words ≡ Some read → read.0.length ≤ 6
+mask_low : (usual : Mask) (words : List (List ℕ)) (read : Mask × List (List ℕ)) → usual.length ≤ 6
+    → mask_at usual words ≡ Some read → read.0.length ≤ 6
 unfolding mask_at
 mask_low usual words read low h =
     let word = behind (first_of words) _ read h in
     let mask = behind (mask_said usual word.0.0) _ read word.2 in
-    subst (λ (r : Mask × List (List ℕ)). r.0.length ≤ 6) (same_Some _ read mask.2) (said_low usual word.0.0 mask.0 low mask.1)
+    subst (λ (r : Mask × List (List ℕ)). r.0.length ≤ 6) (same_Some _ read mask.2)
+    (said_low usual word.0.0 mask.0 low mask.1)
 
 -- a link has the mask that was read
 with_mask : (layout : AnyLayout) (mask : Mask × List (List ℕ)) (read : Link × List (List ℕ))
@@ -128,10 +135,13 @@ aos_low words read h =
     let mask = behind (mask_at usual_aos fecf.0.1) _ read fecf.2 in
     with_mask _ mask.0 read mask.2 (mask_low usual_aos fecf.0.1 mask.0 (omega arith) mask.1)
 
-frame_of_low : (kind : List ℕ) (words : List (List ℕ)) (read : Link × List (List ℕ)) → frame_of kind words ≡ Some read → read.0.mask.length ≤ 6
-frame_of_low kind words read h = go (bytes_eq kind (codes "tc")) (bytes_eq kind (codes "tm")) (bytes_eq kind (codes "aos")) h
+frame_of_low : (kind : List ℕ) (words : List (List ℕ)) (read : Link × List (List ℕ)) → frame_of kind words ≡ Some read
+    → read.0.mask.length ≤ 6
+frame_of_low kind words read h =
+    go (bytes_eq kind (codes "tc")) (bytes_eq kind (codes "tm")) (bytes_eq kind (codes "aos")) h
   where
-    go : (tc tm aos : Bool) → (if tc then tc_at words else (if tm then tm_at words else (if aos then aos_at words else None))) ≡ Some read
+    go : (tc tm aos : Bool)
+        → (if tc then tc_at words else (if tm then tm_at words else (if aos then aos_at words else None))) ≡ Some read
         → read.0.mask.length ≤ 6
     go true tm aos h = tc_low words read h
     go false true aos h = tm_low words read h
@@ -157,13 +167,19 @@ layout_within (Tm layout) h =
     let parts = and_parts (nat_le 48 layout.length) (nat_le layout.length 2048) h in
     (leb-true 48 layout.length parts.0, leb-true layout.length 2048 parts.1)
 layout_within (Aos layout) h =
-    let parts = and_parts (nat_le layout.insert 64) (nat_le (48 + layout.insert) layout.length && nat_le layout.length 2048) h in
-    let sizes = and_parts (nat_le (48 + layout.insert) layout.length) (nat_le layout.length 2048) parts.1 in
-    (leb-true layout.insert 64 parts.0, leb-true (48 + layout.insert) layout.length sizes.0, leb-true layout.length 2048 sizes.1)
+    let parts =
+    and_parts (nat_le layout.insert 64) (nat_le (48 + layout.insert) layout.length && nat_le layout.length 2048)
+    h in
+    let sizes = and_parts (nat_le (48 + layout.insert) layout.length) (nat_le layout.length 2048) parts.1 in (
+      leb-true layout.insert 64 parts.0,
+      leb-true (48 + layout.insert) layout.length sizes.0,
+      leb-true layout.length 2048 sizes.1,
+    )
 
 -- ---- associations
 
-pub association_within : (line : ℕ) (said : _) (found : PlanSa) → association_of line said ≡ Some found → IsAssociation found
+pub association_within : (line : ℕ) (said : _) (found : PlanSa) → association_of line said ≡ Some found
+    → IsAssociation found
 unfolding association_of
 association_within line said found h =
     let spi = behind (bounded 1 65534 said.before.spi) _ found h in

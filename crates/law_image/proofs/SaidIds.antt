@@ -1,5 +1,6 @@
 -- The identifiers that the line of an association gives are of their types, for `beginning_shows`.
-use Rattle.std.proofs.Common.{◌≡◌, ℕ, ◌≤◌, ◌^◌, Bool, true, false, Option, Some, None, refl, subst, arith, if◌then◌else◌}
+use Rattle.std.proofs.Common.{◌≡◌, ℕ, ◌≤◌, ◌^◌, Bool, true, false, Option, Some, None, refl, subst, arith}
+use Rattle.std.proofs.Common.{if◌then◌else◌}
 use Rattle.std.proofs.lemmas.Option.{none-some, same_Some}
 use Rattle.sdls_base.specs.declared.TheConstants.{MOST_WINDOW}
 use Rattle.book_record.specs.Record.{IsKey, IsSpi}
@@ -10,7 +11,8 @@ use Rattle.unit_plan.specs.declared.plan.PlanSa.{PlanSa}
 use Rattle.law_image.proofs.Said.{bounded_within}
 
 -- a value behind another
-behind : {A B : Type 0} (o : Option A) (f : A → Option B) (y : B) → (o >>= f) ≡ Some y → (x : A) × (o ≡ Some x) × (f x ≡ Some y)
+behind : {A B : Type 0} (o : Option A) (f : A → Option B) (y : B) → (o >>= f) ≡ Some y
+    → (x : A) × (o ≡ Some x) × (f x ≡ Some y)
 behind (Some x) f y h = (x, refl, h)
 behind None f y h = absurd (none-some y h)
 

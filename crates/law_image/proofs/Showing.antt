@@ -1,5 +1,6 @@
 -- Each image shows a state or is refused: for `refused_exactly`.
-use Rattle.std.proofs.Common.{◌≡◌, ◌⊎◌, inl, inr, ℕ, ◌+◌, suc, zero, List, [], ◌∷◌, Option, None, Some, Result, Ok, Err, refl, sym, ◌∙◌, subst}
+use Rattle.std.proofs.Common.{◌≡◌, ◌⊎◌, inl, inr, ℕ, ◌+◌, suc, zero, List, [], ◌∷◌, Option, None, Some, Result, Ok, Err}
+use Rattle.std.proofs.Common.{refl, sym, ◌∙◌, subst}
 use Rattle.std.proofs.lemmas.Bool.{cases_eq}
 use Rattle.sdls_base.specs.declared.change.Change.{Change}
 use Rattle.unit_plan.specs.declared.plan_error.PlanFault.{PlanFault}
@@ -30,12 +31,14 @@ decided_empty [] = inl refl
 decided_empty (x ∷ xs) = inr (λ is. cc)
 
 -- the bodies lead to a state, or one of them is the first that is no record of a change that is allowed
-led : OfItsKind → (state : State) (bodies : List (List ℕ)) → ((last : State) × LeadTo state bodies last) ⊎ ((place : ℕ) × IsBadRecord state bodies place)
+led : OfItsKind → (state : State) (bodies : List (List ℕ)) → ((last : State) × LeadTo state bodies last)
+    ⊎ ((place : ℕ) × IsBadRecord state bodies place)
 led law state [] = inl (state, refl)
 led law state (body ∷ bodies) = go (λ after. led law after bodies) (taken law state body)
   where
     rest : (change : Change) → IsRecord change body → Allows state change
-        → (((last : State) × LeadTo (applied state change) bodies last) ⊎ ((place : ℕ) × IsBadRecord (applied state change) bodies place))
+        → (((last : State) × LeadTo (applied state change) bodies last)
+        ⊎ ((place : ℕ) × IsBadRecord (applied state change) bodies place))
         → ((last : State) × LeadTo state (body ∷ bodies) last) ⊎ ((place : ℕ) × IsBadRecord state (body ∷ bodies) place)
     rest change is_record allows (inl more) = inl (more.0, (change, is_record, allows, more.1))
     rest change is_record allows (inr bad) = inr (
@@ -47,11 +50,13 @@ led law state (body ∷ bodies) = go (λ after. led law after bodies) (taken law
       },
     )
 
-    go : ((after : State) → ((last : State) × LeadTo after bodies last) ⊎ ((place : ℕ) × IsBadRecord after bodies place))
+    go : ((after : State) → ((last : State) × LeadTo after bodies last)
+        ⊎ ((place : ℕ) × IsBadRecord after bodies place))
         → (IsTaken state body ⊎ ((change : Change) → IsRecord change body → ¬ Allows state change))
         → ((last : State) × LeadTo state (body ∷ bodies) last) ⊎ ((place : ℕ) × IsBadRecord state (body ∷ bodies) place)
     go more (inl is) = rest is.0 is.1 is.2 (more (applied state is.0))
-    go more (inr off) = inr (zero, record { before = state; led = refl; unfit = record { body = body; there = refl; bad = off } })
+    go more (inr off) =
+        inr (zero, record { before = state; led = refl; unfit = record { body = body; there = refl; bad = off } })
 
 -- whether a text is a plan without keys and associations
 bare_plan : (text : List ℕ) → Decided ((plan : PlanLines) × SaysBarePlan text plan)
@@ -61,10 +66,12 @@ bare_plan text = of (plan_of text) refl
     of_lines plan read = decided_as (decided_and (decided_empty plan.keys) (decided_empty plan.associations))
         (λ both. (plan, record { read = read; no_keys = both.0; no_associations = both.1 }))
         (λ (other, said).
-        subst (λ (lines : PlanLines). (lines.keys ≡ []) × (lines.associations ≡ [])) (same_plan (plan_of text) other plan said.read read)
+        subst (λ (lines : PlanLines). (lines.keys ≡ []) × (lines.associations ≡ []))
+        (same_plan (plan_of text) other plan said.read read)
         (said.no_keys, said.no_associations))
 
-    of : (read : Result PlanLines PlanFault) → plan_of text ≡ read → Decided ((plan : PlanLines) × SaysBarePlan text plan)
+    of : (read : Result PlanLines PlanFault) → plan_of text ≡ read
+        → Decided ((plan : PlanLines) × SaysBarePlan text plan)
     of (Ok plan) is = of_lines plan is
     of (Err fault) is = inr (λ (plan, said). no_plan plan fault (sym said.read ∙ is))
 
@@ -74,7 +81,8 @@ module _ (law : OfItsKind) (image : List ℕ) (sound : image_fault image ≡ Non
   Either = ((state : State) × Shows image state) ⊎ ((offset : ℕ) × SaysNone image (held image) offset)
 
   of_records : (first : State) → Begins (held image) first
-      → (((last : State) × LeadTo first (held image).records last) ⊎ ((place : ℕ) × IsBadRecord first (held image).records place)) → Either
+      → (((last : State) × LeadTo first (held image).records last)
+      ⊎ ((place : ℕ) × IsBadRecord first (held image).records place)) → Either
   of_records first begins (inl more) = inl (
     restarted more.0,
     record {
@@ -88,7 +96,8 @@ module _ (law : OfItsKind) (image : List ℕ) (sound : image_fault image ≡ Non
   of_content : (plan : PlanLines) → SaysBarePlan (held image).plan plan → plan.slots ≡ (held image).slots
       → Decided ((state : State) × IsContentUnder plan (held image).version (held image).content state) → Either
   of_content plan said same (inl content) = of_records content.0
-      (record { plan = plan; said = said; same_slots = same; content = content.1 }) (led law content.0 (held image).records)
+      (record { plan = plan; said = said; same_slots = same; content = content.1 })
+      (led law content.0 (held image).records)
   of_content plan said same (inr off) =
       inr (current_at image + CONTENT_AT, inr (inr (inl (plan, said, same, (λ state is. off (state, is)), refl))))
 
@@ -103,10 +112,12 @@ module _ (law : OfItsKind) (image : List ℕ) (sound : image_fault image ≡ Non
   says = of_plan (bare_plan (held image).plan)
 
 -- an image shows a state, or is refused with an offset
-pub shows_or_none : OfItsKind → (image : List ℕ) → ((state : State) × Shows image state) ⊎ ((offset : ℕ) × ShowsNone image offset)
+pub shows_or_none : OfItsKind → (image : List ℕ) → ((state : State) × Shows image state)
+    ⊎ ((offset : ℕ) × ShowsNone image offset)
 shows_or_none law image = go (image_fault image) refl
   where
-    go : (fault : Option ℕ) → image_fault image ≡ fault → ((state : State) × Shows image state) ⊎ ((offset : ℕ) × ShowsNone image offset)
+    go : (fault : Option ℕ) → image_fault image ≡ fault → ((state : State) × Shows image state)
+        ⊎ ((offset : ℕ) × ShowsNone image offset)
     go (Some offset) is = inr (offset, inl is)
     go None is = elim (says law image is) [
       | inl shown ↦ inl shown

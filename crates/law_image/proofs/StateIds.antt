@@ -1,12 +1,15 @@
 -- The identifiers and digests of a state's rows are of their types: each change keeps that, and so the lines of a plan
 -- make such a state. For `beginning_shows`.
-use Rattle.std.proofs.Common.{◌≡◌, ℕ, Bool, true, false, nat_le, ◌==◌, List, [], ◌∷◌, length, get_or, map, take, drop, Option, Some, None, IfSome, is_none, Ok, refl, sym, subst, if◌then◌else◌}
+use Rattle.std.proofs.Common.{◌≡◌, ℕ, Bool, true, false, nat_le, ◌==◌, List, [], ◌∷◌, length, get_or, map, take, drop}
+use Rattle.std.proofs.Common.{Option, Some, None, IfSome, is_none, Ok, refl, sym, subst, if◌then◌else◌}
 use Rattle.std.specs.Bool.{⊤}
 use Rattle.std.specs.List.{All, AllByRecursion, insert}
-use Rattle.std.proofs.lemmas.List.Elements.{All-append, All-cons, All-drop, All-filter, All-map, All-nil, All-take, recursion_from_All}
+use Rattle.std.proofs.lemmas.List.Elements.{All-append, All-cons, All-drop, All-filter, All-map, All-nil, All-take}
+use Rattle.std.proofs.lemmas.List.Elements.{recursion_from_All}
 use Rattle.sha2.proofs.Facts256.{length-sha256}
 use Rattle.sdls_base.specs.declared.change.Change.{Change}
-use Rattle.sdls_base.specs.declared.change.Change.TheVariants.{Marks, Load, KeyStates, Create, Rekey, SaTo, SetNumber, SetWindow, Accepted, Nothing}
+use Rattle.sdls_base.specs.declared.change.Change.TheVariants.{Marks, Load, KeyStates, Create, Rekey, SaTo, SetNumber}
+use Rattle.sdls_base.specs.declared.change.Change.TheVariants.{SetWindow, Accepted, Nothing}
 use Rattle.sdls_base.specs.declared.key_item.KeyItem.{KeyItem}
 use Rattle.sdls_base.specs.declared.states.Direction.{Direction}
 use Rattle.sdls_base.specs.declared.states.Direction.TheVariants.{Send, Receive}
@@ -28,7 +31,8 @@ use Rattle.unit_plan.specs.PlanError.{◌>>=◌, check}
 use Rattle.unit_plan.specs.PlanLines.{PlanLines}
 use Rattle.unit_state.specs.declared.state.State.{State}
 use Rattle.unit_state.specs.Applied.{applied, direction_of, in_state, key_held, numbered}
-use Rattle.unit_state.specs.Initial.{activated_if, bare, created, in_order, initial, keyed, line_made, lines_made, loaded, started, takes_key, RowLine, OfKey, OfAssociation}
+use Rattle.unit_state.specs.Initial.{activated_if, bare, created, in_order, initial, keyed, line_made, lines_made}
+use Rattle.unit_state.specs.Initial.{loaded, started, takes_key, RowLine, OfKey, OfAssociation}
 use Rattle.book_record.specs.Record.{IsKey, IsSpi}
 use Rattle.law_image.proofs.Planned.{behind, same_ok}
 use Rattle.law_image.proofs.SaidIds.{NamesRows}
@@ -63,40 +67,52 @@ picked : {X : Type 0} (P : X → Type 0) (b : Bool) (x y : X) → P x → P y �
 picked P true x y p q = p
 picked P false x y p q = q
 
-all_mapped : {X : Type 0} (P : X → Type 0) (f : X → X) (xs : List X) → ((x : X) → P x → P (f x)) → All P xs → All P (map f xs)
+all_mapped : {X : Type 0} (P : X → Type 0) (f : X → X) (xs : List X) → ((x : X) → P x → P (f x)) → All P xs
+    → All P (map f xs)
 all_mapped P f xs keeps all = All-map P f xs (λ k d low. keeps (get_or xs k d) (all k d low))
 
-all_picked : {X : Type 0} (P : X → Type 0) (p : X → Bool) (f : X → X) (xs : List X) → ((x : X) → P x → P (f x)) → All P xs
+all_picked : {X : Type 0} (P : X → Type 0) (p : X → Bool) (f : X → X) (xs : List X) → ((x : X) → P x → P (f x))
+    → All P xs
     → All P (map (λ x. if p x then f x else x) xs)
 all_picked P p f xs keeps all =
     all_mapped P (λ x. if p x then f x else x) xs (λ x named. picked P (p x) (f x) x (keeps x named) named) all
 
 all_inserted : {X : Type 0} (P : X → Type 0) (xs : List X) (n : ℕ) (x : X) → P x → All P xs → All P (insert xs n x)
-all_inserted P xs n x own all = All-append P (take n xs) (x ∷ drop n xs) (All-take P n xs all) (All-cons P x (drop n xs) own (All-drop P n xs all))
+all_inserted P xs n x own all =
+    All-append P (take n xs) (x ∷ drop n xs) (All-take P n xs all) (All-cons P x (drop n xs) own (All-drop P n xs all))
 
 -- ---- one change
 
-new_named : (items : List KeyItem) → AllByRecursion (λ (item : KeyItem). IsKey item.id) items → All IsNamedKey (map keys.new_row items)
+new_named : (items : List KeyItem) → AllByRecursion (λ (item : KeyItem). IsKey item.id) items
+    → All IsNamedKey (map keys.new_row items)
 new_named [] each = All-nil IsNamedKey
 new_named (item ∷ items) each =
-    All-cons IsNamedKey (keys.new_row item) (map keys.new_row items) (each.0, length-sha256 item.bytes) (new_named items each.1)
+    All-cons IsNamedKey (keys.new_row item) (map keys.new_row items) (each.0, length-sha256 item.bytes)
+    (new_named items each.1)
 
 numbered_named : (rows : List KeyRow) (direction : Option Direction) (key : Option ℕ) (number : ℕ) → All IsNamedKey rows
     → All IsNamedKey (numbered rows direction key number)
 numbered_named rows (Some Send) (Some key) number all =
-    all_picked IsNamedKey (λ row. row.id == key) (λ row. record row { mark = _ }) rows (λ row named. (named.0, named.1)) all
+    all_picked IsNamedKey (λ row. row.id == key) (λ row. record row { mark = _ }) rows (λ row named. (named.0, named.1))
+    all
 numbered_named rows (Some Receive) (Some key) number all =
-    all_picked IsNamedKey (λ row. row.id == key) (λ row. record row { floor = _ }) rows (λ row named. (named.0, named.1)) all
+    all_picked IsNamedKey (λ row. row.id == key) (λ row. record row { floor = _ }) rows
+    (λ row named. (named.0, named.1)) all
 numbered_named rows None key number all = all
 numbered_named rows (Some direction) None number all = all
 
-taken_state : (rows : List SaRow) (spi : ℕ) (to : Option SaState) → All IsNamedSa rows → All IsNamedSa (in_state rows spi to)
+taken_state : (rows : List SaRow) (spi : ℕ) (to : Option SaState) → All IsNamedSa rows
+    → All IsNamedSa (in_state rows spi to)
 taken_state rows spi None all = All-filter _ IsNamedSa rows all
-taken_state rows spi (Some Unkeyed) all = all_picked IsNamedSa (λ row. row.spi == spi) _ rows (λ row named. (named.0, tt)) all
-taken_state rows spi (Some Keyed) all = all_picked IsNamedSa (λ row. row.spi == spi) _ rows (λ row named. (named.0, named.1)) all
-taken_state rows spi (Some Operational) all = all_picked IsNamedSa (λ row. row.spi == spi) _ rows (λ row named. (named.0, named.1)) all
+taken_state rows spi (Some Unkeyed) all =
+    all_picked IsNamedSa (λ row. row.spi == spi) _ rows (λ row named. (named.0, tt)) all
+taken_state rows spi (Some Keyed) all =
+    all_picked IsNamedSa (λ row. row.spi == spi) _ rows (λ row named. (named.0, named.1)) all
+taken_state rows spi (Some Operational) all =
+    all_picked IsNamedSa (λ row. row.spi == spi) _ rows (λ row named. (named.0, named.1)) all
 
-pub applied_named : (state : State) (change : Change) → BringsNames change → IsNamed state → IsNamed (applied state change)
+pub applied_named : (state : State) (change : Change) → BringsNames change → IsNamed state
+    → IsNamed (applied state change)
 applied_named state (Marks key mark floor) brings named = record {
   keys = all_picked IsNamedKey (λ row. row.id == key) _ state.keys (λ row own. (own.0, own.1)) named.keys;
   associations = all_picked IsNamedSa _ _ state.associations (λ row own. (own.0, own.1)) named.associations;
@@ -116,7 +132,8 @@ applied_named state (Create new) brings named = record {
 }
 applied_named state (Rekey spi key number) brings named = record {
   keys = numbered_named state.keys (direction_of state spi) (Some key) number named.keys;
-  associations = all_picked IsNamedSa (λ row. row.spi == spi) _ state.associations (λ row own. (own.0, brings)) named.associations;
+  associations = all_picked IsNamedSa (λ row. row.spi == spi) _ state.associations (λ row own. (own.0, brings))
+      named.associations;
 }
 applied_named state (SaTo spi to) brings named = record {
   keys = named.keys;
@@ -124,15 +141,18 @@ applied_named state (SaTo spi to) brings named = record {
 }
 applied_named state (SetNumber spi number) brings named = record {
   keys = numbered_named state.keys (direction_of state spi) (key_held state spi) number named.keys;
-  associations = all_picked IsNamedSa (λ row. row.spi == spi) _ state.associations (λ row own. (own.0, own.1)) named.associations;
+  associations = all_picked IsNamedSa (λ row. row.spi == spi) _ state.associations (λ row own. (own.0, own.1))
+      named.associations;
 }
 applied_named state (SetWindow spi window) brings named = record {
   keys = named.keys;
-  associations = all_picked IsNamedSa (λ row. row.spi == spi) _ state.associations (λ row own. (own.0, own.1)) named.associations;
+  associations = all_picked IsNamedSa (λ row. row.spi == spi) _ state.associations (λ row own. (own.0, own.1))
+      named.associations;
 }
 applied_named state (Accepted spi key number floor) brings named = record {
   keys = all_picked IsNamedKey (λ row. row.id == key) _ state.keys (λ row own. (own.0, own.1)) named.keys;
-  associations = all_picked IsNamedSa (λ row. row.spi == spi) _ state.associations (λ row own. (own.0, own.1)) named.associations;
+  associations = all_picked IsNamedSa (λ row. row.spi == spi) _ state.associations (λ row own. (own.0, own.1))
+      named.associations;
 }
 applied_named state Nothing brings named = named
 
@@ -157,11 +177,14 @@ IsNamedLine (OfKey key) = NamesKey key
 IsNamedLine (OfAssociation found) = NamesRows found
 
 -- what each change keeps, the lines of a plan keep
-module _ (P : State → Type 0) (kept : (state : State) (change : Change) → BringsNames change → P state → P (applied state change)) where
-  activated_kept : (state next : State) (key : PlanKey) (to : KeyState) → P state → activated_if state key to ≡ Ok next → P next
+module _ (P : State → Type 0) (kept : (state : State) (change : Change) → BringsNames change → P state
+    → P (applied state change)) where
+  activated_kept : (state next : State) (key : PlanKey) (to : KeyState) → P state → activated_if state key to ≡ Ok next
+      → P next
   activated_kept state next key PreActive holds h = subst P (same_ok state next h) holds
   activated_kept state next key Active holds h =
-      let taken = behind (check key.line Refused (is_none (moves_refusal state.keys (key.item.id ∷ []) Active []))) _ next h in
+      let taken = behind (check key.line Refused (is_none (moves_refusal state.keys (key.item.id ∷ []) Active [])))
+      _ next h in
       subst P (same_ok _ next taken.2) (kept state (KeyStates (key.item.id ∷ []) Active) tt holds)
   activated_kept state next key Deactivated holds h = subst P (same_ok state next h) holds
   activated_kept state next key Destroyed holds h = subst P (same_ok state next h) holds
@@ -171,11 +194,15 @@ module _ (P : State → Type 0) (kept : (state : State) (change : Change) → Br
       let taken = behind (check key.line Refused (is_none (load_refusal state.keys (key.item ∷ [])))) _ next h in
       subst P (same_ok _ next taken.2)
       (kept state (Load (key.item ∷ []))
-      (All-cons (λ (item : KeyItem). IsKey item.id) key.item [] named (All-nil (λ (item : KeyItem). IsKey item.id))) holds)
+      (All-cons (λ (item : KeyItem). IsKey item.id) key.item [] named (All-nil (λ (item : KeyItem). IsKey item.id)))
+      holds)
 
-  created_kept : (state next : State) (found : PlanSa) → NamesRows found → P state → created state found ≡ Ok next → P next
+  created_kept : (state next : State) (found : PlanSa) → NamesRows found → P state → created state found ≡ Ok next
+      → P next
   created_kept state next found named holds h =
-      let taken = behind (check found.line Refused (is_none (create_refusal state.associations found.sa state.channels))) _ next h in
+      let taken =
+      behind (check found.line Refused (is_none (create_refusal state.associations found.sa state.channels))) _ next
+      h in
       subst P (same_ok _ next taken.2) (kept state (Create found.sa) named.0 holds)
 
   keyed_kept : (state next : State) (found : PlanSa) → NamesRows found → P state → keyed state found ≡ Ok next → P next
@@ -185,10 +212,12 @@ module _ (P : State → Type 0) (kept : (state : State) (change : Change) → Br
 
   started_kept : (state next : State) (found : PlanSa) → P state → started state found ≡ Ok next → P next
   started_kept state next found holds h =
-      let taken = behind (check found.line Refused (is_none (start_refusal state.associations found.sa.spi))) _ next h in
+      let taken = behind (check found.line Refused (is_none (start_refusal state.associations found.sa.spi))) _ next
+      h in
       subst P (same_ok _ next taken.2) (kept state (SaTo found.sa.spi (Some Operational)) tt holds)
 
-  line_kept : (state next : State) (line : RowLine) → IsNamedLine line → P state → line_made state line ≡ Ok next → P next
+  line_kept : (state next : State) (line : RowLine) → IsNamedLine line → P state → line_made state line ≡ Ok next
+      → P next
   line_kept state next (OfKey key) named holds h =
       let ready = behind (loaded state key) (λ mid. activated_if mid key key.state) next h in
       activated_kept ready.0 next key key.state (loaded_kept state ready.0 key named holds ready.1) ready.2
@@ -196,9 +225,11 @@ module _ (P : State → Type 0) (kept : (state : State) (change : Change) → Br
       let unkeyed = behind (created state found) (λ mid. keyed mid found >>= λ stopped. started stopped found) next h in
       let stopped = behind (keyed unkeyed.0 found) (λ mid. started mid found) next unkeyed.2 in
       started_kept stopped.0 next found
-      (keyed_kept unkeyed.0 stopped.0 found named (created_kept state unkeyed.0 found named holds unkeyed.1) stopped.1) stopped.2
+      (keyed_kept unkeyed.0 stopped.0 found named (created_kept state unkeyed.0 found named holds unkeyed.1) stopped.1)
+      stopped.2
 
-  pub lines_kept : (state next : State) (lines : List RowLine) → AllByRecursion IsNamedLine lines → P state → lines_made state lines ≡ Ok next → P next
+  pub lines_kept : (state next : State) (lines : List RowLine) → AllByRecursion IsNamedLine lines → P state
+      → lines_made state lines ≡ Ok next → P next
   lines_kept state next [] named holds h = subst P (same_ok state next h) holds
   lines_kept state next (line ∷ lines) named holds h =
       let mid = behind (line_made state line) (λ mid. lines_made mid lines) next h in
@@ -208,12 +239,14 @@ named_keys : (some : List PlanKey) → AllByRecursion NamesKey some → AllByRec
 named_keys [] named = tt
 named_keys (key ∷ some) named = (named.0, named_keys some named.1)
 
-named_lines : (some : List PlanKey) (associations : List PlanSa) → AllByRecursion NamesKey some → AllByRecursion NamesRows associations
+named_lines : (some : List PlanKey) (associations : List PlanSa) → AllByRecursion NamesKey some
+    → AllByRecursion NamesRows associations
     → AllByRecursion IsNamedLine (in_order some associations)
 named_lines some [] own named = named_keys some own
 named_lines [] (found ∷ associations) own named = (named.0, named_lines [] associations own named.1)
 named_lines (key ∷ some) (found ∷ associations) own named =
-    picked (AllByRecursion IsNamedLine) (nat_le found.line key.line) (OfAssociation found ∷ in_order (key ∷ some) associations)
+    picked (AllByRecursion IsNamedLine) (nat_le found.line key.line)
+    (OfAssociation found ∷ in_order (key ∷ some) associations)
     (OfKey key ∷ in_order some (found ∷ associations)) (named.0, named_lines (key ∷ some) associations own named.1)
     (own.0, named_lines some (found ∷ associations) own.1 named)
 

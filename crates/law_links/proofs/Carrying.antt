@@ -41,7 +41,8 @@ run_tells run is =
           given.deed.answer.key given.deed.answer.number fits (code, refl, refl) in
           let within = slice_get_within run.course.entries (given.deed.answer.position - 1) _ opening.stands.there in
           got (NearWord run.course.begin.start run.course.entries (records_of run.places)) given
-          (rules_along run.course.begin.plan run.course.begin.start (records_of run.places) (TurnIn run.places) run.course.entries
+          (rules_along run.course.begin.plan run.course.begin.start (records_of run.places) (TurnIn run.places)
+          run.course.entries
           (of_places run.course.begin.plan run.course.begin.start run.places run.course.entries is.sound.history)
           (given.deed.answer.position - 1) (omega arith)) fits code;
     }))
@@ -155,7 +156,8 @@ pub arrived_once : FrameOpens → UsedOnce → (takes : Given → Given → Type
     (sender receiver : List LifeRun) → IsLife image sender → IsLife other receiver
     → AssociationsAgree takes sender receiver
     → AllPairs (λ one two. ¬ AreRepeated takes (released_in sender) one two) (given_in receiver)
-arrived_once law once takes taking image other sender receiver life again agree i j d lt low (sent, there, first, second) =
+arrived_once law once takes taking image other sender receiver life again agree i j d lt low
+    (sent, there, first, second) =
     let here : Contains (given_in receiver) (slice_index_or (given_in receiver) i d) =
     Contains-get_or (given_in receiver) i d (omega arith) in
     let also : Contains (given_in receiver) (slice_index_or (given_in receiver) j d) =

@@ -41,8 +41,10 @@ pub opened_alike : OpensWhatWasSealed → (b c : Binding) (frame arrived : List 
 opened_alike law b c frame arrived n m field other agree alike x y =
     let framed : IsFrame b.link.layout y.parts arrived =
     subst (λ (l : AnyLayout). IsFrame l y.parts arrived) (sym agree.layout) y.framed in
-    let first : x.parts ≡ alike.parts = one_frame b.link.layout x.parts alike.parts frame x.framed alike.released_framed in
-    let second : y.parts ≡ alike.others = one_frame b.link.layout y.parts alike.others arrived framed alike.arrived_framed in
+    let first : x.parts ≡ alike.parts =
+    one_frame b.link.layout x.parts alike.parts frame x.framed alike.released_framed in
+    let second : y.parts ≡ alike.others =
+    one_frame b.link.layout y.parts alike.others arrived framed alike.arrived_framed in
     let rooms : room_of x.parts ≡ room_of y.parts =
     ap room_of first ∙ sym alike.room ∙ ap room_of (sym second) in
     let prefixes : masked_octets (prefix_of b.link.layout y.parts) (mask_octets b.link.mask)

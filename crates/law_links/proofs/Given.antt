@@ -64,7 +64,8 @@ module _ (near : ℕ → ℕ → Type 0) (course : Course) (task : Record) (answ
       → IsProtected near course task answer
   protected_by Protect (inl h) of = h
   protected_by Protect (inr (inl h)) of =
-      absurd (not_unbound (protect_reply course.begin.plan (state_in course answer.position) task.link task.octets) h.told)
+      absurd (not_unbound (protect_reply course.begin.plan (state_in course answer.position) task.link task.octets)
+      h.told)
   protected_by Protect (inr (inr (inl h))) of = absurd (other_code _ h.told refl)
   protected_by Protect (inr (inr (inr (inl h)))) of = absurd (other_code _ h.tells.told refl)
   protected_by Protect (inr (inr (inr (inr (inl h))))) of = absurd (other_code _ h.tells.told refl)
@@ -292,7 +293,8 @@ got near given rules fits code =
     let found : IsFound given.course.begin.plan (state_before given.course given.deed.answer) given.deed.task.link
     given.deed.task.octets given.deed.answer.key
     given.deed.answer.number given.deed.answer.body =
-    found_by given.course.begin.plan (state_before given.course given.deed.answer) given.deed.task.link given.deed.task.octets
+    found_by given.course.begin.plan (state_before given.course given.deed.answer) given.deed.task.link
+    given.deed.task.octets
     given.deed.answer code is.reply is.field is.told
     (reply_finds given.course.begin.plan (state_before given.course given.deed.answer) given.deed.task.link
     given.deed.task.octets is.field is.reply is.replies) in

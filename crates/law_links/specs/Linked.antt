@@ -22,8 +22,10 @@ DeliversReleased key events sender receiver = (got : Given) → Contains (given_
     × ((sent : Given) → slice_get (released_in sender) frame ≡ Some sent
     → got.deed.task.octets ≡ sent.deed.answer.body)
 
--- Premise: what the link may change of a frame is what the MAC does not cover. Each frame that the receiver accepts under
--- the key arrived at one of these events, and agrees on all that is covered with the frame that the sender released with
+-- Premise: what the link may change of a frame is what the MAC does not cover. Each frame that the receiver accepts
+-- under
+-- the key arrived at one of these events, and agrees on all that is covered with the frame that the sender released
+-- with
 -- its number.
 abbrev pub DeliversCovered : ℕ → List LinkEvent → List LifeRun → List LifeRun → Type 0
 DeliversCovered key events sender receiver = (got : Given) → Contains (given_in receiver) got → AcceptsUnder key got

@@ -11,13 +11,15 @@ use Rattle.unit_state.specs.declared.state.State.{State}
 use Rattle.run_promise.specs.Fits.{Course, CanAppend, IsUnmarked, MayAppend}
 use Rattle.run_promise.specs.History.{SeenNear}
 
-seen_near : (near far : ℕ → ℕ → Type 0) → ((k n : ℕ) → near k n → far k n) → (k : ℕ) (seen : Seen) → SeenNear near k seen → SeenNear far k seen
+seen_near : (near far : ℕ → ℕ → Type 0) → ((k n : ℕ) → near k n → far k n) → (k : ℕ) (seen : Seen)
+    → SeenNear near k seen → SeenNear far k seen
 seen_near near far more k seens.Nothing h = h
 seen_near near far more k (seens.Word n) h = more k n h
 seen_near near far more k (seens.Number n) h = more k n h
 seen_near near far more k (seens.Exhausted n) h = more k n h
 
-module _ (near far : ℕ → ℕ → Type 0) (more : (k n : ℕ) → near k n → far k n) (plan : PlanLines) (start : State) (es : List Entry)
+module _ (near far : ℕ → ℕ → Type 0) (more : (k n : ℕ) → near k n → far k n) (plan : PlanLines) (start : State)
+    (es : List Entry)
     (rows rows' before faults before' faults' : ℕ) (told told' : Bool) where
   abbrev old : Course
   old = record {
@@ -66,7 +68,8 @@ module _ (near far : ℕ → ℕ → Type 0) (more : (k n : ℕ) → near k n �
     step = h.step;
     changes = h.changes;
   })
-  append Command p task (inr h) = inr (record { key = h.key; number = h.number; needs = h.needs; is = unmarked _ h.key h.number h.is })
+  append Command p task (inr h) =
+      inr (record { key = h.key; number = h.number; needs = h.needs; is = unmarked _ h.key h.number h.is })
   append Monitor p task h = absurd h
 
   pub may_append : (p : ℕ) (task : Record) → MayAppend near old p task → MayAppend far new p task

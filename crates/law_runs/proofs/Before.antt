@@ -17,7 +17,8 @@ module _ (once : ShowsOnce) (key number : ℕ) where
   -- what holds of a state that a run reaches from its start, holds of each state that it leaves
   passed_on : (P : State → Type 0) (run : LifeRun) → IsRun run → HasOneClosed run.start
       → ((state : State) → IsShown run.start state → P state)
-      → ((p : ℕ) → p ≤ length run.course.entries → P (restarted (after_first run.course.begin.start run.course.entries p)))
+      → ((p : ℕ) → p ≤ length run.course.entries
+      → P (restarted (after_first run.course.begin.start run.course.entries p)))
       → (state : State) → IsShown run.image state → P state
   passed_on P run is settled old later state shown = elim is.moment.image_shows [
     | inl opening ↦ old state (shown_at_start run is settled once opening.1 state shown)
@@ -55,7 +56,8 @@ module _ (once : ShowsOnce) (key number : ℕ) where
       → FollowFrom image runs → All Unused (given_in runs)
   follow_unused image [] settled below follow = λ k d low. absurd (omega arith)
   follow_unused image (run ∷ runs) settled below (start, is, follow) =
-      let here : IsBelowMarks run.start key number = subst (λ (i : List ℕ). IsBelowMarks i key number) (sym start) below in
+      let here : IsBelowMarks run.start key number =
+      subst (λ (i : List ℕ). IsBelowMarks i key number) (sym start) below in
       let one : HasOneClosed run.start = subst HasOneClosed (sym start) settled in
       let next : IsBelowMarks run.image key number =
       passed_on (λ (s : State). number < mark_of s key) run is one here
@@ -67,7 +69,8 @@ module _ (once : ShowsOnce) (key number : ℕ) where
       → FollowFrom image runs → All Unaccepted (given_in runs)
   follow_unaccepted image [] settled within follow = λ k d low. absurd (omega arith)
   follow_unaccepted image (run ∷ runs) settled within (start, is, follow) =
-      let here : IsWithinFloors run.start key number = subst (λ (i : List ℕ). IsWithinFloors i key number) (sym start) within in
+      let here : IsWithinFloors run.start key number =
+      subst (λ (i : List ℕ). IsWithinFloors i key number) (sym start) within in
       let one : HasOneClosed run.start = subst HasOneClosed (sym start) settled in
       let next : IsWithinFloors run.image key number =
       passed_on (λ (s : State). number ≤ floor_of s key) run is one here
@@ -81,6 +84,7 @@ unused_in_life once image runs key number life below =
     follow_unused once key number image runs life.begins.settled below life.follow
 
 pub unaccepted_in_life : ShowsOnce → (image : List ℕ) (runs : List LifeRun) (key number : ℕ) → IsLife image runs
-    → IsWithinFloors image key number → All (λ (given : Given). Accepts given.deed.answer key number → ⊥) (given_in runs)
+    → IsWithinFloors image key number → All (λ (given : Given). Accepts given.deed.answer key number → ⊥)
+    (given_in runs)
 unaccepted_in_life once image runs key number life within =
     follow_unaccepted once key number image runs life.begins.settled within life.follow

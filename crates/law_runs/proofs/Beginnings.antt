@@ -1,4 +1,5 @@
--- Which images a life may begin with: for the clauses `made` and `rests` of `life_may_begin`. With it, that opened forms
+-- Which images a life may begin with: for the clauses `made` and `rests` of `life_may_begin`. With it, that opened
+-- forms
 -- keep the plan, passed on for what lies above.
 use Rattle.std.proofs.Common.{ℕ, List, sym, subst}
 use Rattle.unit_image.specs.Image.{IsAtRest}

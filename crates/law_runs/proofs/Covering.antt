@@ -24,13 +24,16 @@ module _ (course : Course) (records : List Record) (in_turn : ℕ → ℕ → Ty
     (of : OfRun course.begin.plan course.begin.start records in_turn course.entries) where
   -- each number used is to be below each word that a release of its key saw
   pub stays_covered : (deeds : List Deed)
-      → All (λ (deed : Deed). (key number : ℕ) → Uses deed.answer key number → IsBelowReleases course.entries of.run.ends key number) deeds
+      → All (λ (deed : Deed). (key number : ℕ) → Uses deed.answer key number
+      → IsBelowReleases course.entries of.run.ends key number) deeds
       → StaysCovered course deeds
   stays_covered deeds under earlier later low within k deed inside h = record {
     entry = λ t. let a = h.entry t in omega arith;
     epoch = λ o. let a = h.epoch o in let r = epochs_rise course.entries earlier later low in omega arith;
-    used = λ key number uses_it. below_along course.begin.plan course.begin.start records in_turn course.entries of earlier later key number low within
+    used = λ key number uses_it. below_along course.begin.plan course.begin.start records in_turn course.entries of
+        earlier later key number low within
         (under k deed inside key number uses_it) (h.used key number uses_it);
     accepted = λ key number takes_it. let a = h.accepted key number takes_it in
-        let r = kept_along course.begin.plan course.begin.start records in_turn course.entries of earlier later key low within in omega arith;
+        let r = kept_along course.begin.plan course.begin.start records in_turn course.entries of earlier later key low
+        within in omega arith;
   }

@@ -1,5 +1,6 @@
 -- One segment more of a run, handled and its answers put; and what is known of the run at its end.
-use Rattle.std.proofs.Common.{◌≡◌, ◌≢◌, ◌⊎◌, ℕ, ◌+◌, ◌<◌, ◌≤◌, List, [], ◌++◌, length, refl, sym, ◌∙◌, ap, subst, inl, inr, arith, append-nil}
+use Rattle.std.proofs.Common.{◌≡◌, ◌≢◌, ◌⊎◌, ℕ, ◌+◌, ◌<◌, ◌≤◌, List, [], ◌++◌, length, refl, sym, ◌∙◌, ap, subst, inl}
+use Rattle.std.proofs.Common.{inr, arith, append-nil}
 use Rattle.std.specs.List.{AllPairs, Contains}
 use Rattle.std.proofs.lemmas.Option.{slice_get_within}
 use Rattle.sdls_base.specs.declared.entry.Entry.{Entry}
@@ -30,7 +31,8 @@ abbrev layout_of : List Place → Layout
 layout_of places = record { lane_of = lane_at places; segment_of = segment_at places }
 
 lie_there : (places : List Place) → AllPairs IsBefore places
-    → (place : Place) → Contains places place → (lane_at places place.task.index ≡ place.task.lane) × (segment_at places place.task.index ≡ place.segment)
+    → (place : Place) → Contains places place → (lane_at places place.task.index ≡ place.task.lane)
+    × (segment_at places place.task.index ≡ place.segment)
 lie_there places up place (k, low, is) = (
   subst (λ (p : Place). lane_at places p.task.index ≡ p.task.lane) is (lane_there places up k place low),
   subst (λ (p : Place). segment_at places p.task.index ≡ p.segment) is (segment_there places up k place low),
@@ -50,7 +52,8 @@ turns_taken places up i j (one, other, there, beside, is_one, is_other, how) =
       | inr apart ↦ inr (λ e. apart (sym segment_i ∙ e ∙ segment_j))
     ]
 
-pub lined_by : (in_turn by : ℕ → ℕ → Type 0) (log : List Logged) (made other : List ℕ) (n m k : ℕ) → ((i j : ℕ) → by i j → in_turn i j)
+pub lined_by : (in_turn by : ℕ → ℕ → Type 0) (log : List Logged) (made other : List ℕ) (n m k : ℕ)
+    → ((i j : ℕ) → by i j → in_turn i j)
     → made ≡ other → n ≡ m → Lined in_turn log made n k → Lined by log other m k
 lined_by in_turn by log made other n m k weaker same size lined =
     let moved : Lined in_turn log other n k = subst (λ (l : List ℕ). Lined in_turn log l n k) same lined in
@@ -60,16 +63,20 @@ lined_by in_turn by log made other n m k weaker same size lined =
       few_pieces = moved.few_pieces;
     }
 
-pub made_here : (begin : Begin) (first now : View) (tasks : List Record) (deeds : List Deed) → first.turn.made ≡ [] → (d : Does begin first now tasks deeds)
+pub made_here : (begin : Begin) (first now : View) (tasks : List Record) (deeds : List Deed) → first.turn.made ≡ []
+    → (d : Does begin first now tasks deeds)
     → now.turn.made ≡ d.gains.made
 made_here begin first now tasks deeds none d = d.gained.made ∙ ap (λ (l : List ℕ). l ++ d.gains.made) none
 
 -- ---- the end of a run, or how far it has come
 
 -- what is known of it with these releases behind
-pub ends_run : (begin : Begin) (first now : View) (places : List Place) (answers : List Answer) → IsFounded begin first → HasDone begin first now places answers
-    → IsWhole begin.rows now → AllPairs IsBefore places → (words : ℕ → ℕ) → ((row : ℕ) → row < begin.rows → RowStands row (words row) now.numbers)
-    → (releases : List Entry) → AreReleases words begin.start (entries_in now) releases → (faults : ℕ) → now.turn.known.faults ≤ faults
+pub ends_run : (begin : Begin) (first now : View) (places : List Place) (answers : List Answer) → IsFounded begin first
+    → HasDone begin first now places answers
+    → IsWhole begin.rows now → AllPairs IsBefore places → (words : ℕ → ℕ)
+    → ((row : ℕ) → row < begin.rows → RowStands row (words row) now.numbers)
+    → (releases : List Entry) → AreReleases words begin.start (entries_in now) releases → (faults : ℕ)
+    → now.turn.known.faults ≤ faults
     → (Rose now.turn.known.opening.faults now.turn.known.faults → releases ≡ [])
     → EndsRun begin first now places (deeds_from places answers) words releases faults
 ends_run begin first now places answers founded done whole up words stand releases are faults fewer stopped =
@@ -83,8 +90,10 @@ ends_run begin first now places answers founded done whole up words stand releas
       does = done.does;
       whole = whole;
       pieces = pieces;
-      lined = lined_by (TakeTurns (layout_of places)) (TurnIn places) (log_of now) now.turn.made done.does.gains.made _ _ pieces (turns_taken places up)
-          (made_here begin first now (records_of places) (deeds_from places answers) done.none_made done.does) refl lined;
+      lined = lined_by (TakeTurns (layout_of places)) (TurnIn places) (log_of now) now.turn.made done.does.gains.made
+          _ _ pieces (turns_taken places up)
+          (made_here begin first now (records_of places) (deeds_from places answers) done.none_made done.does) refl
+          lined;
       once = λ index. indexed_once index places up;
       ascend = deeds_ascend places answers up;
       words_are = stand;
@@ -94,15 +103,19 @@ ends_run begin first now places answers founded done whole up words stand releas
     }
 
 -- so far it is a legal history, without releases
-pub legal_so_far : (begin : Begin) (first now : View) (places : List Place) (answers : List Answer) → IsFounded begin first → HasDone begin first now places answers
-    → IsWhole begin.rows now → AllPairs IsBefore places → IsLegalHistory begin.plan begin.start places (entries_in now ++ [])
+pub legal_so_far : (begin : Begin) (first now : View) (places : List Place) (answers : List Answer)
+    → IsFounded begin first → HasDone begin first now places answers
+    → IsWhole begin.rows now → AllPairs IsBefore places
+    → IsLegalHistory begin.plan begin.start places (entries_in now ++ [])
 legal_so_far begin first now places answers founded done whole up =
     let words : ℕ → ℕ = λ row. 1 + amount row now.numbers.added in
     let e = ends_run begin first now places answers founded done whole up (λ row. 1 + amount row now.numbers.added)
-    (λ row low. let (next, stand) = whole.rows row low in subst (λ (n : ℕ). RowStands row n now.numbers) stand.grown stand)
+    (λ row low. let (next, stand) = whole.rows row low in
+    subst (λ (n : ℕ). RowStands row n now.numbers) stand.grown stand)
     [] (λ p entry high there. absurd (
     let low = slice_get_within (entries_in now ++ []) p entry there in
     let size = ap length (append-nil (entries_in now)) in omega arith))
     now.turn.known.faults (omega arith) (λ rose. refl) in
-    history begin first now places (deeds_from places answers) e.opened e.does e.whole e.rows e.plan_is e.rules e.left words e.words_are [] e.releases_are
+    history begin first now places (deeds_from places answers) e.opened e.does e.whole e.rows e.plan_is e.rules e.left
+    words e.words_are [] e.releases_are
     e.pieces e.lined e.once e.ascend now.turn.known.faults e.fewer e.stopped

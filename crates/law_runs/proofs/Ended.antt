@@ -1,5 +1,7 @@
 -- A run whose book was opened, from the close of its counters to its end: for `run_ends_well`.
-use Rattle.std.proofs.Common.{◌≡◌, ◌≢◌, ◌⊎◌, ℕ, suc, zero, ◌+◌, ◌-◌, ◌<◌, ◌≤◌, Bool, IsTrue, List, [], ◌∷◌, ◌++◌, length, take, drop, min, get_or, Some, Result, Ok, Err, refl, sym, ◌∙◌, ap, subst, inl, inr, arith, append-nil, append_assoc, length-append}
+use Rattle.std.proofs.Common.{◌≡◌, ◌≢◌, ◌⊎◌, ℕ, suc, zero, ◌+◌, ◌-◌, ◌<◌, ◌≤◌, Bool, IsTrue, List, [], ◌∷◌, ◌++◌}
+use Rattle.std.proofs.Common.{length, take, drop, min, get_or, Some, Result, Ok, Err, refl, sym, ◌∙◌, ap, subst, inl}
+use Rattle.std.proofs.Common.{inr, arith, append-nil, append_assoc, length-append}
 use Rattle.std.specs.Prelude.{MatchResult}
 use Rattle.std.proofs.Math.Seq.{drop-append_seam, take-append-add}
 use Rattle.std.proofs.lemmas.List.{length-take, take-append-le, take_all, take_at}
@@ -35,7 +37,8 @@ use Rattle.law_runs.proofs.Faults.{told_rose}
 use Rattle.law_runs.proofs.Doing.{ends_run}
 use Rattle.law_runs.proofs.Moved.{moved_run, settled_more}
 use Rattle.law_runs.proofs.Moments.{all_fences, all_moments}
-use Rattle.law_runs.proofs.Releases.{AreAdded, AreWords, IsRefusedRelease, are_added, are_releases, ends_released, released_full, released_pieces, released_quietly}
+use Rattle.law_runs.proofs.Releases.{AreAdded, AreWords, IsRefusedRelease, are_added, are_releases, ends_released}
+use Rattle.law_runs.proofs.Releases.{released_full, released_pieces, released_quietly}
 use Rattle.law_runs.proofs.Placed.{IsBefore, answers_all, places_ascend}
 use Rattle.law_runs.specs.AtEnd.{EndsRun, course_at_end, StaysCovered}
 use Rattle.law_runs.specs.Release.{AreReleases}
@@ -91,26 +94,33 @@ own_front zero octets = refl
 own_front (suc k) [] = refl
 own_front (suc k) (octet ∷ octets) = ap (λ (l : List ℕ). octet ∷ l) (own_front k octets)
 
-behind_between : (base xs octets old new : List ℕ) → Between old (old ++ octets) new → Between base (base ++ (xs ++ octets)) (base ++ (xs ++ drop (length old) new))
+behind_between : (base xs octets old new : List ℕ) → Between old (old ++ octets) new
+    → Between base (base ++ (xs ++ octets)) (base ++ (xs ++ drop (length old) new))
 behind_between base xs octets old new between =
     let n : ℕ = length new - length old in
     let low = between.least in
     let size : length new ≡ length old + (length new - length old) = omega arith in
     let is : new ≡ old ++ take (length new - length old) octets =
-    between.prefix ∙ ap (λ (k : ℕ). take k (old ++ octets)) size ∙ take-append-add old octets (length new - length old) in
+    between.prefix ∙ ap (λ (k : ℕ). take k (old ++ octets)) size ∙ take-append-add old octets
+    (length new - length old) in
     let piece : drop (length old) new ≡ take (length new - length old) octets =
     ap (drop (length old)) is ∙ drop-append_seam old (take (length new - length old) octets) in
-    let short : length (xs ++ take (length new - length old) octets) ≡ length xs + length (take (length new - length old) octets) =
+    let short : length (xs ++ take (length new - length old) octets)
+    ≡ length xs + length (take (length new - length old) octets) =
     length-append xs (take (length new - length old) octets) in
-    let own : take (length (xs ++ take (length new - length old) octets)) (xs ++ octets) ≡ xs ++ take (length new - length old) octets =
-    ap (λ (k : ℕ). take k (xs ++ octets)) short ∙ take-append-add xs octets (length (take (length new - length old) octets))
+    let own : take (length (xs ++ take (length new - length old) octets)) (xs ++ octets)
+    ≡ xs ++ take (length new - length old) octets =
+    ap (λ (k : ℕ). take k (xs ++ octets)) short ∙ take-append-add xs octets
+    (length (take (length new - length old) octets))
     ∙ ap (λ (l : List ℕ). xs ++ l) (own_front (length new - length old) octets) in
-    let all : length (base ++ (xs ++ take (length new - length old) octets)) ≡ length base + length (xs ++ take (length new - length old) octets) =
+    let all : length (base ++ (xs ++ take (length new - length old) octets))
+    ≡ length base + length (xs ++ take (length new - length old) octets) =
     length-append base (xs ++ take (length new - length old) octets) in
     subst (λ (l : List ℕ). Between base (base ++ (xs ++ octets)) (base ++ (xs ++ l))) (sym piece)
     (record {
       least = omega arith;
-      prefix = sym (ap (λ (k : ℕ). take k (base ++ (xs ++ octets))) all ∙ take-append-add base (xs ++ octets) (length (xs ++ take (length new - length old) octets))
+      prefix = sym (ap (λ (k : ℕ). take k (base ++ (xs ++ octets))) all ∙ take-append-add base (xs ++ octets)
+          (length (xs ++ take (length new - length old) octets))
           ∙ ap (λ (l : List ℕ). base ++ l) own);
     })
 
@@ -118,13 +128,16 @@ nothing_between : (old xs : List ℕ) → Between old (old ++ xs) old
 nothing_between old xs = between-old old (old ++ xs) (take_at old xs (length old) refl)
 
 -- what a put that failed has sunk
-pub failed_put : (octets : List ℕ) (old new : Trace) → (new ≡ old) ⊎ sites.Sank octets old new → Between old.now.sunk (old.now.sunk ++ octets) new.now.sunk
+pub failed_put : (octets : List ℕ) (old new : Trace) → (new ≡ old) ⊎ sites.Sank octets old new
+    → Between old.now.sunk (old.now.sunk ++ octets) new.now.sunk
 failed_put octets old new (inl same) =
-    subst (λ (trace : Trace). Between old.now.sunk (old.now.sunk ++ octets) trace.now.sunk) (sym same) (nothing_between old.now.sunk octets)
+    subst (λ (trace : Trace). Between old.now.sunk (old.now.sunk ++ octets) trace.now.sunk) (sym same)
+    (nothing_between old.now.sunk octets)
 failed_put octets old new (inr sank) = sank.sunk
 
 pieces_more : (log : List Logged) (piece : List ℕ) → pieces_of (log ++ lines.Piece piece ∷ []) ≡ pieces_of log ++ piece
-pieces_more log piece = pieces_both log (lines.Piece piece ∷ []) ∙ ap (λ (l : List ℕ). pieces_of log ++ l) (append-nil piece)
+pieces_more log piece = pieces_both log (lines.Piece piece ∷ []) ∙ ap (λ (l : List ℕ). pieces_of log ++ l)
+    (append-nil piece)
 
 pub same_count : (a b : ℕ) → a ≤ b → ¬ Rose a b → b ≡ a
 same_count a b low stood = elim (cases_lt a b) [
@@ -139,7 +152,8 @@ empty_entries (e ∷ es) h = absurd (omega arith)
 between_front : (base due p : List ℕ) → Between base (base ++ due) (base ++ p) → p ≡ take (length p) due
 between_front base due p between =
     let size : length (base ++ p) ≡ length base + length p = length-append base p in
-    let is : base ++ p ≡ base ++ take (length p) due = between.prefix ∙ ap (λ (n : ℕ). take n (base ++ due)) size ∙ take-append-add base due (length p) in
+    let is : base ++ p ≡ base ++ take (length p) due =
+    between.prefix ∙ ap (λ (n : ℕ). take n (base ++ due)) size ∙ take-append-add base due (length p) in
     sym (drop-append_seam base p) ∙ ap (drop (length base)) is ∙ drop-append_seam base (take (length p) due)
 
 same_ok : (one other : PlanLines) → ◌≡◌ {A = Result PlanLines PlanFault} (Ok one) (Ok other) → one ≡ other
@@ -150,7 +164,15 @@ module _ (told : Bool) (site after : SiteSeen) (source source_after : SourceSeen
     (ran : Ran told site source source_after first now came book words)
     (end : Finishes told site.faults words came book after entries status) where
   abbrev pub call : CallSeen
-  call = record { source = source; source_after = source_after; told = told; site = site; site_after = after; status = status; entries = entries }
+  call = record {
+    source = source;
+    source_after = source_after;
+    told = told;
+    site = site;
+    site_after = after;
+    status = status;
+    entries = entries;
+  }
 
   abbrev pub account : Account
   account = record {
@@ -189,7 +211,8 @@ module _ (told : Bool) (site after : SiteSeen) (source source_after : SourceSeen
 
   end_widths : IsAnswer (end_answer end.end (length entries))
   end_widths =
-      subst (λ (es : List Entry). IsAnswer (end_answer end.end (length es))) (sym (end.entries_are ∙ last_entries)) end.widths
+      subst (λ (es : List Entry). IsAnswer (end_answer end.end (length es))) (sym (end.entries_are ∙ last_entries))
+      end.widths
 
   pub entries_known : entries ≡ entries_of end.released.log
   entries_known = end.entries_are ∙ last_entries
@@ -205,12 +228,14 @@ module _ (told : Bool) (site after : SiteSeen) (source source_after : SourceSeen
 
   pub sunk_is : IsTrue told → after.trace.now.sunk ≡ site.trace.now.sunk ++ pieces_of end.last.log
   sunk_is is_told = ap (λ (o : SiteSeen). o.trace.now.sunk) end.site_is ∙ (end.kept.history is_told).sunk
-      ∙ ap (λ (l : List ℕ). l ++ pieces_of end.last.log) (ap (λ (o : SiteSeen). o.trace.now.sunk) last_opened ∙ ran.sunk is_told)
+      ∙ ap (λ (l : List ℕ). l ++ pieces_of end.last.log)
+      (ap (λ (o : SiteSeen). o.trace.now.sunk) last_opened ∙ ran.sunk is_told)
 
   released_put : pieces_of end.released.log ≡ octets_put now
   released_put = released_pieces words book end.released end.answer end.releases ∙ ap pieces_of ran.log
 
-  has_put : (c : RunEnd) → c ≢ ends.PutFailed → PutsBy (begin_by told book.plan book.start) now site.put_faults book.site.put_faults ran.come.answers c
+  has_put : (c : RunEnd) → c ≢ ends.PutFailed
+      → PutsBy (begin_by told book.plan book.start) now site.put_faults book.site.put_faults ran.come.answers c
       → HasPut (begin_by told book.plan book.start) now site.put_faults book.site.put_faults ran.come.answers
   has_put ends.Ended other h = h
   has_put (ends.Malformed offset) other h = h
@@ -221,29 +246,36 @@ module _ (told : Bool) (site after : SiteSeen) (source source_after : SourceSeen
   has_put ends.SessionFull other h = h
   has_put ends.PutFailed other h = absurd (other refl)
 
-  pub has_broken : came ≡ ends.PutFailed → HasBroken (begin_by told book.plan book.start) now site.put_faults book.site.put_faults ran.come.answers
-  has_broken is = subst (PutsBy (begin_by told book.plan book.start) now site.put_faults book.site.put_faults ran.come.answers) is ran.come.put
+  pub has_broken : came ≡ ends.PutFailed → HasBroken (begin_by told book.plan book.start) now site.put_faults
+      book.site.put_faults ran.come.answers
+  has_broken is =
+      subst (PutsBy (begin_by told book.plan book.start) now site.put_faults book.site.put_faults ran.come.answers) is
+      ran.come.put
 
   -- the octets of End, by the entries that the released book has
   end_is : answer_octets (end_answer end.end (length (entries_of end.released.log))) ≡ end_octets call end.end
   end_is = ap (λ (es : List Entry). answer_octets (end_answer end.end (length es))) (sym entries_known)
 
   since : IsTrue told → sunk_since call after.trace.now.sunk ≡ pieces_of end.last.log
-  since is_told = ap (drop (length site.trace.now.sunk)) (sunk_is is_told) ∙ drop-append_seam site.trace.now.sunk (pieces_of end.last.log)
+  since is_told = ap (drop (length site.trace.now.sunk)) (sunk_is is_told) ∙ drop-append_seam site.trace.now.sunk
+      (pieces_of end.last.log)
 
   more_put : length (octets_put now) ≤ length (pieces_of end.last.log)
   more_put = elim end.puts_end [
     | inl broken ↦ (let a = ap length (ap (λ (b : BookView). pieces_of b.log) broken.1 ∙ released_put) in omega arith)
     | inr put ↦ (
-        let a = ap length (ap (λ (b : BookView). pieces_of b.log) put.1.made ∙ pieces_more end.released.log (sunk_between end.released.site.trace end.last.site.trace)) in
+        let a = ap length (ap (λ (b : BookView). pieces_of b.log) put.1.made ∙ pieces_more end.released.log
+        (sunk_between end.released.site.trace end.last.site.trace)) in
         let b = ap length released_put in
-        let c = length-append (pieces_of end.released.log) (sunk_between end.released.site.trace end.last.site.trace) in omega arith
+        let c = length-append (pieces_of end.released.log) (sunk_between end.released.site.trace end.last.site.trace) in
+        omega arith
         )
   ]
 
   -- all answers of the segments before that of a record that was handled were put
   earlier_so : IsTrue told → (place : Place) → Contains (places_of ran.come.of) place
-      → length (answers_octets (answers_of_first place.segment (places_of ran.come.of) ran.come.answers)) ≤ length (sunk_since call after.trace.now.sunk)
+      → length (answers_octets (answers_of_first place.segment (places_of ran.come.of) ran.come.answers))
+      ≤ length (sunk_since call after.trace.now.sunk)
   earlier_so is_told place there =
       let a = ran.come.earlier is_told place there in
       let b = ap length (since is_told) in
@@ -254,19 +286,23 @@ module _ (told : Bool) (site after : SiteSeen) (source source_after : SourceSeen
     | inl broken ↦
         let h = has_broken broken.0 in
         let a : after.put_faults ≡ end.last.site.put_faults = ap (λ (s : SiteSeen). s.put_faults) end.site_is in
-        let b : end.last.site.put_faults ≡ end.released.site.put_faults = ap (λ (b : BookView). b.site.put_faults) broken.1 in
+        let b : end.last.site.put_faults ≡ end.released.site.put_faults =
+        ap (λ (b : BookView). b.site.put_faults) broken.1 in
         let c = end.same_puts in
         let d = h.one_failed in
         inr (record {
           one_failed = omega arith;
           status_is = broken.2;
-          rose = let r = h.rose in let e = ran.known in let f = ran.known_first in let g = ran.same_faults in let i = end.goes_on.later in
+          rose = let r = h.rose in let e = ran.known in let f = ran.known_first in let g = ran.same_faults in
+              let i = end.goes_on.later in
               let j = last_later in let k = after_faults in omega arith;
           sunk = λ is_told.
-              let pieces : pieces_of end.last.log ≡ octets_put now = ap (λ (b : BookView). pieces_of b.log) broken.1 ∙ released_put in
+              let pieces : pieces_of end.last.log ≡ octets_put now =
+              ap (λ (b : BookView). pieces_of b.log) broken.1 ∙ released_put in
               subst (Between site.trace.now.sunk (site.trace.now.sunk ++ due_octets call account))
               (sym (sunk_is is_told ∙ ap (λ (l : List ℕ). site.trace.now.sunk ++ l) pieces))
-              (front_between site.trace.now.sunk (answers_octets ran.come.answers) (end_octets call end.end) (octets_put now) (h.octets is_told));
+              (front_between site.trace.now.sunk (answers_octets ran.come.answers) (end_octets call end.end)
+              (octets_put now) (h.octets is_told));
           earlier = earlier_so;
         })
     | inr put ↦ go put.1.put put.1 (has_put came put.0 ran.come.put) put.1.counted put.1.sinks put.1.status_is
@@ -275,7 +311,8 @@ module _ (told : Bool) (site after : SiteSeen) (source source_after : SourceSeen
       go : (r : Result (Unit {0}) BookFault) → IsEndPut told end.end end.released end.last status
           → HasPut (begin_by told book.plan book.start) now site.put_faults book.site.put_faults ran.come.answers
           → end.last.site.put_faults ≡ sites.after_put r end.released.site.put_faults
-          → (IsTrue told → sites.Puts (answer_octets (end_answer end.end (length (entries_of end.released.log)))) r end.released.site.trace end.last.site.trace)
+          → (IsTrue told → sites.Puts (answer_octets (end_answer end.end (length (entries_of end.released.log)))) r
+          end.released.site.trace end.last.site.trace)
           → MatchResult r (λ _. (status ≡ end_status end.end) × (end.last.site.faults ≡ end.released.site.faults))
           (λ _. (status ≡ SITE_FAULT) × Rose end.released.site.faults end.last.site.faults)
           → PutsDue call account ⊎ PutsFront call account
@@ -286,11 +323,14 @@ module _ (told : Bool) (site after : SiteSeen) (source source_after : SourceSeen
             none_failed = omega arith;
             status_is = is.0;
             sunk = λ is_told.
-                let piece : sunk_between end.released.site.trace end.last.site.trace ≡ answer_octets (end_answer end.end (length (entries_of end.released.log))) =
+                let piece : sunk_between end.released.site.trace end.last.site.trace
+                ≡ answer_octets (end_answer end.end (length (entries_of end.released.log))) =
                 ap (drop (length end.released.site.trace.now.sunk)) (sinks is_told).1
-                ∙ drop-append_seam end.released.site.trace.now.sunk (answer_octets (end_answer end.end (length (entries_of end.released.log)))) in
+                ∙ drop-append_seam end.released.site.trace.now.sunk
+                (answer_octets (end_answer end.end (length (entries_of end.released.log)))) in
                 let pieces : pieces_of end.last.log ≡ answers_octets ran.come.answers ++ end_octets call end.end =
-                last_pieces p ∙ ap (λ (l : List ℕ). l ++ sunk_between end.released.site.trace end.last.site.trace) (h.octets is_told)
+                last_pieces p ∙ ap (λ (l : List ℕ). l ++ sunk_between end.released.site.trace end.last.site.trace)
+                (h.octets is_told)
                 ∙ ap (λ (l : List ℕ). answers_octets ran.come.answers ++ l) (piece ∙ end_is) in
                 sunk_is is_told ∙ ap (λ (l : List ℕ). site.trace.now.sunk ++ l) pieces;
           })
@@ -306,21 +346,31 @@ module _ (told : Bool) (site after : SiteSeen) (source source_after : SourceSeen
           inr (record {
             one_failed = omega arith;
             status_is = is.0;
-            rose = let r = is.1 in let e = ran.kept.later in let g = ran.same_faults in let i = end.goes_on.later in let k = after_faults in omega arith;
+            rose = let r = is.1 in let e = ran.kept.later in let g = ran.same_faults in let i = end.goes_on.later in
+                let k = after_faults in omega arith;
             sunk = λ is_told.
                 let octets : List ℕ = answer_octets (end_answer end.end (length (entries_of end.released.log))) in
-                let between : Between end.released.site.trace.now.sunk (end.released.site.trace.now.sunk ++ answer_octets (end_answer end.end (length (entries_of end.released.log)))) end.last.site.trace.now.sunk =
-                failed_put (answer_octets (end_answer end.end (length (entries_of end.released.log)))) end.released.site.trace end.last.site.trace (sinks is_told) in
-                let here = behind_between site.trace.now.sunk (answers_octets ran.come.answers) (answer_octets (end_answer end.end (length (entries_of end.released.log))))
+                let between : Between end.released.site.trace.now.sunk
+                (end.released.site.trace.now.sunk ++ answer_octets
+                (end_answer end.end (length (entries_of end.released.log)))) end.last.site.trace.now.sunk =
+                failed_put (answer_octets (end_answer end.end (length (entries_of end.released.log))))
+                end.released.site.trace end.last.site.trace (sinks is_told) in
+                let here = behind_between site.trace.now.sunk (answers_octets ran.come.answers)
+                (answer_octets (end_answer end.end (length (entries_of end.released.log))))
                 end.released.site.trace.now.sunk end.last.site.trace.now.sunk between in
-                let pieces : pieces_of end.last.log ≡ answers_octets ran.come.answers ++ sunk_between end.released.site.trace end.last.site.trace =
+                let pieces : pieces_of end.last.log ≡ answers_octets ran.come.answers
+                ++ sunk_between end.released.site.trace end.last.site.trace =
                 ap (λ (b : BookView). pieces_of b.log) p.made
                 ∙ pieces_more end.released.log (sunk_between end.released.site.trace end.last.site.trace)
-                ∙ ap (λ (l : List ℕ). l ++ sunk_between end.released.site.trace end.last.site.trace) (released_put ∙ h.octets is_told) in
+                ∙ ap (λ (l : List ℕ). l ++ sunk_between end.released.site.trace end.last.site.trace)
+                (released_put ∙ h.octets is_told) in
                 subst (Between site.trace.now.sunk (site.trace.now.sunk ++ due_octets call account))
                 (sym (sunk_is is_told ∙ ap (λ (l : List ℕ). site.trace.now.sunk ++ l) pieces))
-                (subst (λ (l : List ℕ). Between site.trace.now.sunk (site.trace.now.sunk ++ (answers_octets ran.come.answers ++ l))
-                (site.trace.now.sunk ++ (answers_octets ran.come.answers ++ sunk_between end.released.site.trace end.last.site.trace))) end_is here);
+                (subst (λ (l : List ℕ).
+                Between site.trace.now.sunk (site.trace.now.sunk ++ (answers_octets ran.come.answers ++ l))
+                (site.trace.now.sunk
+                ++ (answers_octets ran.come.answers ++ sunk_between end.released.site.trace end.last.site.trace)))
+                end_is here);
             earlier = earlier_so;
           })
 
@@ -361,7 +411,8 @@ module _ (told : Bool) (site after : SiteSeen) (source source_after : SourceSeen
               ended.0,
               inr (
                 full.1,
-                (let a = (released_full words book end.released end.answer end.releases full.0).0 in let b = ap length entries_known in omega arith),
+                (let a = (released_full words book end.released end.answer end.releases full.0).0 in
+                    let b = ap length entries_known in omega arith),
               ),
             ),
           )
@@ -371,8 +422,10 @@ module _ (told : Bool) (site after : SiteSeen) (source source_after : SourceSeen
     ]
   ]
 
-  -- with another status than that of a fault of the site the count stood until all answers were put, and behind the release
-  calm : status ≢ SITE_FAULT → (¬ Rose site.faults book.site.faults) × (after.faults ≡ end.released.site.faults) × (status ≡ end_status end.end)
+  -- with another status than that of a fault of the site the count stood until all answers were put, and behind the
+  -- release
+  calm : status ≢ SITE_FAULT → (¬ Rose site.faults book.site.faults) × (after.faults ≡ end.released.site.faults)
+      × (status ≡ end_status end.end)
   calm other = elim end.puts_end [
     | inl broken ↦ absurd (other broken.2)
     | inr put ↦ go put.1.put put.1.status_is
@@ -384,9 +437,11 @@ module _ (told : Bool) (site after : SiteSeen) (source source_after : SourceSeen
         | inr well ↦ well.0
       ]
 
-      go : (r : Result (Unit {0}) BookFault) → MatchResult r (λ _. (status ≡ end_status end.end) × (end.last.site.faults ≡ end.released.site.faults))
+      go : (r : Result (Unit {0}) BookFault)
+          → MatchResult r (λ _. (status ≡ end_status end.end) × (end.last.site.faults ≡ end.released.site.faults))
           (λ _. (status ≡ SITE_FAULT) × Rose end.released.site.faults end.last.site.faults)
-          → (¬ Rose site.faults book.site.faults) × (after.faults ≡ end.released.site.faults) × (status ≡ end_status end.end)
+          → (¬ Rose site.faults book.site.faults) × (after.faults ≡ end.released.site.faults)
+          × (status ≡ end_status end.end)
       go (Ok done) is = (calm_then is.0, after_faults ∙ is.1, is.0)
       go (Err fault) is = absurd (other is.0)
 
@@ -405,11 +460,16 @@ module _ (told : Bool) (site after : SiteSeen) (source source_after : SourceSeen
         let b = ap (λ (l : List Logged). length (entries_of l)) ran.log in
         let c = ap length entries_split in
         let d = length-append (entries_in now) (take entries_added.count (releases book.state 0 words)) in
-        inr (omega arith, subst EndsWithRelease (sym entries_split) (ends_released (entries_in now) entries_added.count book.state words (omega arith)))
+        inr (
+          omega arith,
+          subst EndsWithRelease (sym entries_split)
+              (ends_released (entries_in now) entries_added.count book.state words (omega arith)),
+        )
   ]
 
   -- behind these ends alone a release meets a fault that the status does not tell
-  told_first : status ≢ SITE_FAULT → length (entries_in now) < length entries → (c : RunEnd) → came ≡ c → came ≢ ends.Ended → end.end ≡ came
+  told_first : status ≢ SITE_FAULT → length (entries_in now) < length entries → (c : RunEnd) → came ≡ c
+      → came ≢ ends.Ended → end.end ≡ came
       → EndsReading source source_after ran.come.items ran.come.read ran.come.part c → IsToldFirst c
   told_first other more ends.Ended is off same reads = absurd (off is)
   told_first other more (ends.Malformed offset) is off same reads = tt
@@ -417,7 +477,8 @@ module _ (told : Bool) (site after : SiteSeen) (source source_after : SourceSeen
   told_first other more (ends.SiteFault count) is off same reads = absurd reads
   told_first other more ends.NoMemory is off same reads = tt
   told_first other more (ends.NoState offset) is off same reads = absurd reads
-  told_first other more ends.SessionFull is off same reads = absurd (let a = (ran.come.full is).full in let b = entries_most in omega arith)
+  told_first other more ends.SessionFull is off same reads =
+      absurd (let a = (ran.come.full is).full in let b = entries_most in omega arith)
   told_first other more ends.PutFailed is off same reads = absurd (other ((calm other).2 ∙ ap end_status (same ∙ is)))
 
   quiet : status ≢ SITE_FAULT → StoodUntilRelease call account
@@ -432,7 +493,9 @@ module _ (told : Bool) (site after : SiteSeen) (source source_after : SourceSeen
           ]
           | inr ended ↦ elim ended.1 [
             | inl rose ↦ absurd (other (c.2 ∙ ap end_status rose.1))
-            | inr stood ↦ inl (c.1 ∙ same_count book.site.faults end.released.site.faults end.goes_on.later stood.0 ∙ stood_before other)
+            | inr stood ↦
+                inl (c.1 ∙ same_count book.site.faults end.released.site.faults end.goes_on.later stood.0
+                ∙ stood_before other)
           ]
         ]
       ]
@@ -446,7 +509,8 @@ module _ (told : Bool) (site after : SiteSeen) (source source_after : SourceSeen
   faults_told : All (λ (answer : Answer). SaysSiteFailed answer → Rose site.faults book.site.faults) ran.come.answers
   faults_told k d low fault =
       let B : Begin = begin_by told book.plan book.start in
-      let r = told_rose (IsBetween (begin_by told book.plan book.start) first now) (course_in (begin_by told book.plan book.start) now)
+      let r = told_rose (IsBetween (begin_by told book.plan book.start) first now)
+      (course_in (begin_by told book.plan book.start) now)
       (places_of ran.come.of) ran.come.answers ran.come.few ran.come.done.does.answers.fit k d low fault in
       let a = ran.known in let b = ran.known_first in let c = ran.same_faults in omega arith
 
@@ -484,7 +548,8 @@ module _ (told : Bool) (site after : SiteSeen) (source source_after : SourceSeen
   none_released rose =
       let none : entries_of end.goes_on.added ≡ [] = end.goes_on.stopped rose in
       let a : entries_of end.released.log ≡ entries_of book.log =
-      ap entries_of end.goes_on.log ∙ entries_both book.log end.goes_on.added ∙ ap (λ (l : List Entry). entries_of book.log ++ l) none ∙ append-nil (entries_of book.log) in
+      ap entries_of end.goes_on.log ∙ entries_both book.log end.goes_on.added
+      ∙ ap (λ (l : List Entry). entries_of book.log ++ l) none ∙ append-nil (entries_of book.log) in
       let b = ap length (sym entries_added.entries ∙ a) in
       let c = length-append (entries_of book.log) (take entries_added.count (releases book.state 0 words)) in
       empty_entries (take entries_added.count (releases book.state 0 words)) (omega arith)
@@ -492,7 +557,8 @@ module _ (told : Bool) (site after : SiteSeen) (source source_after : SourceSeen
   -- where it had not, the book's state is the one after all entries
   state_is : ¬ Rose book.opened.faults book.site.faults → book.state ≡ histories.after book.start (entries_in now)
   state_is well =
-      let a : after_first book.start (entries_of book.log) book.standing ≡ histories.after book.start (entries_of book.log) =
+      let a : after_first book.start (entries_of book.log) book.standing
+      ≡ histories.after book.start (entries_of book.log) =
       ap (λ (n : ℕ). after_first book.start (entries_of book.log) n) (ran.kept.whole well)
       ∙ ap (histories.after book.start) (take_all (length (entries_of book.log)) (entries_of book.log) (omega arith)) in
       ran.kept.led ∙ a ∙ ap (λ (l : List Logged). histories.after book.start (entries_of l)) ran.log
@@ -503,45 +569,60 @@ module _ (told : Bool) (site after : SiteSeen) (source source_after : SourceSeen
     | inr ge ↦ inl (omega arith)
   ]
 
-  are_of_keys : AreReleases (λ row. slice_index words row) book.start (entries_in now) (take entries_added.count (releases book.state 0 words))
+  are_of_keys : AreReleases (λ row. slice_index words row) book.start (entries_in now)
+      (take entries_added.count (releases book.state 0 words))
   are_of_keys = elim rose_or [
-    | inl rose ↦ subst (AreReleases (λ row. slice_index words row) book.start (entries_in now)) (sym (none_released rose))
+    | inl rose ↦ subst (AreReleases (λ row. slice_index words row) book.start (entries_in now))
+        (sym (none_released rose))
         (λ p entry high there. absurd (
         let low = slice_get_within (entries_in now ++ []) p entry there in
         let size = ap length (append-nil (entries_in now)) in omega arith))
     | inr well ↦
         let is = state_is well in
-        subst (λ (st : State). AreReleases (λ row. slice_index words row) book.start (entries_in now) (take entries_added.count (releases st 0 words))) (sym is)
+        subst (λ (st : State). AreReleases (λ row. slice_index words row) book.start (entries_in now)
+        (take entries_added.count (releases st 0 words))) (sym is)
         (are_releases book.start (entries_in now) words (λ row. slice_index words row) entries_added.count
         (subst KeepsRules is ran.kept.rules) are_words)
   ]
 
-  stopped_so : Rose now.turn.known.opening.faults now.turn.known.faults → take entries_added.count (releases book.state 0 words) ≡ []
+  stopped_so : Rose now.turn.known.opening.faults now.turn.known.faults
+      → take entries_added.count (releases book.state 0 words) ≡ []
   stopped_so rose = none_released (let a = ran.known in let b = ran.known_first in let r = rose in omega arith)
 
-  course_is : course_at_end (begin_by told book.plan book.start) now (take entries_added.count (releases book.state 0 words)) book.site.faults
+  course_is : course_at_end (begin_by told book.plan book.start) now
+      (take entries_added.count (releases book.state 0 words)) book.site.faults
       ≡ course_of call account book.plan book.start
   course_is =
-      ap (λ (n : ℕ). record (course_of call account book.plan book.start) { faults_before = n; entries = entries_in now ++ take entries_added.count (releases book.state 0 words) })
+      ap (λ (n : ℕ). record (course_of call account book.plan book.start) {
+        faults_before = n;
+        entries = entries_in now ++ take entries_added.count (releases book.state 0 words);
+      })
       (ran.known_first ∙ ran.same_faults)
-      ∙ ap (λ (l : List Entry). record (course_of call account book.plan book.start) { entries = l }) (sym entries_split)
+      ∙ ap (λ (l : List Entry). record (course_of call account book.plan book.start) { entries = l })
+      (sym entries_split)
 
   module _ (is_told : IsTrue told) where
     abbrev founded : IsFounded (begin_by told book.plan book.start) first
     founded = ran.founded is_told
 
-    abbrev known_end : EndsRun (begin_by told book.plan book.start) first now (places_of ran.come.of) (deeds_from (places_of ran.come.of) ran.come.answers)
+    abbrev known_end : EndsRun (begin_by told book.plan book.start) first now (places_of ran.come.of)
+        (deeds_from (places_of ran.come.of) ran.come.answers)
         (λ row. slice_index words row) (take entries_added.count (releases book.state 0 words)) book.site.faults
-    known_end = ends_run (begin_by told book.plan book.start) first now (places_of ran.come.of) ran.come.answers (ran.founded is_told) ran.come.done
-        ran.whole up (λ row. slice_index words row) ran.stand (take entries_added.count (releases book.state 0 words)) are_of_keys book.site.faults
+    known_end = ends_run (begin_by told book.plan book.start) first now (places_of ran.come.of) ran.come.answers
+        (ran.founded is_told) ran.come.done
+        ran.whole up (λ row. slice_index words row) ran.stand (take entries_added.count (releases book.state 0 words))
+        are_of_keys book.site.faults
         (let a = ran.known in omega arith) stopped_so
 
     sound_so : IsSound
-        (course_at_end (begin_by told book.plan book.start) now (take entries_added.count (releases book.state 0 words)) book.site.faults)
+        (course_at_end (begin_by told book.plan book.start) now (take entries_added.count (releases book.state 0 words))
+        book.site.faults)
         (places_of ran.come.of) (deeds_from (places_of ran.come.of) ran.come.answers)
     sound_so = let e = known_end in
-        sound_run (begin_by told book.plan book.start) first now (places_of ran.come.of) (deeds_from (places_of ran.come.of) ran.come.answers)
-        e.opened e.does e.whole e.rows e.plan_is e.rules e.left (λ row. slice_index words row) e.words_are (take entries_added.count (releases book.state 0 words)) e.releases_are
+        sound_run (begin_by told book.plan book.start) first now (places_of ran.come.of)
+        (deeds_from (places_of ran.come.of) ran.come.answers)
+        e.opened e.does e.whole e.rows e.plan_is e.rules e.left (λ row. slice_index words row) e.words_are
+        (take entries_added.count (releases book.state 0 words)) e.releases_are
         e.pieces e.lined e.once e.ascend book.site.faults e.fewer e.stopped ran.come.reports
         (answers_all IsAnswer (places_of ran.come.of) ran.come.answers ran.come.widths)
 
@@ -549,16 +630,22 @@ module _ (told : Bool) (site after : SiteSeen) (source source_after : SourceSeen
         (deeds_from (places_of ran.come.of) ran.come.answers)
     covered_so = let e = known_end in
         subst (λ (c : Course). StaysCovered c (deeds_from (places_of ran.come.of) ran.come.answers)) course_is
-        (covered_run (begin_by told book.plan book.start) first now (places_of ran.come.of) (deeds_from (places_of ran.come.of) ran.come.answers)
-        e.opened e.does e.whole e.rows e.plan_is e.rules e.left (λ row. slice_index words row) e.words_are (take entries_added.count (releases book.state 0 words)) e.releases_are
+        (covered_run (begin_by told book.plan book.start) first now (places_of ran.come.of)
+        (deeds_from (places_of ran.come.of) ran.come.answers)
+        e.opened e.does e.whole e.rows e.plan_is e.rules e.left (λ row. slice_index words row) e.words_are
+        (take entries_added.count (releases book.state 0 words)) e.releases_are
         e.pieces e.lined e.once e.ascend book.site.faults e.fewer e.stopped)
 
-    abbrev run_so : LegalRun book.plan book.start (records_of (places_of ran.come.of)) (TurnIn (places_of ran.come.of)) (entries_in now ++ take entries_added.count (releases book.state 0 words))
-    run_so = legal_run (begin_by told book.plan book.start) first now (records_of (places_of ran.come.of)) (deeds_from (places_of ran.come.of) ran.come.answers)
+    abbrev run_so : LegalRun book.plan book.start (records_of (places_of ran.come.of)) (TurnIn (places_of ran.come.of))
+        (entries_in now ++ take entries_added.count (releases book.state 0 words))
+    run_so = legal_run (begin_by told book.plan book.start) first now (records_of (places_of ran.come.of))
+        (deeds_from (places_of ran.come.of) ran.come.answers)
         known_end.opened known_end.does known_end.whole known_end.rows known_end.rules
-        (rules_at_end (begin_by told book.plan book.start) first now (places_of ran.come.of) (deeds_from (places_of ran.come.of) ran.come.answers)
+        (rules_at_end (begin_by told book.plan book.start) first now (places_of ran.come.of)
+        (deeds_from (places_of ran.come.of) ran.come.answers)
         known_end.opened known_end.does known_end.whole known_end.plan_is known_end.rules)
-        (λ row. slice_index words row) known_end.words_are (take entries_added.count (releases book.state 0 words)) known_end.releases_are
+        (λ row. slice_index words row) known_end.words_are (take entries_added.count (releases book.state 0 words))
+        known_end.releases_are
         (TurnIn (places_of ran.come.of)) known_end.pieces known_end.lined known_end.once
 
     abbrev sound_call_run : IsSound (course_of call account book.plan book.start) (places_of ran.come.of)
@@ -568,15 +655,21 @@ module _ (told : Bool) (site after : SiteSeen) (source source_after : SourceSeen
         plan_is = (ran.founded is_told).plan_is;
         rules = (ran.founded is_told).rules;
         run = moved_run book.plan book.start (records_of (places_of ran.come.of)) (TurnIn (places_of ran.come.of))
-            (entries_in now ++ take entries_added.count (releases book.state 0 words)) entries (sym entries_split) run_so;
+            (entries_in now ++ take entries_added.count (releases book.state 0 words)) entries (sym entries_split)
+            run_so;
       };
-      answers = subst (λ (c : Course). All (λ (deed : Deed). Fits (NearWord c.begin.start c.entries (records_of (places_of ran.come.of))) c deed.task deed.answer)
+      answers =
+          subst (λ (c : Course).
+          All (λ (deed : Deed). Fits (NearWord c.begin.start c.entries (records_of (places_of ran.come.of))) c
+          deed.task deed.answer)
           (deeds_from (places_of ran.come.of) ran.come.answers)) course_is sound_so.answers;
       pairs = sound_so.pairs;
       pairs_above = sound_so.pairs_above;
       accepted = sound_so.accepted;
       accepted_above = sound_so.accepted_above;
-      accepted_near = subst (λ (c : Course). All (IsNearBehind c.entries) (deeds_from (places_of ran.come.of) ran.come.answers)) course_is sound_so.accepted_near;
+      accepted_near =
+          subst (λ (c : Course). All (IsNearBehind c.entries) (deeds_from (places_of ran.come.of) ran.come.answers))
+          course_is sound_so.accepted_near;
       one_fault = sound_so.one_fault;
       order = subst (λ (c : Course). AllPairs (λ one other. InTurn one other → StandsBehind c.begin c.entries one other)
           (deeds_from (places_of ran.come.of) ran.come.answers)) course_is sound_so.order;
@@ -591,13 +684,18 @@ module _ (told : Bool) (site after : SiteSeen) (source source_after : SourceSeen
     -- the log goes on from the one at the close
     log_on : (rest : List Logged) × (end.last.log ≡ log_of now ++ rest)
     log_on = elim end.puts_end [
-      | inl broken ↦ (end.goes_on.added, ap (λ (b : BookView). b.log) broken.1 ∙ end.goes_on.log ∙ ap (λ (l : List Logged). l ++ end.goes_on.added) ran.log)
+      | inl broken ↦ (
+        end.goes_on.added,
+        ap (λ (b : BookView). b.log) broken.1 ∙ end.goes_on.log
+            ∙ ap (λ (l : List Logged). l ++ end.goes_on.added) ran.log,
+      )
       | inr put ↦ (
         end.goes_on.added ++ lines.Piece (sunk_between end.released.site.trace end.last.site.trace) ∷ [],
         ap (λ (b : BookView). b.log) put.1.made
             ∙ ap (λ (l : List Logged). l ++ lines.Piece (sunk_between end.released.site.trace end.last.site.trace) ∷ [])
             (end.goes_on.log ∙ ap (λ (l : List Logged). l ++ end.goes_on.added) ran.log)
-            ∙ append_assoc (log_of now) end.goes_on.added (lines.Piece (sunk_between end.released.site.trace end.last.site.trace) ∷ []),
+            ∙ append_assoc (log_of now) end.goes_on.added
+            (lines.Piece (sunk_between end.released.site.trace end.last.site.trace) ∷ []),
       )
     ]
 
@@ -618,110 +716,149 @@ module _ (told : Bool) (site after : SiteSeen) (source source_after : SourceSeen
         (deeds_from (places_of ran.come.of) ran.come.answers) (ran.come.settled is_told (ran.founded is_told)))
 
     -- the pieces are a front of what is due
-    pieces_front : pieces_of end.last.log ≡ take (length (pieces_of end.last.log)) (deeds_octets (deeds_from (places_of ran.come.of) ran.come.answers) ++ end_octets call end.end)
+    pieces_front : pieces_of end.last.log ≡ take (length (pieces_of end.last.log))
+        (deeds_octets (deeds_from (places_of ran.come.of) ran.come.answers) ++ end_octets call end.end)
     pieces_front =
-        let due : deeds_octets (deeds_from (places_of ran.come.of) ran.come.answers) ++ end_octets call end.end ≡ due_octets call account =
-        ap (λ (l : List ℕ). l ++ end_octets call end.end) (octets_of (places_of ran.come.of) ran.come.answers ran.come.few) in
+        let due : deeds_octets (deeds_from (places_of ran.come.of) ran.come.answers) ++ end_octets call end.end
+        ≡ due_octets call account =
+        ap (λ (l : List ℕ). l ++ end_octets call end.end)
+        (octets_of (places_of ran.come.of) ran.come.answers ran.come.few) in
         subst (λ (l : List ℕ). pieces_of end.last.log ≡ take (length (pieces_of end.last.log)) l) (sym due)
         (elim puts_answers [
           | inl put ↦
               let same : pieces_of end.last.log ≡ due_octets call account =
-              sym (drop-append_seam site.trace.now.sunk (pieces_of end.last.log)) ∙ ap (drop (length site.trace.now.sunk)) (sym (sunk_is is_told) ∙ put.sunk is_told)
+              sym (drop-append_seam site.trace.now.sunk (pieces_of end.last.log))
+              ∙ ap (drop (length site.trace.now.sunk)) (sym (sunk_is is_told) ∙ put.sunk is_told)
               ∙ drop-append_seam site.trace.now.sunk (due_octets call account) in
-              subst (λ (l : List ℕ). l ≡ take (length l) (due_octets call account)) (sym same) (sym (take_all (length (due_octets call account)) (due_octets call account) (omega arith)))
+              subst (λ (l : List ℕ). l ≡ take (length l) (due_octets call account)) (sym same)
+              (sym (take_all (length (due_octets call account)) (due_octets call account) (omega arith)))
           | inr front ↦
               between_front site.trace.now.sunk (due_octets call account) (pieces_of end.last.log)
-              (subst (Between site.trace.now.sunk (site.trace.now.sunk ++ due_octets call account)) (sunk_is is_told) (front.sunk is_told))
+              (subst (Between site.trace.now.sunk (site.trace.now.sunk ++ due_octets call account)) (sunk_is is_told)
+              (front.sunk is_told))
         ])
 
     pub moments_so : EachMoment site.trace after.trace
         (λ image sunk. IsEarly call account.told image sunk ⊎ IsServed call account book.plan book.start image sunk)
     moments_so =
         let history = end.kept.history is_told in
-        let serving : EachMoment book.opened.trace after.trace (Serves book.start end.last.log end.last.standing book.opened.trace.now.sunk) =
-        subst (λ (o : SiteSeen). EachMoment book.opened.trace o.trace (Serves book.start end.last.log end.last.standing book.opened.trace.now.sunk)) (sym end.site_is)
-        (subst (λ (st : State). EachMoment book.opened.trace end.last.site.trace (Serves st end.last.log end.last.standing book.opened.trace.now.sunk)) last_start
-        (subst (λ (o : SiteSeen). EachMoment o.trace end.last.site.trace (Serves end.last.start end.last.log end.last.standing o.trace.now.sunk)) last_opened history.moments)) in
-        all_moments call account book.plan book.start book.opened.trace end.last.log end.last.standing (ran.opening is_told) (ran.sunk is_told) serving
+        let serving : EachMoment book.opened.trace after.trace
+        (Serves book.start end.last.log end.last.standing book.opened.trace.now.sunk) =
+        subst (λ (o : SiteSeen). EachMoment book.opened.trace o.trace
+        (Serves book.start end.last.log end.last.standing book.opened.trace.now.sunk)) (sym end.site_is)
+        (subst (λ (st : State). EachMoment book.opened.trace end.last.site.trace
+        (Serves st end.last.log end.last.standing book.opened.trace.now.sunk)) last_start
+        (subst (λ (o : SiteSeen). EachMoment o.trace end.last.site.trace
+        (Serves end.last.start end.last.log end.last.standing o.trace.now.sunk)) last_opened history.moments)) in
+        all_moments call account book.plan book.start book.opened.trace end.last.log end.last.standing
+        (ran.opening is_told) (ran.sunk is_told) serving
         end.entries_are settled_last covered_so pieces_front
 
     pub fences_so : EachMoment site.trace after.trace (λ image sunk. IsEarly call account.told image sunk
         ⊎ (LeftByOpening site.trace.now.image image ⊎ IsFenced call account book.start image sunk))
     fences_so =
         let history = end.kept.history is_told in
-        let serving : EachMoment book.opened.trace after.trace (Serves book.start end.last.log end.last.standing book.opened.trace.now.sunk) =
-        subst (λ (o : SiteSeen). EachMoment book.opened.trace o.trace (Serves book.start end.last.log end.last.standing book.opened.trace.now.sunk)) (sym end.site_is)
-        (subst (λ (st : State). EachMoment book.opened.trace end.last.site.trace (Serves st end.last.log end.last.standing book.opened.trace.now.sunk)) last_start
-        (subst (λ (o : SiteSeen). EachMoment o.trace end.last.site.trace (Serves end.last.start end.last.log end.last.standing o.trace.now.sunk)) last_opened history.moments)) in
+        let serving : EachMoment book.opened.trace after.trace
+        (Serves book.start end.last.log end.last.standing book.opened.trace.now.sunk) =
+        subst (λ (o : SiteSeen). EachMoment book.opened.trace o.trace
+        (Serves book.start end.last.log end.last.standing book.opened.trace.now.sunk)) (sym end.site_is)
+        (subst (λ (st : State). EachMoment book.opened.trace end.last.site.trace
+        (Serves st end.last.log end.last.standing book.opened.trace.now.sunk)) last_start
+        (subst (λ (o : SiteSeen). EachMoment o.trace end.last.site.trace
+        (Serves end.last.start end.last.log end.last.standing o.trace.now.sunk)) last_opened history.moments)) in
         all_fences call account book.start end.last.log (log_of now) log_on.0 end.last.standing end.entries_are log_on.1
-        (ran.come.fenced is_told) (ran.come.earlier is_told) book.opened.trace (ran.opening is_told) (ran.sunk is_told) serving
+        (ran.come.fenced is_told) (ran.come.earlier is_told) book.opened.trace (ran.opening is_told) (ran.sunk is_told)
+        serving
 
   -- ---- its releases
 
-  full_answer : came ≡ ends.Ended → end.end ≡ ends.SessionFull → (end.answer ≡ Err SessionFull) × (¬ Rose site.faults book.site.faults)
+  full_answer : came ≡ ends.Ended → end.end ≡ ends.SessionFull → (end.answer ≡ Err SessionFull)
+      × (¬ Rose site.faults book.site.faults)
   full_answer is_ended full = elim end.end_is [
-    | inl failed ↦ absurd (let st : end_status (ends.SiteFault book.site.faults) ≡ end_status ends.SessionFull = ap end_status (sym failed.1 ∙ full) in omega arith)
+    | inl failed ↦ absurd (let st : end_status (ends.SiteFault book.site.faults) ≡ end_status ends.SessionFull =
+        ap end_status (sym failed.1 ∙ full) in omega arith)
     | inr well ↦ elim well.1 [
       | inl other ↦ absurd (other.0 is_ended)
       | inr ended ↦ elim ended.1 [
-        | inl rose ↦ absurd (let st : end_status (ends.SiteFault end.released.site.faults) ≡ end_status ends.SessionFull = ap end_status (sym rose.1 ∙ full) in omega arith)
+        | inl rose ↦
+            absurd (let st : end_status (ends.SiteFault end.released.site.faults) ≡ end_status ends.SessionFull =
+            ap end_status (sym rose.1 ∙ full) in omega arith)
         | inr calm ↦ elim calm.1 [
           | inl found ↦ (found.0, well.0)
-          | inr none ↦ absurd (let st : end_status ends.Ended ≡ end_status ends.SessionFull = ap end_status (sym none ∙ full) in omega arith)
+          | inr none ↦ absurd (let st : end_status ends.Ended ≡ end_status ends.SessionFull =
+              ap end_status (sym none ∙ full) in omega arith)
         ]
       ]
     ]
   ]
 
   drop_lanes : drop (length (entries_in now)) entries ≡ take entries_added.count (releases book.state 0 words)
-  drop_lanes = ap (drop (length (entries_in now))) entries_split ∙ drop-append_seam (entries_in now) (take entries_added.count (releases book.state 0 words))
+  drop_lanes = ap (drop (length (entries_in now))) entries_split ∙ drop-append_seam (entries_in now)
+      (take entries_added.count (releases book.state 0 words))
 
-  state_at_end : ¬ Rose book.opened.faults book.site.faults → after_first book.start entries (length (entries_in now)) ≡ book.state
+  state_at_end : ¬ Rose book.opened.faults book.site.faults → after_first book.start entries (length (entries_in now))
+      ≡ book.state
   state_at_end well =
       ap (λ (l : List Entry). histories.after book.start (take (length (entries_in now)) l)) entries_split
-      ∙ ap (histories.after book.start) (take_at (entries_in now) (take entries_added.count (releases book.state 0 words)) (length (entries_in now)) refl)
+      ∙ ap (histories.after book.start)
+      (take_at (entries_in now) (take entries_added.count (releases book.state 0 words)) (length (entries_in now))
+      refl)
       ∙ sym (state_is well)
 
   rose_to_end : Rose book.opened.faults book.site.faults → Rose site.faults after.faults
-  rose_to_end rose = let a = ran.same_faults in let b = end.goes_on.later in let c = last_later in let d = after_faults in omega arith
+  rose_to_end rose = let a = ran.same_faults in let b = end.goes_on.later in let c = last_later in
+      let d = after_faults in omega arith
 
   -- the state behind the entries of the lanes
   at_close : after_first book.start entries (length (entries_in now)) ≡ histories.after book.start (entries_in now)
   at_close =
       ap (λ (l : List Entry). histories.after book.start (take (length (entries_in now)) l)) entries_split
-      ∙ ap (histories.after book.start) (take_at (entries_in now) (take entries_added.count (releases book.state 0 words)) (length (entries_in now)) refl)
+      ∙ ap (histories.after book.start)
+      (take_at (entries_in now) (take entries_added.count (releases book.state 0 words)) (length (entries_in now))
+      refl)
 
-  near_so : IsTrue told → (key row : ℕ) → place_of (after_first book.start entries (length (entries_in now))).keys key ≡ Some row
+  near_so : IsTrue told → (key row : ℕ) → place_of (after_first book.start entries (length (entries_in now))).keys key
+      ≡ Some row
       → NearWord book.start entries (records_of (places_of ran.come.of)) key (slice_index words row)
   near_so is_told key row is =
       let e = known_end is_told in
-      subst (λ (l : List Entry). NearWord book.start l (records_of (places_of ran.come.of)) key (slice_index words row)) (sym entries_split)
-      (word_near (begin_by told book.plan book.start) first now (records_of (places_of ran.come.of)) (deeds_from (places_of ran.come.of) ran.come.answers)
+      subst (λ (l : List Entry). NearWord book.start l (records_of (places_of ran.come.of)) key (slice_index words row))
+      (sym entries_split)
+      (word_near (begin_by told book.plan book.start) first now (records_of (places_of ran.come.of))
+      (deeds_from (places_of ran.come.of) ran.come.answers)
       e.opened e.does e.whole e.rows e.rules
-      (rules_at_end (begin_by told book.plan book.start) first now (places_of ran.come.of) (deeds_from (places_of ran.come.of) ran.come.answers)
+      (rules_at_end (begin_by told book.plan book.start) first now (places_of ran.come.of)
+      (deeds_from (places_of ran.come.of) ran.come.answers)
       e.opened e.does e.whole e.plan_is e.rules)
-      (λ row. slice_index words row) e.words_are (take entries_added.count (releases book.state 0 words)) e.releases_are key row
+      (λ row. slice_index words row) e.words_are (take entries_added.count (releases book.state 0 words)) e.releases_are
+      key row
       (ap (λ (st : State). place_of st.keys key) (sym at_close) ∙ is))
 
   above_so : IsTrue told → All (λ (deed : Deed). (key number row : ℕ) → Uses deed.answer key number
-      → place_of (after_first book.start entries (length (entries_in now))).keys key ≡ Some row → number < slice_index words row)
+      → place_of (after_first book.start entries (length (entries_in now))).keys key ≡ Some row
+      → number < slice_index words row)
       (deeds_from (places_of ran.come.of) ran.come.answers)
   above_so is_told k x low key number row uses is =
       let e = known_end is_told in
-      used_below (begin_by told book.plan book.start) first now (records_of (places_of ran.come.of)) (deeds_from (places_of ran.come.of) ran.come.answers)
+      used_below (begin_by told book.plan book.start) first now (records_of (places_of ran.come.of))
+      (deeds_from (places_of ran.come.of) ran.come.answers)
       e.opened e.does e.whole e.rows e.rules
-      (rules_at_end (begin_by told book.plan book.start) first now (places_of ran.come.of) (deeds_from (places_of ran.come.of) ran.come.answers)
+      (rules_at_end (begin_by told book.plan book.start) first now (places_of ran.come.of)
+      (deeds_from (places_of ran.come.of) ran.come.answers)
       e.opened e.does e.whole e.plan_is e.rules)
-      (λ row. slice_index words row) e.words_are (take entries_added.count (releases book.state 0 words)) e.releases_are k x low key number row uses
+      (λ row. slice_index words row) e.words_are (take entries_added.count (releases book.state 0 words)) e.releases_are
+      k x low key number row uses
       (ap (λ (st : State). place_of st.keys key) (sym at_close) ∙ is)
 
-  uncounted_so : All (λ (deed : Deed). IsTrue (tells_count deed) → deed.answer.position ≤ length (entries_in now)) (deeds_from (places_of ran.come.of) ran.come.answers)
+  uncounted_so : All (λ (deed : Deed). IsTrue (tells_count deed) → deed.answer.position ≤ length (entries_in now))
+      (deeds_from (places_of ran.come.of) ran.come.answers)
   uncounted_so k d low tells = ((ran.come.done.does.answers.stand k d low).counted tells).1
 
   moved_so : IsTrue told → MovedWords call account book.start (length (entries_in now)) words
   moved_so is_told =
       moved_call call account (begin_by told book.plan book.start) first now words
-      (take entries_added.count (releases book.state 0 words)) refl ran.come.done.none_made ran.whole (ran.founded is_told).opened ran.stand (known_end is_told).once ran.come.moved entries_split
+      (take entries_added.count (releases book.state 0 words)) refl ran.come.done.none_made ran.whole
+      (ran.founded is_told).opened ran.stand (known_end is_told).once ran.come.moved entries_split
 
   released_so : IsTrue told → (r : IsReleased call account book.start (length (entries_in now))) × (r.words ≡ words)
   released_so is_told = elim rose_or [
@@ -731,9 +868,11 @@ module _ (told : Bool) (site after : SiteSeen) (source source_after : SourceSeen
         rows = ran.rows;
         count = 0;
         are_due = drop_lanes ∙ none_released rose;
-        stopped = λ r. ap length entries_split ∙ ap (λ (l : List Entry). length (entries_in now ++ l)) (none_released rose) ∙ ap length (append-nil (entries_in now));
+        stopped = λ r. ap length entries_split ∙ ap (λ (l : List Entry). length (entries_in now ++ l))
+            (none_released rose) ∙ ap length (append-nil (entries_in now));
         refused = λ few. inl (rose_to_end rose);
-        full = λ is_ended full. absurd ((full_answer is_ended full).1 (let a = ran.same_faults in let r = rose in omega arith));
+        full = λ is_ended full.
+            absurd ((full_answer is_ended full).1 (let a = ran.same_faults in let r = rose in omega arith));
         filled = filled;
         uncounted = uncounted_so;
         moved = moved_so is_told;
@@ -744,7 +883,8 @@ module _ (told : Bool) (site after : SiteSeen) (source source_after : SourceSeen
     )
     | inr well ↦
         let state : after_first book.start entries (length (entries_in now)) ≡ book.state = state_at_end well in
-        let size : length (releases (after_first book.start entries (length (entries_in now))) 0 words) ≡ length (releases book.state 0 words) =
+        let size : length (releases (after_first book.start entries (length (entries_in now))) 0 words)
+        ≡ length (releases book.state 0 words) =
         ap (λ (st : State). length (releases st 0 words)) state in (
           record {
             words = words;
@@ -754,7 +894,8 @@ module _ (told : Bool) (site after : SiteSeen) (source source_after : SourceSeen
             stopped = λ r. absurd (well (let a = ran.same_faults in let q = r in omega arith));
             refused = λ few. refused_by (entries_added.refused (omega arith));
             full = λ is_ended full.
-                let a = (released_full words book end.released end.answer end.releases (full_answer is_ended full).0).1 in
+                let a = (released_full words book end.released end.answer end.releases
+                (full_answer is_ended full).0).1 in
                 let b = ap length entries_added.entries in
                 let c = length-append (entries_of book.log) (take entries_added.count (releases book.state 0 words)) in
                 let d = length-take entries_added.count (releases book.state 0 words) in
@@ -770,7 +911,8 @@ module _ (told : Bool) (site after : SiteSeen) (source source_after : SourceSeen
   ]
     where
       refused_by : IsRefusedRelease end.released → Rose site.faults after.faults ⊎ (length entries ≡ MOST_ENTRIES)
-      refused_by (inl rose) = inl (let a = ap (λ (s : SiteSeen). s.faults) end.goes_on.opened in let b = ran.same_faults in let c = last_later in let d = after_faults in let r = rose in omega arith)
+      refused_by (inl rose) = inl (let a = ap (λ (s : SiteSeen). s.faults) end.goes_on.opened in
+          let b = ran.same_faults in let c = last_later in let d = after_faults in let r = rose in omega arith)
       refused_by (inr full) = inr (let a = ap length entries_known in omega arith)
 
   module _ (shows_one : (image : List ℕ) (one other : State) → Shows image one → Shows image other → one ≡ other)
@@ -779,11 +921,13 @@ module _ (told : Bool) (site after : SiteSeen) (source source_after : SourceSeen
     plan_same is_told plan state shows = same_ok plan book.plan (sym shows.says ∙ ran.says is_told)
 
     state_same : IsTrue told → (plan : PlanLines) (state : State) → ShowsAtEntry call plan state → state ≡ book.start
-    state_same is_told plan state shows = shows_one site.trace.now.image state book.start shows.shows (ran.shows is_told)
+    state_same is_told plan state shows =
+        shows_one site.trace.now.image state book.start shows.shows (ran.shows is_told)
 
     -- ---- why it ended
 
-    cause_of : (c : RunEnd) → came ≡ c → EndsReading source source_after ran.come.items ran.come.read ran.come.part c → CameBy call account c
+    cause_of : (c : RunEnd) → came ≡ c → EndsReading source source_after ran.come.items ran.come.read ran.come.part c
+        → CameBy call account c
     cause_of ends.Ended is reads = reads
     cause_of (ends.Malformed offset) is reads = reads
     cause_of (ends.SourceFault count) is reads = reads
@@ -794,9 +938,11 @@ module _ (told : Bool) (site after : SiteSeen) (source source_after : SourceSeen
         let f = ran.come.full is in
         let none : take entries_added.count (releases book.state 0 words) ≡ [] =
         empty_entries (take entries_added.count (releases book.state 0 words))
-        (let a = f.full in let b = ap length entries_split in let c = length-append (entries_in now) (take entries_added.count (releases book.state 0 words)) in
+        (let a = f.full in let b = ap length entries_split in
+        let c = length-append (entries_in now) (take entries_added.count (releases book.state 0 words)) in
         let d = entries_most in omega arith) in
-        let same : entries ≡ entries_in now = entries_split ∙ ap (λ (l : List Entry). entries_in now ++ l) none ∙ append-nil (entries_in now) in
+        let same : entries ≡ entries_in now =
+        entries_split ∙ ap (λ (l : List Entry). entries_in now ++ l) none ∙ append-nil (entries_in now) in
         record {
           full = (let a = f.full in let b = ap length same in let d = entries_most in omega arith);
           not_failed = λ rose. f.not_failed (let b = ap length same in let d = entries_most in omega arith)
@@ -809,28 +955,42 @@ module _ (told : Bool) (site after : SiteSeen) (source source_after : SourceSeen
           unmade = subst (λ (es : List Entry). HasNoEntry es f.place.task.index) (sym same) f.unmade;
         }
       where
-        due_at : (f : StopsAtFullHistory (begin_by told book.plan book.start) first now (places_of ran.come.of) ran.come.answers) → entries ≡ entries_in now
+        due_at : (f : StopsAtFullHistory (begin_by told book.plan book.start) first now (places_of ran.come.of)
+            ran.come.answers) → entries ≡ entries_in now
             → IsTrue told → (plan : PlanLines) (state : State) → ShowsAtEntry call plan state
-            → IsTrue (is_entered f.place.task.kind) ⊎ MayAppend (IsBetween (begin_by told book.plan book.start) first now) (course_in (begin_by told book.plan book.start) now) MOST_ENTRIES f.place.task
-            → IsTrue (is_entered f.place.task.kind) ⊎ MayAppend (NearWord state entries (records_of (places_of ran.come.of))) (course_of call account plan state) MOST_ENTRIES f.place.task
+            → IsTrue (is_entered f.place.task.kind)
+            ⊎ MayAppend (IsBetween (begin_by told book.plan book.start) first now)
+            (course_in (begin_by told book.plan book.start) now) MOST_ENTRIES f.place.task
+            → IsTrue (is_entered f.place.task.kind)
+            ⊎ MayAppend (NearWord state entries (records_of (places_of ran.come.of)))
+            (course_of call account plan state) MOST_ENTRIES f.place.task
         due_at f same is_told plan state shows (inl other) = inl other
         due_at f same is_told plan state shows (inr may) =
-            let far : (k n : ℕ) → IsBetween (begin_by told book.plan book.start) first now k n → NearWord book.start (entries_in now) (records_of (places_of ran.come.of)) k n =
+            let far : (k n : ℕ) → IsBetween (begin_by told book.plan book.start) first now k n
+            → NearWord book.start (entries_in now) (records_of (places_of ran.come.of)) k n =
             (let e = known_end is_told in
-            near (begin_by told book.plan book.start) first now (records_of (places_of ran.come.of)) (deeds_from (places_of ran.come.of) ran.come.answers)
+            near (begin_by told book.plan book.start) first now (records_of (places_of ran.come.of))
+            (deeds_from (places_of ran.come.of) ran.come.answers)
             e.opened e.does e.whole e.rows e.rules
-            (rules_at_end (begin_by told book.plan book.start) first now (places_of ran.come.of) (deeds_from (places_of ran.come.of) ran.come.answers)
+            (rules_at_end (begin_by told book.plan book.start) first now (places_of ran.come.of)
+            (deeds_from (places_of ran.come.of) ran.come.answers)
             e.opened e.does e.whole e.plan_is e.rules)) in
             let here : MayAppend (NearWord book.start (entries_in now) (records_of (places_of ran.come.of)))
-            (record (course_of call account book.plan book.start) { entries = entries_in now }) MOST_ENTRIES f.place.task =
-            may_append (IsBetween (begin_by told book.plan book.start) first now) (NearWord book.start (entries_in now) (records_of (places_of ran.come.of))) far
+            (record (course_of call account book.plan book.start) { entries = entries_in now }) MOST_ENTRIES
+            f.place.task =
+            may_append (IsBetween (begin_by told book.plan book.start) first now)
+            (NearWord book.start (entries_in now) (records_of (places_of ran.come.of))) far
             book.plan book.start (entries_in now) _ _ _ _ _ _ _ _ MOST_ENTRIES f.place.task may in
-            let there : MayAppend (NearWord book.start entries (records_of (places_of ran.come.of))) (course_of call account book.plan book.start) MOST_ENTRIES f.place.task =
-            subst (λ (l : List Entry). MayAppend (NearWord book.start l (records_of (places_of ran.come.of))) (record (course_of call account book.plan book.start) { entries = l }) MOST_ENTRIES f.place.task)
+            let there : MayAppend (NearWord book.start entries (records_of (places_of ran.come.of)))
+            (course_of call account book.plan book.start) MOST_ENTRIES f.place.task =
+            subst (λ (l : List Entry). MayAppend (NearWord book.start l (records_of (places_of ran.come.of)))
+            (record (course_of call account book.plan book.start) { entries = l }) MOST_ENTRIES f.place.task)
             (sym same) here in
-            inr (subst (λ (st : State). MayAppend (NearWord st entries (records_of (places_of ran.come.of))) (course_of call account plan st) MOST_ENTRIES f.place.task)
+            inr (subst (λ (st : State). MayAppend (NearWord st entries (records_of (places_of ran.come.of)))
+            (course_of call account plan st) MOST_ENTRIES f.place.task)
             (sym (state_same is_told plan state shows))
-            (subst (λ (pl : PlanLines). MayAppend (NearWord book.start entries (records_of (places_of ran.come.of))) (course_of call account pl book.start) MOST_ENTRIES f.place.task)
+            (subst (λ (pl : PlanLines). MayAppend (NearWord book.start entries (records_of (places_of ran.come.of)))
+            (course_of call account pl book.start) MOST_ENTRIES f.place.task)
             (sym (plan_same is_told plan state shows)) there))
     cause_of ends.PutFailed is reads =
         let h = has_broken is in
@@ -848,10 +1008,12 @@ module _ (told : Bool) (site after : SiteSeen) (source source_after : SourceSeen
     -- ---- all together
 
     -- where its records are of one lane
-    exact_so : IsTrue told → OneLane (records_of (places_of ran.come.of)) → IsExact call account book.plan book.start words (length (entries_in now))
+    exact_so : IsTrue told → OneLane (records_of (places_of ran.come.of))
+        → IsExact call account book.plan book.start words (length (entries_in now))
     exact_so is_told one =
         exact_call call account book.plan (begin_by told book.plan book.start) first now words
-        (take entries_added.count (releases book.state 0 words)) refl (ran.founded is_told).opened ran.whole ran.stand (ran.come.exactly one) entries_split
+        (take entries_added.count (releases book.state 0 words)) refl (ran.founded is_told).opened ran.whole ran.stand
+        (ran.come.exactly one) entries_split
         (ran.known_first ∙ ran.same_faults) ran.known
 
     sound_call : IsTrue told → ServesSoundly call account book.plan book.start
@@ -859,10 +1021,17 @@ module _ (told : Bool) (site after : SiteSeen) (source source_after : SourceSeen
     sound_call is_told =
         let (r, same) = released_so is_told in
         record {
-          sound = record { run = sound_call_run is_told; moments = moments_so is_told; fences = fences_so is_told; end_widths = end_widths };
+          sound = record {
+            run = sound_call_run is_told;
+            moments = moments_so is_told;
+            fences = fences_so is_told;
+            end_widths = end_widths;
+          };
           released = r;
-          exact = λ one. subst (λ (ws : List ℕ). IsExact call account book.plan book.start ws (length (entries_in now))) (sym same) (exact_so is_told one);
-          exit = kept_stands told call account book.start end.last is_told end.kept end.site_is end.entries_are last_start
+          exact = λ one. subst (λ (ws : List ℕ). IsExact call account book.plan book.start ws (length (entries_in now)))
+              (sym same) (exact_so is_told one);
+          exit = kept_stands told call account book.start end.last is_told end.kept end.site_is end.entries_are
+              last_start
               (ap (λ (s : SiteSeen). s.faults) last_opened ∙ ran.same_faults);
         }
 
@@ -882,6 +1051,8 @@ module _ (told : Bool) (site after : SiteSeen) (source source_after : SourceSeen
       reports = ran.come.reports;
       sound = λ is_told plan state shows.
           subst (λ (pl : PlanLines). ServesSoundly call account pl state) (sym (plan_same is_told plan state shows))
-          (subst (λ (st : State). ServesSoundly call account book.plan st) (sym (state_same is_told plan state shows)) (sound_call is_told));
-      refused = λ is_told offset none. absurd (shows_some site.trace.now.image book.start offset (ran.shows is_told) none);
+          (subst (λ (st : State). ServesSoundly call account book.plan st) (sym (state_same is_told plan state shows))
+          (sound_call is_told));
+      refused = λ is_told offset none.
+          absurd (shows_some site.trace.now.image book.start offset (ran.shows is_told) none);
     }

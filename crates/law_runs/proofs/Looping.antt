@@ -1,5 +1,7 @@
 -- One segment more in the loop of a run, whatever its end.
-use Rattle.std.proofs.Common.{◌≡◌, ◌≢◌, ◌⊎◌, ℕ, suc, zero, ◌+◌, ◌<◌, ◌≤◌, nat_lt, IsTrue, Bool, true, false, List, [], ◌∷◌, ◌++◌, length, take, Some, refl, sym, ◌∙◌, ap, subst, inl, inr, arith, cond, append-nil, append_assoc, length-append}
+use Rattle.std.proofs.Common.{◌≡◌, ◌≢◌, ◌⊎◌, ℕ, suc, zero, ◌+◌, ◌<◌, ◌≤◌, nat_lt, IsTrue, Bool, true, false, List, []}
+use Rattle.std.proofs.Common.{◌∷◌, ◌++◌, length, take, Some, refl, sym, ◌∙◌, ap, subst, inl, inr, arith, cond}
+use Rattle.std.proofs.Common.{append-nil, append_assoc, length-append}
 use Rattle.std.specs.Prelude.{map}
 use Rattle.std.specs.List.{All, AllPairs, Contains, slice_index_or, slice_get}
 use Rattle.fsr_log.specs.Noted.{Noted}
@@ -23,7 +25,8 @@ use Rattle.key_book.specs.KeyBook.{place_of}
 use Rattle.unit_state.specs.History.{after}
 use Rattle.record_io.specs.Input.{Item, IsItem, LacksNext, beginning}
 use Rattle.record_io.specs.Places.{Place, Count, counted, first_count, places_at, places_from, places_of, records_of}
-use Rattle.record_io.specs.Reading.{SourceSeen, Standing, IsReading, Loses, ReadsMore, ReadsMonitor, ReadsLast, HasTaken, first_standing}
+use Rattle.record_io.specs.Reading.{SourceSeen, Standing, IsReading, Loses, ReadsMore, ReadsMonitor, ReadsLast}
+use Rattle.record_io.specs.Reading.{HasTaken, first_standing}
 use Rattle.record_io.proofs.Placing.{places-append, counted-append}
 use Rattle.law_workers.specs.Counts.{is_of_record, count_at}
 use Rattle.run_promise.specs.History.{HasNoEntry}
@@ -48,8 +51,10 @@ use Rattle.run_promise.specs.declared.end.RunEnd.TheVariants as ends
 use Rattle.run_promise.specs.Account.{AreAnswered, answers_of_first, deeds_from, of_first}
 use Rattle.law_runs.proofs.Placed.{IsBefore, deeds_both, deeds_of_segment, places_ascend, records_length}
 use Rattle.law_runs.proofs.Segments.{are_placed, first_of, first_segments, have_lanes, none_of}
-use Rattle.law_runs.specs.Doing.{AreSettledInside, HasDone, HasFenced, HasSettled, IsFounded, IsSegment, MovedAlone, octets_put}
-use Rattle.law_runs.specs.Coming.{HasBroken, HasCome, HasPut, StopsAtFullHistory, IsServed, IsUnderWay, PutsBy, EndsReading, notes_in}
+use Rattle.law_runs.specs.Doing.{AreSettledInside, HasDone, HasFenced, HasSettled, IsFounded, IsSegment, MovedAlone}
+use Rattle.law_runs.specs.Doing.{octets_put}
+use Rattle.law_runs.specs.Coming.{HasBroken, HasCome, HasPut, StopsAtFullHistory, IsServed, IsUnderWay, PutsBy}
+use Rattle.law_runs.specs.Coming.{EndsReading, notes_in}
 use Rattle.law_runs.specs.Segment.{HandlesAndPuts, IsFullSegment, PutsBadly, PutsWell}
 use Rattle.law_runs.proofs.Appending.{may_append}
 use Rattle.law_runs.proofs.Exacting.{alone_nothing, moved_on}
@@ -62,12 +67,15 @@ use Rattle.law_runs.proofs.Words.{words_segment}
 pub same_tail : (place : Place) (xs ys : List Place) → place ∷ xs ≡ place ∷ ys → xs ≡ ys
 same_tail place xs ys h = let t = h in cc
 
-pub first_all : (n : ℕ) (places : List Place) → of_first n places ≡ places → (k : ℕ) (d : Place) → k < length places → (slice_index_or places k d).segment < n
+pub first_all : (n : ℕ) (places : List Place) → of_first n places ≡ places → (k : ℕ) (d : Place) → k < length places
+    → (slice_index_or places k d).segment < n
 first_all n [] is k d low = absurd (omega arith)
-first_all n (place ∷ places) is k d low = go (nat_lt place.segment n) refl is k low (λ same j inside. first_all n places same j d inside)
+first_all n (place ∷ places) is k d low =
+    go (nat_lt place.segment n) refl is k low (λ same j inside. first_all n places same j d inside)
   where
     go : (b : Bool) → nat_lt place.segment n ≡ b → cond b (place ∷ of_first n places) [] ≡ place ∷ places
-        → (k : ℕ) → k < length (place ∷ places) → (of_first n places ≡ places → (j : ℕ) → j < length places → (slice_index_or places j d).segment < n)
+        → (k : ℕ) → k < length (place ∷ places)
+        → (of_first n places ≡ places → (j : ℕ) → j < length places → (slice_index_or places j d).segment < n)
         → (slice_index_or (place ∷ places) k d).segment < n
     go true test same zero inside rest = grind (arith, nat_tests)
     go true test same (suc k) inside rest = rest (same_tail place (of_first n places) places same) k (omega arith)
@@ -86,15 +94,18 @@ pub record Reads (start now : SourceSeen) (items : List Item) (records : List Re
   pub records_are : records ≡ records_of (places_from (counted first_count items) more)
   pub of : All (λ (place : Place). place.segment ≡ number) (places_from (counted first_count items) more)
   pub low : All (λ (place : Place). place.segment < number) (places_of items)
-  pub whole : (places_of all ≡ places_of (items ++ more)) ⊎ ((place : Place) × (place.task.kind ≡ Monitor) × (number ≤ place.segment)
+  pub whole : (places_of all ≡ places_of (items ++ more))
+      ⊎ ((place : Place) × (place.task.kind ≡ Monitor) × (number ≤ place.segment)
       × (places_of all ≡ places_of (items ++ more) ++ place ∷ []))
 
 pub lacks_none : (read : List ℕ) → LacksNext read []
-lacks_none [] = λ rest e. let s = ap length e in let t = length-append beginning rest in let u : length beginning ≡ 8 = refl in absurd (omega arith)
+lacks_none [] = λ rest e. let s = ap length e in let t = length-append beginning rest in
+    let u : length beginning ≡ 8 = refl in absurd (omega arith)
 lacks_none (octet ∷ read) = λ item rest is e. let s = ap length e in absurd (omega arith)
 
 -- what was read to the end of a segment was taken, and no part of another item
-pub reading_takes : (start now : SourceSeen) (standing : Standing) (items : List Item) (read : List ℕ) → IsReading start now standing items read → HasTaken start now items read []
+pub reading_takes : (start now : SourceSeen) (standing : Standing) (items : List Item) (read : List ℕ)
+    → IsReading start now standing items read → HasTaken start now items read []
 reading_takes start now standing items read h = record {
   items_are = h.items_are;
   read_are = h.read_are;
@@ -120,8 +131,10 @@ front_of xs ys all k d low =
     subst IsItem (get_or_append_left xs ys d k low) (all k d (omega arith))
 
 -- records read behind items, all of the segment that is on
-pub of_one : (items more : List Item) → (counted first_count (items ++ more)).segment ≡ (counted first_count items).segment
-    → All (λ (place : Place). place.segment ≡ (counted first_count items).segment) (places_from (counted first_count items) more)
+pub of_one : (items more : List Item) → (counted first_count (items ++ more)).segment
+    ≡ (counted first_count items).segment
+    → All (λ (place : Place). place.segment ≡ (counted first_count items).segment)
+    (places_from (counted first_count items) more)
 of_one items more one k d low =
     let p = are_placed (counted first_count items) more k d low in
     let a = p.segment_low in let b = p.segment_high in
@@ -129,7 +142,8 @@ of_one items more one k d low =
     ap (λ (k : Count). k.segment) (sym (counted-append first_count items more)) ∙ one in
     omega arith
 
-abbrev pub more_reads : (start now : SourceSeen) (standing : Standing) (items : List Item) (records : List Record) → ReadsMore start now standing items records
+abbrev pub more_reads : (start now : SourceSeen) (standing : Standing) (items : List Item) (records : List Record)
+    → ReadsMore start now standing items records
     → (counted first_count items).inside ≡ 0 → Reads start now items records
 more_reads start now standing items records h begun =
     let c : Count = counted first_count items in
@@ -137,8 +151,10 @@ more_reads start now standing items records h begun =
     ap (λ (k : Count). k.segment) (sym (counted-append first_count items h.more)) ∙ h.one_segment in
     let closed : (counted (counted first_count items) h.more).inside ≡ 0 =
     ap (λ (k : Count). k.inside) (sym (counted-append first_count items h.more)) ∙ h.reading.closed in
-    let first : of_first (counted (counted first_count items) h.more).segment (places_from (counted first_count items) h.more) ≡ places_from (counted first_count items) h.more =
-    ap (λ (l : List Item). of_first (counted (counted first_count items) h.more).segment (places_from (counted first_count items) l)) (sym (append-nil h.more))
+    let first : of_first (counted (counted first_count items) h.more).segment
+    (places_from (counted first_count items) h.more) ≡ places_from (counted first_count items) h.more =
+    ap (λ (l : List Item). of_first (counted (counted first_count items) h.more).segment
+    (places_from (counted first_count items) l)) (sym (append-nil h.more))
     ∙ first_segments (counted first_count items) h.more [] closed in
     record {
       more = h.more;
@@ -151,13 +167,15 @@ more_reads start now standing items records h begun =
       records_are = h.records_are;
       of = λ k d low.
           let a = (are_placed (counted first_count items) h.more k d low).segment_low in
-          let b = first_all (counted (counted first_count items) h.more).segment (places_from (counted first_count items) h.more) first k d low in
+          let b = first_all (counted (counted first_count items) h.more).segment
+          (places_from (counted first_count items) h.more) first k d low in
           omega arith;
       low = closed_low items begun;
       whole = inl refl;
     }
 
-abbrev pub last_reads : (start now : SourceSeen) (items : List Item) (records : List Record) → ReadsLast start now items records
+abbrev pub last_reads : (start now : SourceSeen) (items : List Item) (records : List Record)
+    → ReadsLast start now items records
     → (counted first_count items).inside ≡ 0 → Reads start now items records
 last_reads start now items records h begun = record {
   more = h.more;
@@ -182,7 +200,13 @@ module _ (start now : SourceSeen) (standing : Standing) (items : List Item) (rec
 
   abbrev own_place : Place
   own_place = record {
-    task = record { index = own.index; kind = Monitor; lane = h.monitor.lane; link = h.monitor.link; octets = h.monitor.octets };
+    task = record {
+      index = own.index;
+      kind = Monitor;
+      lane = h.monitor.lane;
+      link = h.monitor.link;
+      octets = h.monitor.octets;
+    };
     segment = own.segment + 1;
   }
 
@@ -221,7 +245,8 @@ module _ (start now : SourceSeen) (standing : Standing) (items : List Item) (rec
     are = tail_of (items ++ h.more) (h.monitor ∷ []) h.reading.items_are;
     records_are = h.task_is;
     of = subst (All (λ (place : Place). place.segment ≡ own.segment + 1)) (sym its_place)
-        (All-cons (λ (place : Place). place.segment ≡ own.segment + 1) own_place [] refl (All-nil (λ (place : Place). place.segment ≡ own.segment + 1)));
+        (All-cons (λ (place : Place). place.segment ≡ own.segment + 1) own_place [] refl
+        (All-nil (λ (place : Place). place.segment ≡ own.segment + 1)));
     low = λ k d low. let a = (are_placed first_count (items ++ h.more) k d low).segment_high in omega arith;
     whole = inl refl;
   }
@@ -231,22 +256,31 @@ pub reads_lanes : (start now : SourceSeen) (items : List Item) (records : List R
     → All (λ (task : Record). task.kind ≢ Monitor) records → All (λ (task : Record). task.lane < LANES) records
 reads_lanes start now items records r plain k d low = go records r.records_are k low (plain k d low)
   where
-    at : (places : List Place) → All (λ (place : Place). place.task.kind ≢ Monitor → place.task.lane < LANES) places → (k : ℕ) → k < length (records_of places)
-        → (slice_index_or (records_of places) k d).kind ≢ Monitor → (slice_index_or (records_of places) k d).lane < LANES
+    at : (places : List Place) → All (λ (place : Place). place.task.kind ≢ Monitor → place.task.lane < LANES) places
+        → (k : ℕ) → k < length (records_of places)
+        → (slice_index_or (records_of places) k d).kind ≢ Monitor → (slice_index_or (records_of places) k d).lane
+        < LANES
     at [] all k low = absurd (omega arith)
     at (place ∷ places) all zero low = all zero place (omega arith)
     at (place ∷ places) all (suc k) low = at places (λ j e inside. all (suc j) e (omega arith)) k (omega arith)
 
     go : (rs : List Record) → rs ≡ records_of (places_from (counted first_count items) r.more) → (k : ℕ) → k < length rs
         → (slice_index_or rs k d).kind ≢ Monitor → (slice_index_or rs k d).lane < LANES
-    go rs is k low = subst (λ (l : List Record). (slice_index_or l k d).kind ≢ Monitor → (slice_index_or l k d).lane < LANES) (sym is)
-        (at (places_from (counted first_count items) r.more) (have_lanes (counted first_count items) r.more r.are) k (let s = ap length is in omega arith))
+    go rs is k low =
+        subst (λ (l : List Record). (slice_index_or l k d).kind ≢ Monitor → (slice_index_or l k d).lane < LANES)
+        (sym is)
+        (at (places_from (counted first_count items) r.more) (have_lanes (counted first_count items) r.more r.are) k
+        (let s = ap length is in omega arith))
 
-pub reads_ascend : (start now : SourceSeen) (items : List Item) (records : List Record) → Reads start now items records → Ascend records
+pub reads_ascend : (start now : SourceSeen) (items : List Item) (records : List Record) → Reads start now items records
+    → Ascend records
 reads_ascend start now items records r =
-    subst Ascend (sym r.records_are) (λ i j d lt low. go (places_from (counted first_count items) r.more) (places_ascend (counted first_count items) r.more) i j d lt low)
+    subst Ascend (sym r.records_are) (λ i j d lt low.
+    go (places_from (counted first_count items) r.more) (places_ascend (counted first_count items) r.more) i j d lt
+    low)
   where
-    at : (places : List Place) (k : ℕ) (d : Record) (e : Place) → k < length (records_of places) → slice_index_or (records_of places) k d ≡ (slice_index_or places k e).task
+    at : (places : List Place) (k : ℕ) (d : Record) (e : Place) → k < length (records_of places)
+        → slice_index_or (records_of places) k d ≡ (slice_index_or places k e).task
     at [] k d e low = absurd (omega arith)
     at (place ∷ places) zero d e low = refl
     at (place ∷ places) (suc k) d e low = at places k d e (omega arith)
@@ -255,20 +289,23 @@ reads_ascend start now items records r =
     some [] low = absurd (omega arith)
     some (place ∷ places) low = place
 
-    go : (places : List Place) → AllPairs IsBefore places → (i j : ℕ) (d : Record) → i < j → j < length (records_of places)
+    go : (places : List Place) → AllPairs IsBefore places → (i j : ℕ) (d : Record) → i < j
+        → j < length (records_of places)
         → (slice_index_or (records_of places) i d).index < (slice_index_or (records_of places) j d).index
     go places up i j d lt low =
         let size = records_length places in
         let e : Place = some places (omega arith) in
         let a = ap (λ (t : Record). t.index) (at places i d (some places (omega arith)) (omega arith)) in
         let b = ap (λ (t : Record). t.index) (at places j d (some places (omega arith)) low) in
-        let c : (slice_index_or places i (some places (omega arith))).task.index < (slice_index_or places j (some places (omega arith))).task.index =
+        let c : (slice_index_or places i (some places (omega arith))).task.index
+        < (slice_index_or places j (some places (omega arith))).task.index =
         up i j (some places (omega arith)) lt (omega arith) in
         omega arith
 
 answers_both : (xs ys : List Answer) → answers_octets (xs ++ ys) ≡ answers_octets xs ++ answers_octets ys
 answers_both [] ys = refl
-answers_both (x ∷ xs) ys = ap (λ (l : List ℕ). answer_octets x ++ l) (answers_both xs ys) ∙ sym (append_assoc (answer_octets x) (answers_octets xs) (answers_octets ys))
+answers_both (x ∷ xs) ys = ap (λ (l : List ℕ). answer_octets x ++ l) (answers_both xs ys)
+    ∙ sym (append_assoc (answer_octets x) (answers_octets xs) (answers_octets ys))
 
 place_of_task : (places : List Place) (k : ℕ) (task : Record) → slice_get (records_of places) k ≡ Some task
     → (place : Place) × (slice_get places k ≡ Some place) × (place.task ≡ task)
@@ -277,7 +314,8 @@ place_of_task (place ∷ places) zero task is = (place, refl, same_Some place.ta
 place_of_task (place ∷ places) (suc k) task is = place_of_task places k task is
 
 -- what holds of all holds of one
-all_at : (P : Place → Type 0) (places : List Place) (k : ℕ) (place : Place) → slice_get places k ≡ Some place → All P places → P place
+all_at : (P : Place → Type 0) (places : List Place) (k : ℕ) (place : Place) → slice_get places k ≡ Some place
+    → All P places → P place
 all_at P [] k place is all = absurd (let low = slice_get_within [] k place is in omega arith)
 all_at P (x ∷ places) zero place is all = subst P (same_Some x place is) (all 0 x (omega arith))
 all_at P (x ∷ places) (suc k) place is all = all_at P places k place is (λ j d low. all (suc j) d (omega arith))
@@ -291,15 +329,18 @@ get_behind (x ∷ xs) ys k = let e : suc (length xs) + k ≡ suc (length xs + k)
 
 few_of_first : (a b : ℕ) (places : List Place) → a ≤ b → length (of_first a places) ≤ length (of_first b places)
 few_of_first a b [] low = omega arith
-few_of_first a b (place ∷ places) low = go (nat_lt place.segment a) (nat_lt place.segment b) refl refl (few_of_first a b places low)
+few_of_first a b (place ∷ places) low =
+    go (nat_lt place.segment a) (nat_lt place.segment b) refl refl (few_of_first a b places low)
   where
-    go : (x y : Bool) → nat_lt place.segment a ≡ x → nat_lt place.segment b ≡ y → length (of_first a places) ≤ length (of_first b places)
+    go : (x y : Bool) → nat_lt place.segment a ≡ x → nat_lt place.segment b ≡ y
+        → length (of_first a places) ≤ length (of_first b places)
         → length (cond x (place ∷ of_first a places) []) ≤ length (cond y (place ∷ of_first b places) [])
     go false y is other rest = omega arith
     go true true is other rest = omega arith
     go true false is other rest = absurd (grind (arith, nat_tests))
 
-octets_of_take : (n : ℕ) (answers : List Answer) → length (answers_octets (take n answers)) ≤ length (answers_octets answers)
+octets_of_take : (n : ℕ) (answers : List Answer) → length (answers_octets (take n answers))
+    ≤ length (answers_octets answers)
 octets_of_take zero answers = omega arith
 octets_of_take (suc n) [] = omega arith
 octets_of_take (suc n) (answer ∷ answers) =
@@ -326,24 +367,31 @@ first_same n (x ∷ xs) ys high =
 
 -- ---- one segment more
 
-first_split : (n : ℕ) (xs ys : List Place) → All (λ (place : Place). place.segment < n) xs → All (λ (place : Place). n ≤ place.segment) ys
+first_split : (n : ℕ) (xs ys : List Place) → All (λ (place : Place). place.segment < n) xs
+    → All (λ (place : Place). n ≤ place.segment) ys
     → of_first n (xs ++ ys) ≡ xs
 first_split n [] [] low high = refl
 first_split n [] (y ∷ ys) low high = none_of n y ys (high zero y (omega arith))
 first_split n (x ∷ xs) ys low high = first_of n x (xs ++ ys) (low zero x (omega arith))
     ∙ ap (λ (l : List Place). x ∷ l) (first_split n xs ys (λ k d inside. low (suc k) d (omega arith)) high)
 
-reported_both : (before : List Noted) (xs ys : List Deed) → AreReported before xs → AreReported (before ++ map noted_of xs) ys → AreReported before (xs ++ ys)
+reported_both : (before : List Noted) (xs ys : List Deed) → AreReported before xs
+    → AreReported (before ++ map noted_of xs) ys → AreReported before (xs ++ ys)
 reported_both before [] ys a b = subst (λ (l : List Noted). AreReported l ys) (append-nil before) b
-reported_both before (x ∷ xs) ys (a, rest) b =
-    (a, reported_both (before ++ noted_of x ∷ []) xs ys rest (subst (λ (l : List Noted). AreReported l ys) (sym (append_assoc before (noted_of x ∷ []) (map noted_of xs))) b))
+reported_both before (x ∷ xs) ys (a, rest) b = (
+  a,
+  reported_both (before ++ noted_of x ∷ []) xs ys rest
+      (subst (λ (l : List Noted). AreReported l ys) (sym (append_assoc before (noted_of x ∷ []) (map noted_of xs))) b),
+)
 
 map_both : (xs ys : List Deed) → map noted_of (xs ++ ys) ≡ map noted_of xs ++ map noted_of ys
 map_both [] ys = refl
 map_both (x ∷ xs) ys = ap (λ (l : List Noted). noted_of x ∷ l) (map_both xs ys)
 
-module _ (start now : SourceSeen) (begin : Begin) (first v : View) (failed_before failed stored : ℕ) (items : List Item) (answers : List Answer)
-    (way : IsServed begin first v failed_before failed stored items answers) (records : List Record) (r : Reads start now items records) where
+module _ (start now : SourceSeen) (begin : Begin) (first v : View) (failed_before failed stored : ℕ) (items : List Item)
+    (answers : List Answer)
+    (way : IsServed begin first v failed_before failed stored items answers) (records : List Record)
+    (r : Reads start now items records) where
   segment : IsSegment r.number (places_of items) (places_from (counted first_count items) r.more)
   segment = record {
     next = (counted first_count items).index;
@@ -367,7 +415,8 @@ module _ (start now : SourceSeen) (begin : Begin) (first v : View) (failed_befor
   -- no record is of a segment behind this one
   low_segments : All (λ (place : Place). place.segment ≤ r.number) (places_of (items ++ r.more))
   low_segments = subst (All (λ (place : Place). place.segment ≤ r.number)) (sym all_places)
-      (All-append (λ (place : Place). place.segment ≤ r.number) (places_of items) (places_from (counted first_count items) r.more)
+      (All-append (λ (place : Place). place.segment ≤ r.number) (places_of items)
+      (places_from (counted first_count items) r.more)
       (λ k d low. let e = r.low k d low in omega arith) (λ k d low. let e = r.of k d low in omega arith))
 
   -- the records of the segments before are those of the items before
@@ -375,20 +424,25 @@ module _ (start now : SourceSeen) (begin : Begin) (first v : View) (failed_befor
   later_segments k d low = let e = r.of k d low in omega arith
 
   first_here : of_first r.number (places_of (items ++ r.more)) ≡ places_of items
-  first_here = ap (of_first r.number) all_places ∙ first_split r.number (places_of items) (places_from (counted first_count items) r.more) r.low later_segments
+  first_here = ap (of_first r.number) all_places ∙ first_split r.number (places_of items)
+      (places_from (counted first_count items) r.more) r.low later_segments
 
   first_taken : of_first r.number (places_of r.all) ≡ places_of items
   first_taken = by_whole r.whole
     where
-      by_whole : (places_of r.all ≡ places_of (items ++ r.more)) ⊎ ((place : Place) × (place.task.kind ≡ Monitor) × (r.number ≤ place.segment)
-          × (places_of r.all ≡ places_of (items ++ r.more) ++ place ∷ [])) → of_first r.number (places_of r.all) ≡ places_of items
+      by_whole : (places_of r.all ≡ places_of (items ++ r.more))
+          ⊎ ((place : Place) × (place.task.kind ≡ Monitor) × (r.number ≤ place.segment)
+          × (places_of r.all ≡ places_of (items ++ r.more) ++ place ∷ []))
+          → of_first r.number (places_of r.all) ≡ places_of items
       by_whole (inl is) = ap (of_first r.number) is ∙ first_here
       by_whole (inr (place, kind, high, is)) =
           ap (of_first r.number) (is ∙ ap (λ (l : List Place). l ++ place ∷ []) all_places
           ∙ append_assoc (places_of items) (places_from (counted first_count items) r.more) (place ∷ []))
           ∙ first_split r.number (places_of items) (places_from (counted first_count items) r.more ++ place ∷ []) r.low
-          (All-append (λ (p : Place). r.number ≤ p.segment) (places_from (counted first_count items) r.more) (place ∷ []) later_segments
-          (All-cons (λ (p : Place). r.number ≤ p.segment) place [] high (All-nil (λ (p : Place). r.number ≤ p.segment))))
+          (All-append (λ (p : Place). r.number ≤ p.segment) (places_from (counted first_count items) r.more)
+          (place ∷ []) later_segments
+          (All-cons (λ (p : Place). r.number ≤ p.segment) place [] high
+          (All-nil (λ (p : Place). r.number ≤ p.segment))))
 
   -- memory ran out: the records of the segments before are handled
   pub wants : HasCome start now begin first v failed_before failed stored ends.NoMemory
@@ -416,8 +470,10 @@ module _ (start now : SourceSeen) (begin : Begin) (first v : View) (failed_befor
         let b = ap length (way.put.octets is_told) in omega arith;
   }
 
-  module _ (mid w : View) (next : List Answer) (stored_now : ℕ) (fewer : stored ≤ stored_now) (whole_v : IsWhole begin.rows v)
-      (h : HandlesAndPuts begin v mid w records next stored_now) (reported : AreReported (notes_in items answers) (deeds_of r.number records next)) where
+  module _ (mid w : View) (next : List Answer) (stored_now : ℕ) (fewer : stored ≤ stored_now)
+      (whole_v : IsWhole begin.rows v)
+      (h : HandlesAndPuts begin v mid w records next stored_now)
+      (reported : AreReported (notes_in items answers) (deeds_of r.number records next)) where
     handled : (layout : Layout) → LiesIn layout r.number (records_of (places_from (counted first_count items) r.more))
         → Handled layout begin v mid (records_of (places_from (counted first_count items) r.more))
         (deeds_of r.number (records_of (places_from (counted first_count items) r.more)) next)
@@ -436,12 +492,17 @@ module _ (start now : SourceSeen) (begin : Begin) (first v : View) (failed_befor
         (own_does begin first v mid w (places_of items) (places_from (counted first_count items) r.more) answers next
         r.number way.done way.each whole_v segment handled h.puts)
         h.puts h.same_numbers h.settles.at way.exactly
-        (subst (λ (rs : List Record). OneLane rs → ServedAlone begin v mid (length rs) (deeds_of r.number rs next)) r.records_are
+        (subst (λ (rs : List Record). OneLane rs → ServedAlone begin v mid (length rs) (deeds_of r.number rs next))
+        r.records_are
         (λ one. h.exactly one r.number)))
 
-    pub moved_now : MovesCounted begin first w (records_of (places_of (items ++ r.more))) (deeds_from (places_of (items ++ r.more)) (answers ++ next))
-    moved_now = subst (λ (ps : List Place). MovesCounted begin first w (records_of ps) (deeds_from ps (answers ++ next))) (sym all_places)
-        (words_segment begin first v mid w (places_of items) (places_from (counted first_count items) r.more) answers next
+    pub moved_now : MovesCounted begin first w (records_of (places_of (items ++ r.more)))
+        (deeds_from (places_of (items ++ r.more)) (answers ++ next))
+    moved_now =
+        subst (λ (ps : List Place). MovesCounted begin first w (records_of ps) (deeds_from ps (answers ++ next)))
+        (sym all_places)
+        (words_segment begin first v mid w (places_of items) (places_from (counted first_count items) r.more) answers
+        next
         r.number records r.records_are segment way.each way.done.does way.moved
         (own_does begin first v mid w (places_of items) (places_from (counted first_count items) r.more) answers next
         r.number way.done way.each whole_v segment handled h.puts)
@@ -450,39 +511,52 @@ module _ (start now : SourceSeen) (begin : Begin) (first v : View) (failed_befor
     reported_on : AreReported [] (deeds_from (places_of (items ++ r.more)) (answers ++ next))
     reported_on =
         let more : List Place = places_from (counted first_count items) r.more in
-        let both : deeds_from (places_of (items ++ r.more)) (answers ++ next) ≡ deeds_from (places_of items) answers ++ deeds_of r.number records next =
-        ap (λ (ps : List Place). deeds_from ps (answers ++ next)) all_places ∙ deeds_both (places_of items) more answers next way.each
+        let both : deeds_from (places_of (items ++ r.more)) (answers ++ next) ≡ deeds_from (places_of items) answers
+        ++ deeds_of r.number records next =
+        ap (λ (ps : List Place). deeds_from ps (answers ++ next)) all_places ∙ deeds_both (places_of items) more answers
+        next way.each
         ∙ ap (λ (ds : List Deed). deeds_from (places_of items) answers ++ ds)
-        (deeds_of_segment r.number more next r.of ∙ ap (λ (rs : List Record). deeds_of r.number rs next) (sym r.records_are)) in
-        subst (AreReported []) (sym both) (reported_both [] (deeds_from (places_of items) answers) (deeds_of r.number records next) way.reports reported)
+        (deeds_of_segment r.number more next r.of ∙ ap (λ (rs : List Record). deeds_of r.number rs next)
+        (sym r.records_are)) in
+        subst (AreReported []) (sym both)
+        (reported_both [] (deeds_from (places_of items) answers) (deeds_of r.number records next) way.reports
+        reported)
 
     still : octets_put mid ≡ octets_put v
     still = quiet begin first v mid w (places_of items) (places_from (counted first_count items) r.more) answers next
         r.number way.done way.each whole_v segment handled h.puts h.whole_mid
 
-    pub settled_then : IsTrue begin.told → IsFounded begin first → HasSettled begin w stored_now (places_of (items ++ r.more)) (answers ++ next)
-    settled_then is_told founded = subst (λ (ps : List Place). HasSettled begin w stored_now ps (answers ++ next)) (sym all_places)
+    pub settled_then : IsTrue begin.told → IsFounded begin first
+        → HasSettled begin w stored_now (places_of (items ++ r.more)) (answers ++ next)
+    settled_then is_told founded =
+        subst (λ (ps : List Place). HasSettled begin w stored_now ps (answers ++ next)) (sym all_places)
         (settled_on begin first v mid w (places_of items) (places_from (counted first_count items) r.more) answers next
         r.number way.done way.each whole_v segment handled h.puts founded h.whole_mid h.whole
-        (subst (AllPairs IsBefore) all_places (places_ascend first_count (items ++ r.more))) stored stored_now (way.settled is_told founded) fewer
+        (subst (AllPairs IsBefore) all_places (places_ascend first_count (items ++ r.more))) stored stored_now
+        (way.settled is_told founded) fewer
         (way.put.octets is_told) h.known h.settles
-        (subst (AreSettledInside h.known) (sym (deeds_of_segment r.number (places_from (counted first_count items) r.more) next r.of))
+        (subst (AreSettledInside h.known)
+        (sym (deeds_of_segment r.number (places_from (counted first_count items) r.more) next r.of))
         (subst (λ (rs : List Record). AreSettledInside h.known (deeds_of r.number rs next)) r.records_are
         (h.entered r.number))))
 
-    pub well : (failed_now : ℕ) → PutsWell begin mid w next failed failed_now → HasPut begin w failed_before failed_now (answers ++ next)
+    pub well : (failed_now : ℕ) → PutsWell begin mid w next failed failed_now
+        → HasPut begin w failed_before failed_now (answers ++ next)
     well failed_now p = record {
-      octets = λ is_told. p.octets is_told ∙ ap (λ (l : List ℕ). l ++ answers_octets next) (still ∙ way.put.octets is_told) ∙ sym (answers_both answers next);
+      octets = λ is_told. p.octets is_told ∙ ap (λ (l : List ℕ). l ++ answers_octets next)
+          (still ∙ way.put.octets is_told) ∙ sym (answers_both answers next);
       none_failed = p.none_failed ∙ way.put.none_failed;
     }
 
-    pub badly : (failed_now : ℕ) → PutsBadly begin mid w next failed failed_now → HasBroken begin w failed_before failed_now (answers ++ next)
+    pub badly : (failed_now : ℕ) → PutsBadly begin mid w next failed failed_now
+        → HasBroken begin w failed_before failed_now (answers ++ next)
     badly failed_now p = record {
       octets = λ is_told.
           let b = p.octets is_told in
           record {
             least = omega arith;
-            prefix = b.prefix ∙ ap (λ (l : List ℕ). take (length (octets_put w)) (l ++ answers_octets next)) (still ∙ way.put.octets is_told)
+            prefix = b.prefix ∙ ap (λ (l : List ℕ). take (length (octets_put w)) (l ++ answers_octets next))
+                (still ∙ way.put.octets is_told)
                 ∙ ap (take (length (octets_put w))) (sym (answers_both answers next));
           };
       one_failed = (let a = p.one_failed in let b = way.put.none_failed in omega arith);
@@ -496,12 +570,14 @@ module _ (start now : SourceSeen) (begin : Begin) (first v : View) (failed_befor
         let low = b.least in let high = b.most in
         record {
           row = b.row;
-          row_is = subst (λ (es : List Entry). place_of (after begin.start es).keys k ≡ Some b.row) (sym h.puts.entries) b.row_is;
+          row_is = subst (λ (es : List Entry). place_of (after begin.start es).keys k ≡ Some b.row) (sym h.puts.entries)
+              b.row_is;
           least = omega arith;
           most = omega arith;
         }
 
-    pub full_on : IsFullSegment begin v mid w records next → StopsAtFullHistory begin first w (places_of (items ++ r.more)) (answers ++ next)
+    pub full_on : IsFullSegment begin v mid w records next
+        → StopsAtFullHistory begin first w (places_of (items ++ r.more)) (answers ++ next)
     full_on f =
         let (place, there, same) = place_of_task (places_from (counted first_count items) r.more) (length next) f.task
         (subst (λ (rs : List Record). slice_get rs (length next) ≡ Some f.task) r.records_are f.first_without) in
@@ -514,26 +590,38 @@ module _ (start now : SourceSeen) (begin : Begin) (first v : View) (failed_befor
               ∙ get_behind (places_of items) (places_from (counted first_count items) r.more) (length next) ∙ there;
           last_segment = λ k d low.
               let a = low_segments k d low in
-              let b = all_at (λ (p : Place). p.segment ≡ r.number) (places_from (counted first_count items) r.more) (length next) place there r.of in omega arith;
+              let b = all_at (λ (p : Place). p.segment ≡ r.number) (places_from (counted first_count items) r.more)
+              (length next) place there r.of in omega arith;
           full = (let a = f.full in let b = ap length h.puts.entries in omega arith);
           not_failed = λ low. f.not_failed (let b = ap length h.puts.entries in omega arith);
-          due = subst (λ (t : Record). IsTrue (is_entered t.kind) ⊎ MayAppend (IsBetween begin first w) (course_in begin w) MOST_ENTRIES t) (sym same) (due f.due);
+          due = subst (λ (t : Record). IsTrue (is_entered t.kind)
+              ⊎ MayAppend (IsBetween begin first w) (course_in begin w) MOST_ENTRIES t) (sym same) (due f.due);
           unmade = subst (λ (es : List Entry). HasNoEntry es place.task.index) (sym h.puts.entries)
-              (none_at_all begin first v mid w (places_of items) (places_from (counted first_count items) r.more) answers next
+              (none_at_all begin first v mid w (places_of items) (places_from (counted first_count items) r.more)
+              answers next
               r.number way.done way.each whole_v segment handled h.puts h.whole_mid place.task.index
-              (all_at (λ (p : Place). segment.next ≤ p.task.index) (places_from (counted first_count items) r.more) (length next) place there segment.high)
-              (subst (λ (t : Record). (made : List ℕ) → mid.turn.made ≡ v.turn.made ++ made → count_at (is_of_record t.index) (log_of mid) made ≡ 0) (sym same) f.unmade));
+              (all_at (λ (p : Place). segment.next ≤ p.task.index) (places_from (counted first_count items) r.more)
+              (length next) place there segment.high)
+              (subst (λ (t : Record). (made : List ℕ) → mid.turn.made ≡ v.turn.made ++ made
+              → count_at (is_of_record t.index) (log_of mid) made ≡ 0) (sym same) f.unmade));
         }
       where
-        due : IsTrue (is_entered f.task.kind) ⊎ MayAppend (IsBetween begin v mid) (course_in begin mid) MOST_ENTRIES f.task
-            → IsTrue (is_entered f.task.kind) ⊎ MayAppend (IsBetween begin first w) (course_in begin w) MOST_ENTRIES f.task
+        due : IsTrue (is_entered f.task.kind) ⊎ MayAppend (IsBetween begin v mid) (course_in begin mid) MOST_ENTRIES
+            f.task
+            → IsTrue (is_entered f.task.kind) ⊎ MayAppend (IsBetween begin first w) (course_in begin w) MOST_ENTRIES
+            f.task
         due (inl other) = inl other
-        due (inr may) = inr (subst (λ (es : List Entry). MayAppend (IsBetween begin first w) (record (course_in begin w) { entries = es }) MOST_ENTRIES f.task) (sym h.puts.entries)
-            (may_append (IsBetween begin v mid) (IsBetween begin first w) between_on begin.plan begin.start (entries_in mid) _ _ _ _ _ _ _ _ MOST_ENTRIES f.task may))
+        due (inr may) =
+            inr (subst (λ (es : List Entry).
+            MayAppend (IsBetween begin first w) (record (course_in begin w) { entries = es }) MOST_ENTRIES f.task)
+            (sym h.puts.entries)
+            (may_append (IsBetween begin v mid) (IsBetween begin first w) between_on begin.plan begin.start
+            (entries_in mid) _ _ _ _ _ _ _ _ MOST_ENTRIES f.task may))
 
     more_put : length (octets_put mid) ≤ length (octets_put w)
     more_put =
-        let a = ap length (ap pieces_of h.puts.does.grows.earlier.log.1 ∙ pieces_both (log_of mid) h.puts.does.grows.earlier.log.0) in
+        let a = ap length (ap pieces_of h.puts.does.grows.earlier.log.1 ∙ pieces_both (log_of mid)
+        h.puts.does.grows.earlier.log.0) in
         let b = length-append (octets_put mid) (pieces_of h.puts.does.grows.earlier.log.0) in omega arith
 
     -- the answers of the segments before are those so far
@@ -570,9 +658,11 @@ module _ (start now : SourceSeen) (begin : Begin) (first v : View) (failed_befor
         → length (answers_octets (answers_of_first place.segment (places_of (items ++ r.more)) (answers ++ next)))
         ≤ length (pieces_of (take at (log_of v)))
     fenced_before is_told place at entry (inr there) line is =
-        absurd (none_known begin first v mid w (places_of items) (places_from (counted first_count items) r.more) answers
+        absurd (none_known begin first v mid w (places_of items) (places_from (counted first_count items) r.more)
+        answers
         next r.number way.done way.each whole_v segment handled h.puts at entry place.task.index line is
-        (All-contains (λ (p : Place). segment.next ≤ p.task.index) (places_from (counted first_count items) r.more) place
+        (All-contains (λ (p : Place). segment.next ≤ p.task.index) (places_from (counted first_count items) r.more)
+        place
         segment.high there))
     fenced_before is_told place at entry (inl there) line is =
         let more : List Place = places_from (counted first_count items) r.more in
@@ -612,7 +702,8 @@ module _ (start now : SourceSeen) (begin : Begin) (first v : View) (failed_befor
             let d = pieces_low (log_of w) (length (log_of v)) at ge in omega arith
 
     earlier_put : IsTrue begin.told → (place : Place) → Contains (places_of (items ++ r.more)) place
-        → length (answers_octets (answers_of_first place.segment (places_of (items ++ r.more)) (answers ++ next))) ≤ length (octets_put w)
+        → length (answers_octets (answers_of_first place.segment (places_of (items ++ r.more)) (answers ++ next)))
+        ≤ length (octets_put w)
     earlier_put is_told place there =
         let a = answers_low place there in
         let c = ap length (still ∙ way.put.octets is_told) in
@@ -630,7 +721,8 @@ module _ (start now : SourceSeen) (begin : Begin) (first v : View) (failed_befor
           answers = answers ++ next;
           last = last;
         }) came)
-        → PutsBy begin w failed_before failed_now (answers ++ next) came → (came ≡ ends.SessionFull → IsFullSegment begin v mid w records next)
+        → PutsBy begin w failed_before failed_now (answers ++ next) came
+        → (came ≡ ends.SessionFull → IsFullSegment begin v mid w records next)
         → HasCome start now begin first w failed_before failed_now stored_now came
     comes came failed_now reads answered put full = record {
       items = r.all;
@@ -679,16 +771,20 @@ module _ (start now : SourceSeen) (begin : Begin) (first v : View) (failed_befor
     }
 
     -- they and the answers so far, as the log takes them
-    pub notes_next : notes_in (items ++ r.more) (answers ++ next) ≡ notes_in items answers ++ map noted_of (deeds_of r.number records next)
+    pub notes_next : notes_in (items ++ r.more) (answers ++ next) ≡ notes_in items answers
+        ++ map noted_of (deeds_of r.number records next)
     notes_next =
         let more : List Place = places_from (counted first_count items) r.more in
-        ap (map noted_of) (ap (λ (ps : List Place). deeds_from ps (answers ++ next)) all_places ∙ deeds_both (places_of items) more answers next way.each)
+        ap (map noted_of) (ap (λ (ps : List Place). deeds_from ps (answers ++ next)) all_places
+        ∙ deeds_both (places_of items) more answers next way.each)
         ∙ map_both (deeds_from (places_of items) answers) (deeds_from more next)
         ∙ ap (λ (ds : List Deed). notes_in items answers ++ map noted_of ds)
-        (deeds_of_segment r.number more next r.of ∙ ap (λ (rs : List Record). deeds_of r.number rs next) (sym r.records_are))
+        (deeds_of_segment r.number more next r.of ∙ ap (λ (rs : List Record). deeds_of r.number rs next)
+        (sym r.records_are))
 
 -- memory ran out while a segment was read
-pub wants_reading : (start before now : SourceSeen) (standing : Standing) (begin : Begin) (first v : View) (failed_before failed stored : ℕ)
+pub wants_reading : (start before now : SourceSeen) (standing : Standing) (begin : Begin) (first v : View)
+    (failed_before failed stored : ℕ)
     (way : IsUnderWay start before standing begin first v failed_before failed stored) → Loses start now way.items
     → HasCome start now begin first v failed_before failed stored ends.NoMemory
 wants_reading start before now standing begin first v failed_before failed stored way l = record {
@@ -699,7 +795,10 @@ wants_reading start before now standing begin first v failed_before failed store
   answers = way.answers;
   takes = l.takes;
   reads = tt;
-  answered = λ told last. (((counted first_count way.items).segment, sym (first_segments first_count way.items l.more way.reading.closed)), way.served.each);
+  answered = λ told last. (
+    ((counted first_count way.items).segment, sym (first_segments first_count way.items l.more way.reading.closed)),
+    way.served.each,
+  );
   few = (let e = way.served.each in omega arith);
   done = way.served.done;
   put = way.served.put;
@@ -716,7 +815,8 @@ wants_reading start before now standing begin first v failed_before failed store
 }
 
 -- nothing was read yet
-abbrev pub begins_way : (start : SourceSeen) (begin : Begin) (first : View) (failed stored : ℕ) → log_of first ≡ [] → first.turn.made ≡ []
+abbrev pub begins_way : (start : SourceSeen) (begin : Begin) (first : View) (failed stored : ℕ) → log_of first ≡ []
+    → first.turn.made ≡ []
     → IsUnderWay start start first_standing begin first first failed failed stored
 begins_way start begin first failed stored none none_made = record {
   items = [];

@@ -1,5 +1,6 @@
 -- Records of an input in their order, with their answers: for the loop of a run.
-use Rattle.std.proofs.Common.{◌≡◌, ℕ, suc, zero, ◌+◌, ◌<◌, ◌≤◌, ◌==◌, eqb, List, [], ◌∷◌, ◌++◌, length, Bool, true, false, refl, ◌∙◌, ap, arith, cond}
+use Rattle.std.proofs.Common.{◌≡◌, ℕ, suc, zero, ◌+◌, ◌<◌, ◌≤◌, ◌==◌, eqb, List, [], ◌∷◌, ◌++◌, length, Bool, true}
+use Rattle.std.proofs.Common.{false, refl, ◌∙◌, ap, arith, cond}
 use Rattle.std.specs.List.{All, AllPairs, slice_index_or}
 use Rattle.std.proofs.lemmas.Bool.Decides.{nat_tests}
 use Rattle.std.proofs.lemmas.List.Kept.{AllPairs-cons}
@@ -24,13 +25,16 @@ pub places_ascend : (c : Count) (items : List Item) → AllPairs IsBefore (place
 places_ascend c [] i j d lt low = absurd (omega arith)
 places_ascend c (item ∷ items) i j d lt low = go item.kind (places_ascend (behind c item.kind) items) i j d lt low
   where
-    go : (kind : ItemKind) → AllPairs IsBefore (places_from (behind c kind) items) → AllPairs IsBefore (places_at c item kind ++ places_from (behind c kind) items)
+    go : (kind : ItemKind) → AllPairs IsBefore (places_from (behind c kind) items)
+        → AllPairs IsBefore (places_at c item kind ++ places_from (behind c kind) items)
     go Fence rest = rest
     go (Recorded kind) rest = AllPairs-cons IsBefore _ (places_from (behind c (Recorded kind)) items)
-        (λ k d low. let h = (are_placed (behind c (Recorded kind)) items k d low).index_low in let a = behind_record_counts c kind in omega arith) rest
+        (λ k d low. let h = (are_placed (behind c (Recorded kind)) items k d low).index_low in
+        let a = behind_record_counts c kind in omega arith) rest
 
 -- none of the records has a number below them all
-none_indexed : (i : ℕ) (places : List Place) → All (λ (place : Place). i < place.task.index) places → indexed i (records_of places) ≡ 0
+none_indexed : (i : ℕ) (places : List Place) → All (λ (place : Place). i < place.task.index) places
+    → indexed i (records_of places) ≡ 0
 none_indexed i [] above = refl
 none_indexed i (place ∷ places) above =
     let h = none_indexed i places (λ k d low. above (suc k) d (omega arith)) in
@@ -44,13 +48,17 @@ none_indexed i (place ∷ places) above =
 
 pub indexed_once : (i : ℕ) (places : List Place) → AllPairs IsBefore places → indexed i (records_of places) ≤ 1
 indexed_once i [] up = omega arith
-indexed_once i (place ∷ places) up = go (eqb place.task.index i) refl (indexed_once i places (λ j k d lt low. up (suc j) (suc k) d (omega arith) (omega arith)))
+indexed_once i (place ∷ places) up =
+    go (eqb place.task.index i) refl
+    (indexed_once i places (λ j k d lt low. up (suc j) (suc k) d (omega arith) (omega arith)))
   where
-    go : (b : Bool) → eqb place.task.index i ≡ b → indexed i (records_of places) ≤ 1 → cond b 1 0 + indexed i (records_of places) ≤ 1
+    go : (b : Bool) → eqb place.task.index i ≡ b → indexed i (records_of places) ≤ 1
+        → cond b 1 0 + indexed i (records_of places) ≤ 1
     go false is h = omega arith
     go true is h =
         let same : place.task.index ≡ i = grind (arith, nat_tests) in
-        let none = none_indexed i places (λ k d low. let l : place.task.index < (slice_index_or places k d).task.index = up zero (suc k) d (omega arith) (omega arith) in omega arith) in
+        let none = none_indexed i places (λ k d low. let l : place.task.index < (slice_index_or places k d).task.index =
+        up zero (suc k) d (omega arith) (omega arith) in omega arith) in
         omega arith
 
 -- ---- lanes and segments by the numbers
@@ -102,19 +110,23 @@ pub deeds_both : (a b : List Place) (xs ys : List Answer) → length xs ≡ leng
 deeds_both [] b [] ys same = refl
 deeds_both [] b (x ∷ xs) ys same = absurd (omega arith)
 deeds_both (place ∷ a) b [] ys same = absurd (omega arith)
-deeds_both (place ∷ a) b (x ∷ xs) ys same = ap (λ (l : List Deed). deed_of place.segment place.task x ∷ l) (deeds_both a b xs ys (omega arith))
+deeds_both (place ∷ a) b (x ∷ xs) ys same =
+    ap (λ (l : List Deed). deed_of place.segment place.task x ∷ l) (deeds_both a b xs ys (omega arith))
 
 -- of one segment
-pub deeds_of_segment : (number : ℕ) (places : List Place) (answers : List Answer) → All (λ (place : Place). place.segment ≡ number) places
+pub deeds_of_segment : (number : ℕ) (places : List Place) (answers : List Answer)
+    → All (λ (place : Place). place.segment ≡ number) places
     → deeds_from places answers ≡ deeds_of number (records_of places) answers
 deeds_of_segment number [] answers of = refl
 deeds_of_segment number (place ∷ places) [] of = refl
 deeds_of_segment number (place ∷ places) (answer ∷ answers) of =
     ap (λ (n : ℕ). deed_of n place.task answer ∷ deeds_from places answers) (of zero place (omega arith))
-    ∙ ap (λ (l : List Deed). deed_of number place.task answer ∷ l) (deeds_of_segment number places answers (λ k d low. of (suc k) d (omega arith)))
+    ∙ ap (λ (l : List Deed). deed_of number place.task answer ∷ l)
+    (deeds_of_segment number places answers (λ k d low. of (suc k) d (omega arith)))
 
 -- what holds of the records holds of the answered ones
-pub deeds_all : (P : Record → Type 0) (places : List Place) (answers : List Answer) → All (λ (place : Place). P place.task) places
+pub deeds_all : (P : Record → Type 0) (places : List Place) (answers : List Answer)
+    → All (λ (place : Place). P place.task) places
     → All (λ (deed : Deed). P deed.task) (deeds_from places answers)
 deeds_all P [] answers all k d low = absurd (omega arith)
 deeds_all P (place ∷ places) [] all k d low = absurd (omega arith)
@@ -136,6 +148,8 @@ pub deeds_ascend : (places : List Place) (answers : List Answer) → AllPairs Is
 deeds_ascend [] answers up i j d lt low = absurd (omega arith)
 deeds_ascend (place ∷ places) [] up i j d lt low = absurd (omega arith)
 deeds_ascend (place ∷ places) (answer ∷ answers) up i j d lt low =
-    AllPairs-cons (λ (one other : Deed). one.task.index < other.task.index) (deed_of place.segment place.task answer) (deeds_from places answers)
-    (deeds_all (λ (task : Record). place.task.index < task.index) places answers (λ k d low. up zero (suc k) d (omega arith) (omega arith)))
+    AllPairs-cons (λ (one other : Deed). one.task.index < other.task.index) (deed_of place.segment place.task answer)
+    (deeds_from places answers)
+    (deeds_all (λ (task : Record). place.task.index < task.index) places answers
+    (λ k d low. up zero (suc k) d (omega arith) (omega arith)))
     (deeds_ascend places answers (λ i j d lt low. up (suc i) (suc j) d (omega arith) (omega arith))) i j d lt low

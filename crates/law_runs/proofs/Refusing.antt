@@ -1,5 +1,7 @@
 -- A call whose book was not opened ends as a run ends: for `refused_run_ends`.
-use Rattle.std.proofs.Common.{◌≡◌, ◌≢◌, ◌⊎◌, ℕ, zero, suc, ◌+◌, ◌-◌, ◌<◌, ◌≤◌, Bool, IsTrue, true, min, nat_eq, eq-eqb, eqb, List, [], ◌∷◌, ◌++◌, length, take, drop, Option, Some, None, Result, Ok, Err, refl, sym, ◌∙◌, ap, subst, inl, inr, arith}
+use Rattle.std.proofs.Common.{◌≡◌, ◌≢◌, ◌⊎◌, ℕ, zero, suc, ◌+◌, ◌-◌, ◌<◌, ◌≤◌, Bool, IsTrue, true, min, nat_eq, eq-eqb}
+use Rattle.std.proofs.Common.{eqb, List, [], ◌∷◌, ◌++◌, length, take, drop, Option, Some, None, Result, Ok, Err, refl}
+use Rattle.std.proofs.Common.{sym, ◌∙◌, ap, subst, inl, inr, arith}
 use Rattle.std.specs.Prelude.{MatchResult, map, slice_index}
 use Rattle.std.specs.List.{position_or_len, slice_get, slice_index_or}
 use Rattle.std.specs.Option.{option_and_then, option_map_or}
@@ -57,16 +59,20 @@ use Rattle.law_runs.proofs.Standing.{shown_unless}
 
 -- ---- no release is due in a state that a restart left
 
-place_at : (keys : List KeyRow) (key place : ℕ) → place_of keys key ≡ Some place → position_or_len (λ (row : KeyRow). nat_eq row.id key) keys ≡ place
+place_at : (keys : List KeyRow) (key place : ℕ) → place_of keys key ≡ Some place
+    → position_or_len (λ (row : KeyRow). nat_eq row.id key) keys ≡ place
 place_at keys key place is = grind (arith, nat_tests)
 
 -- the row at a place is that of its key
-row_found : (keys : List KeyRow) (place : ℕ) (held : KeyRow) → AreKeyRows keys → slice_get keys place ≡ Some held → row_of keys held.id ≡ Some held
+row_found : (keys : List KeyRow) (place : ℕ) (held : KeyRow) → AreKeyRows keys → slice_get keys place ≡ Some held
+    → row_of keys held.id ≡ Some held
 row_found keys place held rules there =
     let low = slice_get_within keys place held there in
     let placed : place_of keys held.id ≡ Some place =
-    subst (λ (row : KeyRow). place_of keys row.id ≡ Some place) (get_or_from_slice_get keys place held held there) (row_placed keys place held rules low) in
-    find_at (λ (row : KeyRow). nat_eq row.id held.id) keys ∙ (ap (slice_get keys) (place_at keys held.id place placed) ∙ there)
+    subst (λ (row : KeyRow). place_of keys row.id ≡ Some place) (get_or_from_slice_get keys place held held there)
+    (row_placed keys place held rules low) in
+    find_at (λ (row : KeyRow). nat_eq row.id held.id) keys
+    ∙ (ap (slice_get keys) (place_at keys held.id place placed) ∙ there)
 
 -- the marks of the keys from a place on, 1 where there is none; opaque, as the count of all keys is a large numeral
 marks_from : State → ℕ → ℕ → List ℕ
@@ -78,12 +84,14 @@ unfolding marks_from
 marks_counted state place zero = refl
 marks_counted state place (suc count) = ap suc (marks_counted state (place + 1) count)
 
-marks_found : (state : State) (place count k : ℕ) → k < count → slice_index (marks_from state place count) k ≡ mark_at state (place + k)
+marks_found : (state : State) (place count k : ℕ) → k < count → slice_index (marks_from state place count) k
+    ≡ mark_at state (place + k)
 unfolding marks_from
 marks_found state place zero k low = absurd (omega arith)
 marks_found state place (suc count) zero low = let same : place ≡ place + 0 = omega arith in ap (mark_at state) same
 marks_found state place (suc count) (suc k) low =
-    let same : (place + 1) + k ≡ place + suc k = omega arith in marks_found state (place + 1) count k (omega arith) ∙ ap (mark_at state) same
+    let same : (place + 1) + k ≡ place + suc k = omega arith in
+    marks_found state (place + 1) count k (omega arith) ∙ ap (mark_at state) same
 
 mark_there : (keys : List KeyRow) (place : ℕ) (held : KeyRow) → slice_get keys place ≡ Some held
     → slice_index_or (map (λ (row : KeyRow). row.mark) keys) place 1 ≡ held.mark
@@ -92,10 +100,12 @@ mark_there (row ∷ keys) zero held is = ap (λ (r : KeyRow). r.mark) (same_Some
 mark_there (row ∷ keys) (suc place) held is = mark_there keys place held is
 
 module _ (state : State) (rules : KeepsRules state) (left : restarted state ≡ state) where
-  floor_left : (place : ℕ) (held : KeyRow) → slice_get state.keys place ≡ Some held → released_floor state held ≡ held.floor
+  floor_left : (place : ℕ) (held : KeyRow) → slice_get state.keys place ≡ Some held
+      → released_floor state held ≡ held.floor
   floor_left place held there =
       let found = row_found state.keys place held rules.keys.rules there in
-      let kept : kept_floor state held.id ≡ released_floor state held = ap (λ (o : Option KeyRow). option_map_or (released_floor state) o 0) found in
+      let kept : kept_floor state held.id ≡ released_floor state held =
+      ap (λ (o : Option KeyRow). option_map_or (released_floor state) o 0) found in
       let floor = ap (λ (o : Option KeyRow). option_map_or (λ (row : KeyRow). row.floor) o 0) found in
       let same = kept_restarted state held.id rules left in omega arith
 
@@ -103,20 +113,25 @@ module _ (state : State) (rules : KeepsRules state) (left : restarted state ≡ 
   none_due_at : (place : ℕ) → release_at state place (mark_at state place) ≡ None
   none_due_at place = go (slice_get state.keys place) refl
     where
-      go : (o : Option KeyRow) → slice_get state.keys place ≡ o → option_and_then (release_of state (mark_at state place)) o ≡ None
+      go : (o : Option KeyRow) → slice_get state.keys place ≡ o
+          → option_and_then (release_of state (mark_at state place)) o ≡ None
       go None is = refl
       go (Some held) is =
           let mark : mark_at state place ≡ held.mark = mark_there state.keys place held is in
           let same : min held.mark (mark_at state place) ≡ held.mark = omega arith in
-          let a : eqb (min held.mark (mark_at state place)) held.mark ≡ true = eq-eqb (min held.mark (mark_at state place)) held.mark same in
-          let b : eqb (released_floor state held) held.floor ≡ true = eq-eqb (released_floor state held) held.floor (floor_left place held is) in
+          let a : eqb (min held.mark (mark_at state place)) held.mark ≡ true =
+          eq-eqb (min held.mark (mark_at state place)) held.mark same in
+          let b : eqb (released_floor state held) held.floor ≡ true =
+          eq-eqb (released_floor state held) held.floor (floor_left place held is) in
           rw (a, b) refl
 
   none_due : (place count : ℕ) → releases state place (marks_from state place count) ≡ []
   unfolding marks_from
   none_due place zero = refl
   none_due place (suc count) =
-      ap (λ (o : Option Entry). option_map_or (λ (entry : Entry). entry ∷ releases (applied state entry.change) (place + 1) (marks_from state (place + 1) count)) o
+      ap (λ (o : Option Entry).
+      option_map_or (λ (entry : Entry). entry ∷ releases (applied state entry.change) (place + 1)
+      (marks_from state (place + 1) count)) o
       (releases state (place + 1) (marks_from state (place + 1) count)))
       (none_due_at place) ∙ none_due (place + 1) count
 
@@ -135,17 +150,21 @@ front_since base octets sunk between =
     let n : ℕ = length sunk - length base in
     let long : length sunk ≡ length base + (length sunk - length base) = omega arith in
     let is : sunk ≡ base ++ take (length sunk - length base) octets =
-    between.prefix ∙ ap (λ (k : ℕ). take k (base ++ octets)) long ∙ take-append-add base octets (length sunk - length base) in
+    between.prefix ∙ ap (λ (k : ℕ). take k (base ++ octets)) long ∙ take-append-add base octets
+    (length sunk - length base) in
     let rest : drop (length base) sunk ≡ take (length sunk - length base) octets =
     ap (drop (length base)) is ∙ drop-append_seam base (take (length sunk - length base) octets) in
     rest ∙ sym (ap (λ (l : List ℕ). take (length l) octets) rest ∙ own_front (length sunk - length base) octets)
 
-none_since : (base octets sunk : List ℕ) → sunk ≡ base → drop (length base) sunk ≡ take (length (drop (length base) sunk)) octets
+none_since : (base octets sunk : List ℕ) → sunk ≡ base
+    → drop (length base) sunk ≡ take (length (drop (length base) sunk)) octets
 none_since base octets sunk same =
-    let none : drop (length base) sunk ≡ [] = ap (drop (length base)) same ∙ drop_all (length base) base (omega arith) in
+    let none : drop (length base) sunk ≡ [] =
+    ap (drop (length base)) same ∙ drop_all (length base) base (omega arith) in
     subst (λ (l : List ℕ). l ≡ take (length l) octets) (sym none) refl
 
-put_image : {T E : Type 0} → (octets : List ℕ) (result : Result T E) (old new : Trace) → sites.Puts octets result old new → new.now.image ≡ old.now.image
+put_image : {T E : Type 0} → (octets : List ℕ) (result : Result T E) (old new : Trace)
+    → sites.Puts octets result old new → new.now.image ≡ old.now.image
 put_image octets (Ok value) old new puts = puts.0.image
 put_image octets (Err error) old new (inl same) = ap (λ (t : Trace). t.now.image) same
 put_image octets (Err error) old new (inr sank) = sank.image
@@ -165,7 +184,15 @@ not_done openings.NoMemory is = omega arith
 module _ (told : Bool) (site back after : SiteSeen) (source : SourceSeen) (fault : OpenFault) (status : ℕ)
     (refused : Refused told site back after fault status) where
   abbrev pub call : CallSeen
-  call = record { source = source; source_after = source; told = told; site = site; site_after = after; status = status; entries = [] }
+  call = record {
+    source = source;
+    source_after = source;
+    told = told;
+    site = site;
+    site_after = after;
+    status = status;
+    entries = [];
+  }
 
   abbrev pub account : Account
   account = record {
@@ -216,7 +243,9 @@ module _ (told : Bool) (site back after : SiteSeen) (source : SourceSeen) (fault
   quiet : status ≢ SITE_FAULT → after.faults ≡ site.faults
   quiet other = go refused.put refused.status_is refused.put_cause
     where
-      go : (r : Result (Unit {0}) Failed) → MatchResult r (λ _. status ≡ end_status refused.end) (λ _. status ≡ SITE_FAULT) → HasCause back.faults after.faults r
+      go : (r : Result (Unit {0}) Failed)
+          → MatchResult r (λ _. status ≡ end_status refused.end) (λ _. status ≡ SITE_FAULT)
+          → HasCause back.faults after.faults r
           → after.faults ≡ site.faults
       go (Ok done) status_is cause = elim refused.end_is [
         | inl before ↦ absurd (other (status_is ∙ ap end_status before.1))
@@ -232,20 +261,24 @@ module _ (told : Bool) (site back after : SiteSeen) (source : SourceSeen) (fault
   puts_end : PutsDue call account ⊎ PutsFront call account
   puts_end = go refused.put refused.sinks refused.counted refused.put_cause refused.status_is
     where
-      go : (r : Result (Unit {0}) Failed) → (IsTrue told → sites.Puts (answer_octets (end_answer refused.end 0)) r back.trace after.trace)
+      go : (r : Result (Unit {0}) Failed)
+          → (IsTrue told → sites.Puts (answer_octets (end_answer refused.end 0)) r back.trace after.trace)
           → after.put_faults ≡ sites.after_put r back.put_faults → HasCause back.faults after.faults r
-          → MatchResult r (λ _. status ≡ end_status refused.end) (λ _. status ≡ SITE_FAULT) → PutsDue call account ⊎ PutsFront call account
+          → MatchResult r (λ _. status ≡ end_status refused.end) (λ _. status ≡ SITE_FAULT)
+          → PutsDue call account ⊎ PutsFront call account
       go (Ok done) sinks counted cause status_is = inl (record {
         none_failed = counted ∙ refused.same_puts;
         status_is = status_is;
-        sunk = λ is_told. (sinks is_told).1 ∙ ap (λ (l : List ℕ). l ++ answer_octets (end_answer refused.end 0)) (sunk_same is_told);
+        sunk = λ is_told. (sinks is_told).1 ∙ ap (λ (l : List ℕ). l ++ answer_octets (end_answer refused.end 0))
+            (sunk_same is_told);
       })
       go (Err failed) sinks counted cause status_is = inr (record {
         one_failed = let same = refused.same_puts in omega arith;
         status_is = status_is;
         rose = let rose = cause.failed in let low = refused.later in omega arith;
         sunk = λ is_told.
-            subst (λ (base : List ℕ). Between base (base ++ answer_octets (end_answer refused.end 0)) after.trace.now.sunk) (sunk_same is_told)
+            subst (λ (base : List ℕ). Between base (base ++ answer_octets (end_answer refused.end 0))
+            after.trace.now.sunk) (sunk_same is_told)
             (failed_put (answer_octets (end_answer refused.end 0)) back.trace after.trace (sinks is_told));
         earlier = λ is_told place (k, low, is). absurd (omega arith);
       })
@@ -253,12 +286,15 @@ module _ (told : Bool) (site back after : SiteSeen) (source : SourceSeen) (fault
   -- ---- its moments
 
   -- what holds of the image while it is opened holds while End is put
-  with_end : (P : List ℕ → Type 0) → IsTrue told → EachMoment site.trace back.trace (λ image sunk. P image × (sunk ≡ site.trace.now.sunk))
+  with_end : (P : List ℕ → Type 0) → IsTrue told
+      → EachMoment site.trace back.trace (λ image sunk. P image × (sunk ≡ site.trace.now.sunk))
       → EachMoment site.trace after.trace
-      (λ image sunk. P image × (sunk_since call sunk ≡ take (length (sunk_since call sunk)) (end_octets call refused.end)))
+      (λ image sunk. P image
+      × (sunk_since call sunk ≡ take (length (sunk_since call sunk)) (end_octets call refused.end)))
   with_end P is_told first =
       let Q : List ℕ → List ℕ → Type 0 =
-      λ image sunk. P image × (sunk_since call sunk ≡ take (length (sunk_since call sunk)) (end_octets call refused.end)) in
+      λ image sunk. P image
+      × (sunk_since call sunk ≡ take (length (sunk_since call sunk)) (end_octets call refused.end)) in
       each_then site.trace back.trace after.trace Q
       (each_weaker site.trace back.trace (λ image sunk. P image × (sunk ≡ site.trace.now.sunk)) Q
       (λ image sunk h. (h.0, none_since site.trace.now.sunk (answer_octets (end_answer refused.end 0)) sunk h.1)) first)
@@ -267,20 +303,24 @@ module _ (told : Bool) (site back after : SiteSeen) (source : SourceSeen) (fault
       let h = first.each image back.trace.now.sunk (moment_now back.trace (clock site.trace) image leaves) in (
         h.0,
         front_since site.trace.now.sunk (answer_octets (end_answer refused.end 0)) sunk
-            (subst (λ (base : List ℕ). Between base (base ++ answer_octets (end_answer refused.end 0)) sunk) h.1 between),
+            (subst (λ (base : List ℕ). Between base (base ++ answer_octets (end_answer refused.end 0)) sunk) h.1
+            between),
       )))
 
   early : IsTrue told → OnlySyncs site.trace back.trace → EachMoment site.trace after.trace (IsEarly call refused.end)
   early is_told syncs =
       let P : List ℕ → Type 0 = Leaves site.trace.now in
       each_weaker site.trace after.trace
-      (λ image sunk. P image × (sunk_since call sunk ≡ take (length (sunk_since call sunk)) (end_octets call refused.end))) (IsEarly call refused.end)
+      (λ image sunk. P image
+      × (sunk_since call sunk ≡ take (length (sunk_since call sunk)) (end_octets call refused.end)))
+      (IsEarly call refused.end)
       (λ image sunk h. record { leaves = h.0; only_end = h.1 })
       (with_end P is_told (only_syncs_moments site.trace back.trace syncs ((refused.stays is_told).0)).moments)
 
   -- End leaves the image
   end_stays : IsTrue told → after.trace.now.image ≡ back.trace.now.image
-  end_stays is_told = put_image (answer_octets (end_answer refused.end 0)) refused.put back.trace after.trace (refused.sinks is_told)
+  end_stays is_told = put_image (answer_octets (end_answer refused.end 0)) refused.put back.trace after.trace
+      (refused.sinks is_told)
 
   -- ---- an image that shows a state
 
@@ -307,13 +347,15 @@ module _ (told : Bool) (site back after : SiteSeen) (source : SourceSeen) (fault
       moments =
           let P : List ℕ → Type 0 = λ image. Leaves site.trace.now image ⊎ LeftByOpening site.trace.now.image image in
           each_weaker site.trace after.trace
-          (λ image sunk. P image × (sunk_since call sunk ≡ take (length (sunk_since call sunk)) (end_octets call refused.end)))
+          (λ image sunk. P image
+          × (sunk_since call sunk ≡ take (length (sunk_since call sunk)) (end_octets call refused.end)))
           (λ image sunk. IsEarly call refused.end image sunk ⊎ IsServed call account plan state image sunk) served
           (with_end P is_told (refused.opening is_told));
       fences =
           let P : List ℕ → Type 0 = λ image. Leaves site.trace.now image ⊎ LeftByOpening site.trace.now.image image in
           each_weaker site.trace after.trace
-          (λ image sunk. P image × (sunk_since call sunk ≡ take (length (sunk_since call sunk)) (end_octets call refused.end)))
+          (λ image sunk. P image
+          × (sunk_since call sunk ≡ take (length (sunk_since call sunk)) (end_octets call refused.end)))
           (λ image sunk. IsEarly call refused.end image sunk
           ⊎ (LeftByOpening (image_at_entry call) image ⊎ IsFenced call account state image sunk)) fenced
           (with_end P is_told (refused.opening is_told));
@@ -342,15 +384,25 @@ module _ (told : Bool) (site back after : SiteSeen) (source : SourceSeen) (fault
               entries = λ p entry index few there of. absurd (omega arith);
               reserves = λ p entry few there none. absurd (omega arith);
               word = λ row low.
-                  let a : slice_index (marks_from state 0 MOST_KEYS) row ≡ mark_at state (0 + row) = marks_found state 0 MOST_KEYS row low in
+                  let a : slice_index (marks_from state 0 MOST_KEYS) row ≡ mark_at state (0 + row) =
+                  marks_found state 0 MOST_KEYS row low in
                   let same : 0 + row ≡ row = omega arith in
                   let b = ap (mark_at state) same in omega arith;
             };
             near = λ key row is.
-                let in_keys = (row_named state.keys key row (record { id = 0; state = PreActive; bytes = []; digest = []; mark = 0; floor = 0 }) is).0 in
+                let in_keys =
+                (row_named state.keys key row (record {
+                  id = 0;
+                  state = PreActive;
+                  bytes = [];
+                  digest = [];
+                  mark = 0;
+                  floor = 0;
+                }) is).0 in
                 let most = rules.keys.most in
                 let word : slice_index (marks_from state 0 MOST_KEYS) row ≡ mark_of state key =
-                marks_found state 0 MOST_KEYS row (omega arith) ∙ ap (mark_at state) (let e : 0 + row ≡ row = omega arith in e) ∙ mark_known state [] key row rules is in
+                marks_found state 0 MOST_KEYS row (omega arith) ∙ ap (mark_at state) (let e : 0 + row ≡ row =
+                omega arith in e) ∙ mark_known state [] key row rules is in
                 record { least = omega arith; base = mark_of state key; is_base = inl refl; most = omega arith };
             above = λ k d few. absurd (omega arith);
           },
@@ -362,7 +414,8 @@ module _ (told : Bool) (site back after : SiteSeen) (source : SourceSeen) (fault
     take_none (suc n) = refl
 
     -- nothing was drawn, and the words are the marks
-    exact_none : (words : List ℕ) (ends : ℕ) → words ≡ marks_from state 0 MOST_KEYS → IsExact call account plan state words ends
+    exact_none : (words : List ℕ) (ends : ℕ) → words ≡ marks_from state 0 MOST_KEYS
+        → IsExact call account plan state words ends
     exact_none words ends is = record {
       moves = [];
       beyond = [];
@@ -373,25 +426,31 @@ module _ (told : Bool) (site back after : SiteSeen) (source : SourceSeen) (fault
       reserves = λ p entry low there none. absurd (let within = slice_get_within [] p entry there in omega arith);
       last = λ row low.
           let a = ap (λ (l : List ℕ). slice_index l row) is in
-          let b : slice_index (marks_from state 0 MOST_KEYS) row ≡ mark_at state (0 + row) = marks_found state 0 MOST_KEYS row low in
+          let b : slice_index (marks_from state 0 MOST_KEYS) row ≡ mark_at state (0 + row) =
+          marks_found state 0 MOST_KEYS row low in
           let same : 0 + row ≡ row = omega arith in
           let c = ap (mark_at state) same in omega arith;
       served = ([], [], take_none ends, refl, omega arith, λ all quiet. refl);
     }
 
     -- the opening of an image that shows a state did not come to its end
-    never_opened : ((offset : ℕ) → ShowsNone site.trace.now.image offset → ⊥) → IsTrue told → (f : OpenFault) → refused_end f ≡ account.came → Cause f
+    never_opened : ((offset : ℕ) → ShowsNone site.trace.now.image offset → ⊥) → IsTrue told → (f : OpenFault)
+        → refused_end f ≡ account.came → Cause f
         → IsUnopened call account
-    never_opened shows is_told (openings.SiteFault count) is cause = record { came_is = inl (count, sym is); source_is = refl; no_entries = refl }
+    never_opened shows is_told (openings.SiteFault count) is cause =
+        record { came_is = inl (count, sym is); source_is = refl; no_entries = refl }
     never_opened shows is_told (openings.Image offset) is cause = absurd (shows offset (cause is_told))
-    never_opened shows is_told openings.NoMemory is cause = record { came_is = inr (sym is); source_is = refl; no_entries = refl }
+    never_opened shows is_told openings.NoMemory is cause =
+        record { came_is = inr (sym is); source_is = refl; no_entries = refl }
 
-    exit : ((offset : ℕ) → ShowsNone site.trace.now.image offset → ⊥) → IsTrue told → Shows site.trace.now.image state → restarted state ≡ state
+    exit : ((offset : ℕ) → ShowsNone site.trace.now.image offset → ⊥) → IsTrue told → Shows site.trace.now.image state
+        → restarted state ≡ state
         → StandsAtExit call account state
     exit never is_told shows left = record {
       stands = λ well. subst (λ (image : List ℕ). Shows image (restarted state)) (sym (end_stays is_told))
           (subst (Shows back.trace.now.image) (sym left)
-          (shown_unless site.faults back.faults after.faults (λ offset. IsTrue told → ShowsNone site.trace.now.image offset) back.trace.now.image state fault
+          (shown_unless site.faults back.faults after.faults (λ offset. IsTrue told
+          → ShowsNone site.trace.now.image offset) back.trace.now.image state fault
           refused.cause refused.put_cause.later well ((refused.left is_told).stands state shows)));
       rests = λ well. inl (never_opened never is_told fault refl refused.cause);
       stored = inl (never_opened never is_told fault refl refused.cause);
@@ -401,9 +460,11 @@ module _ (told : Bool) (site back after : SiteSeen) (source : SourceSeen) (fault
 
   module _ (never : (image : List ℕ) (state : State) (offset : ℕ) → Shows image state → ShowsNone image offset → ⊥)
       (one : (image : List ℕ) (a b : ℕ) → ShowsNone image a → ShowsNone image b → a ≡ b) where
-    refusal : (f : OpenFault) (offset : ℕ) → Cause f → IsTrue told → ShowsNone site.trace.now.image offset → IsOpenRefusal offset (refused_end f)
+    refusal : (f : OpenFault) (offset : ℕ) → Cause f → IsTrue told → ShowsNone site.trace.now.image offset
+        → IsOpenRefusal offset (refused_end f)
     refusal (openings.SiteFault count) offset cause is_told none = inr (inl (count, refl))
-    refusal (openings.Image at) offset cause is_told none = inl (ap ends.NoState (one site.trace.now.image at offset (cause is_told) none))
+    refusal (openings.Image at) offset cause is_told none =
+        inl (ap ends.NoState (one site.trace.now.image at offset (cause is_told) none))
     refusal openings.NoMemory offset cause is_told none = inr (inr refl)
 
     refused_so : IsTrue told → (offset : ℕ) → ShowsNone site.trace.now.image offset → IsRefused call account offset

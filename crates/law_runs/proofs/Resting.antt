@@ -54,25 +54,48 @@ none_sound course plan_is rules = record {
 pub no_records : (course : Course) → IsPlan course.begin.plan → KeepsRules course.begin.start → course.entries ≡ []
     → IsSound course [] []
 no_records course plan_is rules empty =
-    subst (λ (entries : List Entry). IsSound (record course { entries = entries }) [] []) (sym empty) (none_sound course plan_is rules)
+    subst (λ (entries : List Entry). IsSound (record course { entries = entries }) [] []) (sym empty)
+    (none_sound course plan_is rules)
 
--- Of an image with no opened form only the gate of the other bank may be closed and not 0: the first slot that is closed
+-- Of an image with no opened form only the gate of the other bank may be closed and not 0: the first slot that is
+-- closed
 -- has a gate that is not open, and so has the octet that migrates an image of version 1.
 none_settled : (image : List ℕ) → ((form : List ℕ) → ¬ IsOpenedForm image form) → HasOneClosed image
 none_settled image none = record { one = one; opened = λ form at is closed. absurd (none form is) }
   where
     one : (at beside : ℕ) → IsClosedGate image at → IsClosedGate image beside → at ≡ beside
     one at beside (some, inl (few, is)) closed =
-        absurd (none _ (at, (some, inl (few, is)), λ opened. (records_of image).closed few (ap (slice_index image) (sym is) ∙ opened), refl))
+        absurd (none _ (
+          at,
+          (some, inl (few, is)),
+          λ opened. (records_of image).closed few (ap (slice_index image) (sym is) ∙ opened),
+          refl,
+        ))
     one at beside (some, inr (inr (old_is, is))) closed =
-        absurd (none _ (at, (some, inr (inr (old_is, is))), λ opened. moves_not_open image old_is (ap (slice_index image) (sym is) ∙ opened), refl))
+        absurd (none _ (
+          at,
+          (some, inr (inr (old_is, is))),
+          λ opened. moves_not_open image old_is (ap (slice_index image) (sym is) ∙ opened),
+          refl,
+        ))
     one at beside (some, inr (inl is)) (other, inr (inr (old_is, is_moves))) =
-        absurd (none _ (beside, (other, inr (inr (old_is, is_moves))), λ opened. moves_not_open image old_is (ap (slice_index image) (sym is_moves) ∙ opened), refl))
+        absurd (none _ (
+          beside,
+          (other, inr (inr (old_is, is_moves))),
+          λ opened. moves_not_open image old_is (ap (slice_index image) (sym is_moves) ∙ opened),
+          refl,
+        ))
     one at beside (some, inr (inl is)) (other, inl (few, is_slot)) =
-        absurd (none _ (beside, (other, inl (few, is_slot)), λ opened. (records_of image).closed few (ap (slice_index image) (sym is_slot) ∙ opened), refl))
+        absurd (none _ (
+          beside,
+          (other, inl (few, is_slot)),
+          λ opened. (records_of image).closed few (ap (slice_index image) (sym is_slot) ∙ opened),
+          refl,
+        ))
     one at beside (some, inr (inl is)) (other, inr (inl same)) = is ∙ sym same
 
-module _ (one : (image : List ℕ) (a b : State) → Shows image a → Shows image b → a ≡ b) (call : CallSeen) (plan : PlanLines) (state : State)
+module _ (one : (image : List ℕ) (a b : State) → Shows image a → Shows image b → a ≡ b) (call : CallSeen)
+    (plan : PlanLines) (state : State)
     (shows : ShowsAtEntry call plan state) where
   abbrev Sound : List ℕ → Type 0
   Sound image = SoundMoment (course_of call (no_account call) plan state) [] [] (image_at_entry call) image []
@@ -84,7 +107,8 @@ module _ (one : (image : List ℕ) (a b : State) → Shows image a → Shows ima
       p = 0;
       shows = record {
         within = omega arith;
-        shows = subst (λ (s : State). Shows image (restarted s)) (one (image_at_entry call) shown.0 state shown.1 shows.shows) shown.2;
+        shows = subst (λ (s : State). Shows image (restarted s))
+            (one (image_at_entry call) shown.0 state shown.1 shows.shows) shown.2;
         forms = λ form is. absurd (shown.3 form is);
         settled = none_settled image shown.3;
       };
@@ -104,5 +128,6 @@ module _ (one : (image : List ℕ) (a b : State) → Shows image a → Shows ima
       record {
         later = moments.later;
         each = λ image sunk m. sound_at image (moments.each image sunk m);
-        before = λ time image sunk low m. ⊎_elim inl (λ p. inr (sound_at image p)) (moments.before time image sunk low m);
+        before = λ time image sunk low m.
+            ⊎_elim inl (λ p. inr (sound_at image p)) (moments.before time image sunk low m);
       }

@@ -1,5 +1,6 @@
 -- Which records of an input lie in its first segments, and the numbers that they have: for the loop of a run.
-use Rattle.std.proofs.Common.{◌≡◌, ◌≢◌, ◌⊎◌, ℕ, suc, zero, ◌+◌, ◌<◌, ◌≤◌, eqb, nat_lt, List, [], ◌∷◌, ◌++◌, Bool, true, false, refl, sym, ◌∙◌, ap, subst, inl, inr, arith, cond}
+use Rattle.std.proofs.Common.{◌≡◌, ◌≢◌, ◌⊎◌, ℕ, suc, zero, ◌+◌, ◌<◌, ◌≤◌, eqb, nat_lt, List, [], ◌∷◌, ◌++◌, Bool, true}
+use Rattle.std.proofs.Common.{false, refl, sym, ◌∙◌, ap, subst, inl, inr, arith, cond}
 use Rattle.std.specs.List.{All}
 use Rattle.std.proofs.lemmas.Bool.Decides.{nat_tests}
 use Rattle.std.proofs.lemmas.List.Elements.{All-append}
@@ -26,7 +27,8 @@ either_count P false x y p q = q
 
 record_rises : (c : Count) → c.segment ≤ (behind_record c).segment
 record_rises c =
-    either_count (λ (d : Count). c.segment ≤ d.segment) (eqb (c.inside + 1) SEGMENT_RECORDS) (full_record c) (next_record c) (omega arith) (omega arith)
+    either_count (λ (d : Count). c.segment ≤ d.segment) (eqb (c.inside + 1) SEGMENT_RECORDS) (full_record c)
+    (next_record c) (omega arith) (omega arith)
 
 behind_rises : (c : Count) (kind : ItemKind) → c.segment ≤ (behind c kind).segment
 behind_rises c Fence = omega arith
@@ -55,7 +57,8 @@ rises c (item ∷ items) = let a = behind_rises c item.kind in let b = rises (be
 
 record_counts : (c : Count) → c.index + 1 ≤ (behind_record c).index
 record_counts c =
-    either_count (λ (d : Count). c.index + 1 ≤ d.index) (eqb (c.inside + 1) SEGMENT_RECORDS) (full_record c) (next_record c) (omega arith) (omega arith)
+    either_count (λ (d : Count). c.index + 1 ≤ d.index) (eqb (c.inside + 1) SEGMENT_RECORDS) (full_record c)
+    (next_record c) (omega arith) (omega arith)
 
 -- behind a record its number is taken
 pub behind_record_counts : (c : Count) (kind : RecordKind) → c.index + 1 ≤ (behind c (Recorded kind)).index
@@ -70,12 +73,14 @@ behind_counts c (Recorded kind) = let h = behind_record_counts c kind in omega a
 
 counts_on : (c : Count) (items : List Item) → c.index ≤ (counted c items).index
 counts_on c [] = omega arith
-counts_on c (item ∷ items) = let a = behind_counts c item.kind in let b = counts_on (behind c item.kind) items in omega arith
+counts_on c (item ∷ items) = let a = behind_counts c item.kind in let b = counts_on (behind c item.kind) items in
+    omega arith
 
 -- a segment that was begun has ended where a new one begins
 record_closes : (c : Count) → (0 < (behind_record c).inside) ⊎ (c.segment < (behind_record c).segment)
 record_closes c =
-    either_count (λ (d : Count). (0 < d.inside) ⊎ (c.segment < d.segment)) (eqb (c.inside + 1) SEGMENT_RECORDS) (full_record c) (next_record c)
+    either_count (λ (d : Count). (0 < d.inside) ⊎ (c.segment < d.segment)) (eqb (c.inside + 1) SEGMENT_RECORDS)
+    (full_record c) (next_record c)
     (inr (omega arith)) (inl (omega arith))
 
 behind_closes : (c : Count) (kind : ItemKind) → (0 < (behind c kind).inside) ⊎ (c.segment < (behind c kind).segment)
@@ -85,7 +90,8 @@ behind_closes c (Recorded Open) = record_closes c
 behind_closes c (Recorded Command) = record_closes c
 behind_closes c (Recorded Monitor) = inr (omega arith)
 
-closes : (c : Count) (items : List Item) → 0 < c.inside → (counted c items).inside ≡ 0 → c.segment < (counted c items).segment
+closes : (c : Count) (items : List Item) → 0 < c.inside → (counted c items).inside ≡ 0
+    → c.segment < (counted c items).segment
 closes c [] begun none = absurd (omega arith)
 closes c (item ∷ items) begun none = elim (behind_closes c item.kind) [
   | inl on ↦ let a = closes (behind c item.kind) items on none in let b = behind_rises c item.kind in omega arith
@@ -94,7 +100,8 @@ closes c (item ∷ items) begun none = elim (behind_closes c item.kind) [
 
 -- ---- the first segments
 
-pub first_of : (n : ℕ) (place : Place) (places : List Place) → place.segment < n → of_first n (place ∷ places) ≡ place ∷ of_first n places
+pub first_of : (n : ℕ) (place : Place) (places : List Place) → place.segment < n
+    → of_first n (place ∷ places) ≡ place ∷ of_first n places
 first_of n place places low =
     let t : nat_lt place.segment n ≡ true = grind (arith, nat_tests) in
     ap (λ (b : Bool). cond b (place ∷ of_first n places) []) t
@@ -107,11 +114,14 @@ none_of n place places high =
 -- no record lies in a segment before the count's
 first_none : (n : ℕ) (c : Count) (items : List Item) → n ≤ c.segment → of_first n (places_from c items) ≡ []
 first_none n c [] low = refl
-first_none n c (item ∷ items) low = go item.kind (first_none n (behind c item.kind) items (let a = behind_rises c item.kind in omega arith))
+first_none n c (item ∷ items) low =
+    go item.kind (first_none n (behind c item.kind) items (let a = behind_rises c item.kind in omega arith))
   where
-    go : (kind : ItemKind) → of_first n (places_from (behind c kind) items) ≡ [] → of_first n (places_at c item kind ++ places_from (behind c kind) items) ≡ []
+    go : (kind : ItemKind) → of_first n (places_from (behind c kind) items) ≡ []
+        → of_first n (places_at c item kind ++ places_from (behind c kind) items) ≡ []
     go Fence none = none
-    go (Recorded kind) none = none_of n _ (places_from (behind c (Recorded kind)) items) (let a = own_low c kind in omega arith)
+    go (Recorded kind) none = none_of n _ (places_from (behind c (Recorded kind)) items) (let a = own_low c kind in
+        omega arith)
 
 -- where items end with a segment, the records of the first segments of a longer input are theirs
 pub first_segments : (c : Count) (items more : List Item) → (counted c items).inside ≡ 0
@@ -135,13 +145,19 @@ first_segments c (item ∷ items) more closed = go item.kind refl (first_segment
     below Command is = plain_below Command is
     below Monitor is =
         let a = rises (behind c item.kind) items in
-        let b : (behind c item.kind).segment ≡ c.segment + 2 = ap (λ (k : ItemKind). (behind c k).segment) is in omega arith
+        let b : (behind c item.kind).segment ≡ c.segment + 2 = ap (λ (k : ItemKind). (behind c k).segment) is in
+        omega arith
 
     go : (kind : ItemKind) → item.kind ≡ kind
         → of_first n (places_from (behind c item.kind) (items ++ more)) ≡ places_from (behind c item.kind) items
-        → of_first n (places_at c item item.kind ++ places_from (behind c item.kind) (items ++ more)) ≡ places_at c item item.kind ++ places_from (behind c item.kind) items
-    go Fence is rest = subst (λ (k : ItemKind). of_first n (places_at c item k ++ places_from (behind c item.kind) (items ++ more)) ≡ places_at c item k ++ places_from (behind c item.kind) items) (sym is) rest
-    go (Recorded kind) is rest = subst (λ (k : ItemKind). of_first n (places_at c item k ++ places_from (behind c item.kind) (items ++ more)) ≡ places_at c item k ++ places_from (behind c item.kind) items) (sym is)
+        → of_first n (places_at c item item.kind ++ places_from (behind c item.kind) (items ++ more))
+        ≡ places_at c item item.kind ++ places_from (behind c item.kind) items
+    go Fence is rest =
+        subst (λ (k : ItemKind). of_first n (places_at c item k ++ places_from (behind c item.kind) (items ++ more))
+        ≡ places_at c item k ++ places_from (behind c item.kind) items) (sym is) rest
+    go (Recorded kind) is rest =
+        subst (λ (k : ItemKind). of_first n (places_at c item k ++ places_from (behind c item.kind) (items ++ more))
+        ≡ places_at c item k ++ places_from (behind c item.kind) items) (sym is)
         (first_of n _ (places_from (behind c item.kind) (items ++ more)) (below kind is)
         ∙ ap (λ (l : List Place). places_at c item (Recorded kind) ++ l) rest)
 
@@ -153,7 +169,8 @@ pub record IsPlacedIn (low high : Count) (place : Place) : Type 0 where
   pub segment_low : low.segment ≤ place.segment
   pub segment_high : place.segment ≤ high.segment
 
-one_placed : (c high : Count) (item : Item) (kind : ItemKind) → (behind c kind).index ≤ high.index → (behind c kind).segment ≤ high.segment
+one_placed : (c high : Count) (item : Item) (kind : ItemKind) → (behind c kind).index ≤ high.index
+    → (behind c kind).segment ≤ high.segment
     → All (IsPlacedIn c high) (places_at c item kind)
 one_placed c high item Fence index segment k d low = absurd (omega arith)
 one_placed c high item (Recorded kind) index segment zero d low =
@@ -166,13 +183,20 @@ one_placed c high item (Recorded kind) index segment (suc k) d low = absurd (ome
 pub are_placed : (c : Count) (items : List Item) → All (IsPlacedIn c (counted c items)) (places_from c items)
 are_placed c [] k d low = absurd (omega arith)
 are_placed c (item ∷ items) k d low =
-    All-append (IsPlacedIn c (counted c (item ∷ items))) (places_at c item item.kind) (places_from (behind c item.kind) items)
-    (one_placed c (counted c (item ∷ items)) item item.kind (counts_on (behind c item.kind) items) (rises (behind c item.kind) items))
+    All-append (IsPlacedIn c (counted c (item ∷ items))) (places_at c item item.kind)
+    (places_from (behind c item.kind) items)
+    (one_placed c (counted c (item ∷ items)) item item.kind (counts_on (behind c item.kind) items)
+    (rises (behind c item.kind) items))
     (λ k d low.
     let h = are_placed (behind c item.kind) items k d low in
     let a = behind_counts c item.kind in let b = behind_rises c item.kind in
     let x = h.index_low in let y = h.segment_low in
-    record { index_low = omega arith; index_high = h.index_high; segment_low = omega arith; segment_high = h.segment_high }) k d low
+    record {
+      index_low = omega arith;
+      index_high = h.index_high;
+      segment_low = omega arith;
+      segment_high = h.segment_high;
+    }) k d low
 
 -- a lane is looked at unless the record is a Monitor record
 laned : (kind : RecordKind) (lane : ℕ) → lane < lanes_of (Recorded kind) → kind ≢ Monitor → lane < LANES
@@ -191,6 +215,7 @@ pub have_lanes : (c : Count) (items : List Item) → All IsItem items
     → All (λ (place : Place). place.task.kind ≢ Monitor → place.task.lane < LANES) (places_from c items)
 have_lanes c [] are k d low = absurd (omega arith)
 have_lanes c (item ∷ items) are k d low =
-    All-append (λ (place : Place). place.task.kind ≢ Monitor → place.task.lane < LANES) (places_at c item item.kind) (places_from (behind c item.kind) items)
+    All-append (λ (place : Place). place.task.kind ≢ Monitor → place.task.lane < LANES) (places_at c item item.kind)
+    (places_from (behind c item.kind) items)
     (one_lane c item item.kind (are zero item (omega arith)).lane)
     (have_lanes (behind c item.kind) items (λ k d low. are (suc k) d (omega arith))) k d low

@@ -26,11 +26,13 @@ kept_stands told call account start last is_told kept site_is entries_are starte
   stands = λ well.
       subst (λ (site : SiteSeen). Shows site.trace.now.image (restarted (after start call.entries))) (sym site_is)
       (subst (λ (state : State). Shows last.site.trace.now.image (restarted (after state call.entries))) started
-      (subst (λ (entries : List Entry). Shows last.site.trace.now.image (restarted (after last.start entries))) (sym entries_are)
+      (subst (λ (entries : List Entry). Shows last.site.trace.now.image (restarted (after last.start entries)))
+      (sym entries_are)
       (kept.current is_told (unrisen well)).shows));
   rests = λ well. inr (
     last.journal,
-    subst (λ (site : SiteSeen). IsSettled site.trace last.journal) (sym site_is) (kept.current is_told (unrisen well)).settled,
+    subst (λ (site : SiteSeen). IsSettled site.trace last.journal) (sym site_is)
+        (kept.current is_told (unrisen well)).settled,
   );
   stored = inr (λ image leaves.
       let (p, low, shows) = (kept.history is_told).shows_now image
@@ -47,7 +49,8 @@ kept_stands told call account start last is_told kept site_is entries_are starte
     unrisen well rose = well (let now = ap (λ (s : SiteSeen). s.faults) site_is in omega arith)
 
 -- the opening failed, and left an image that showed a state so: it shows it still, if the site did not fail
-pub shown_unless : (before back after : ℕ) (None : ℕ → Type 0) (image : List ℕ) (state : State) (fault : OpenFault) → IsOpenCause before back None fault
+pub shown_unless : (before back after : ℕ) (None : ℕ → Type 0) (image : List ℕ) (state : State) (fault : OpenFault)
+    → IsOpenCause before back None fault
     → back ≤ after → (Rose before after → ⊥) → ShowsUnlessFailed image state fault → Shows image state
 shown_unless before back after None image state (openings.SiteFault count) cause later well shows =
     absurd (well (let rose = cause.0 in omega arith))

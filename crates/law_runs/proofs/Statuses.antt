@@ -1,5 +1,7 @@
 -- What the statuses of a run say, from how it ends: for the laws of `laws`.
-use Rattle.std.proofs.Common.{◌≡◌, ◌≢◌, ◌⊎◌, ℕ, suc, ◌+◌, ◌*◌, ◌<◌, ◌≤◌, List, [], ◌∷◌, ◌++◌, length, take, drop, Bool, true, false, IsTrue, refl, sym, ◌∙◌, ap, subst, inl, inr, arith, cond, Some, None, Option, nat_lt}
+use Rattle.std.proofs.Common.{◌≡◌, ◌≢◌, ◌⊎◌, ℕ, suc, ◌+◌, ◌*◌, ◌<◌, ◌≤◌, List, [], ◌∷◌, ◌++◌, length, take, drop, Bool}
+use Rattle.std.proofs.Common.{true, false, IsTrue, refl, sym, ◌∙◌, ap, subst, inl, inr, arith, cond, Some, None, Option}
+use Rattle.std.proofs.Common.{nat_lt}
 use Rattle.std.proofs.Common.{length-append}
 use Rattle.std.specs.List.{slice_index_or}
 use Rattle.std.specs.Option.{option_map_or}
@@ -20,7 +22,8 @@ use Rattle.run_promise.specs.Numbers.{releases, release_at}
 use Rattle.run_promise.specs.History.{drawers, draws}
 use Rattle.run_promise.specs.declared.limits.TheConstants.{MOST_ENTRIES}
 use Rattle.run_promise.specs.declared.end.RunEnd.{RunEnd}
-use Rattle.run_promise.specs.declared.end.RunEnd.TheVariants.{Ended, Malformed, SourceFault, SiteFault, NoMemory, NoState, SessionFull, PutFailed}
+use Rattle.run_promise.specs.declared.end.RunEnd.TheVariants.{Ended, Malformed, SourceFault, SiteFault, NoMemory}
+use Rattle.run_promise.specs.declared.end.RunEnd.TheVariants.{NoState, SessionFull, PutFailed}
 use Rattle.run_promise.specs.Call.{CallSeen, ShowsAtEntry, image_at_entry}
 use Rattle.run_promise.specs.Account.{Account, end_status, AreAnswered, HandledRead, due_octets, of_first, CameBy}
 use Rattle.run_promise.specs.Account.{TellsEnd, IsToldFirst}
@@ -102,7 +105,8 @@ module _ (call : CallSeen) (run : RunEnds call) where
   answered_of end is = subst (AreAnswered run.account) is run.answered
 
   came_ended : TellsEnd call run.account → run.account.told ≡ Ended → run.account.came ≡ Ended
-  came_ended (inl h) is = absurd (let s : end_status (SiteFault run.account.last) ≡ end_status Ended = ap end_status (sym h.1 ∙ is) in omega arith)
+  came_ended (inl h) is = absurd (let s : end_status (SiteFault run.account.last) ≡ end_status Ended =
+      ap end_status (sym h.1 ∙ is) in omega arith)
   came_ended (inr (well, inl same)) is = sym same ∙ is
   came_ended (inr (well, inr (ended, which))) is = ended
 
@@ -117,20 +121,25 @@ module _ (call : CallSeen) (run : RunEnds call) where
           whole = (cause_of Ended ended).1;
           handled = (answered_of Ended ended).0;
           answered = (answered_of Ended ended).1;
-          no_fault = elim (run.quiet (λ five. absurd (omega arith))) [ inl same ↦ same | inr off ↦ absurd (subst IsToldFirst ended off.0) ];
+          no_fault = elim (run.quiet (λ five. absurd (omega arith))) [
+            | inl same ↦ same
+            | inr off ↦ absurd (subst IsToldFirst ended off.0)
+          ];
           none_failed = put.none_failed;
           sunk = put.sunk;
         }
   ]
 
-  pub put_due : call.site_after.put_faults ≡ call.site.put_faults → (call.status ≡ end_status run.account.told) × (IsTrue call.told
+  pub put_due : call.site_after.put_faults ≡ call.site.put_faults → (call.status ≡ end_status run.account.told)
+      × (IsTrue call.told
       → call.site_after.trace.now.sunk ≡ call.site.trace.now.sunk ++ due_octets call run.account)
   put_due same = elim run.put [
     | inl put ↦ (put.status_is, put.sunk)
     | inr broken ↦ let lt = broken.one_failed in absurd (omega arith)
   ]
 
-  pub fault_told : (k : ℕ) (d : Answer) → k < length run.account.answers → SaysSiteFailed (slice_index_or run.account.answers k d) → call.status ≡ 5
+  pub fault_told : (k : ℕ) (d : Answer) → k < length run.account.answers
+      → SaysSiteFailed (slice_index_or run.account.answers k d) → call.status ≡ 5
   fault_told k d low tells = elim run.put [
     | inr broken ↦ broken.status_is
     | inl put ↦ elim run.tells [
@@ -139,14 +148,16 @@ module _ (call : CallSeen) (run : RunEnds call) where
     ]
   ]
 
-  pub to_its_end : call.site_after.put_faults ≡ call.site.put_faults → call.status ≡ 5 → call.entries ≢ [] → run.account.came ≢ NoMemory
+  pub to_its_end : call.site_after.put_faults ≡ call.site.put_faults → call.status ≡ 5 → call.entries ≢ []
+      → run.account.came ≢ NoMemory
       → GoesToItsEnd call run
   to_its_end same five some memory = go run.account.came refl run.cause run.tells
     where
       status_is : (end : RunEnd) → run.account.told ≡ end → call.status ≡ end_status end
       status_is end is = (put_due same).0 ∙ ap end_status is
 
-      go : (came : RunEnd) → run.account.came ≡ came → CameBy call run.account came → TellsEnd call run.account → GoesToItsEnd call run
+      go : (came : RunEnd) → run.account.came ≡ came → CameBy call run.account came → TellsEnd call run.account
+          → GoesToItsEnd call run
       go Ended is cause tells = inl is
       go (Malformed offset) is cause tells = inr (inl (offset, is))
       go (SourceFault count) is cause tells = inr (inr ((count, is), cause.0))
@@ -154,8 +165,10 @@ module _ (call : CallSeen) (run : RunEnds call) where
       go NoMemory is cause tells = absurd (memory is)
       go (NoState offset) is cause tells = absurd (some cause.1)
       go SessionFull is cause (inl failed) = absurd (cause.not_failed failed.0)
-      go SessionFull is cause (inr (well, inl told_same)) = absurd (let s = status_is SessionFull (told_same ∙ is) in omega arith)
-      go SessionFull is cause (inr (well, inr (ended, which))) = absurd (let s : end_status SessionFull ≡ end_status Ended = ap end_status (sym is ∙ ended) in omega arith)
+      go SessionFull is cause (inr (well, inl told_same)) =
+          absurd (let s = status_is SessionFull (told_same ∙ is) in omega arith)
+      go SessionFull is cause (inr (well, inr (ended, which))) =
+          absurd (let s : end_status SessionFull ≡ end_status Ended = ap end_status (sym is ∙ ended) in omega arith)
       go PutFailed is cause tells = absurd (let lt = cause.0 in omega arith)
 
   pub refused_left : IsTrue call.told → (offset : ℕ) → ShowsNone (image_at_entry call) offset → IsLeftRefused call
@@ -170,7 +183,8 @@ module _ (call : CallSeen) (run : RunEnds call) where
       told_as other (inr (well, inl same)) = inl same
       told_as other (inr (well, inr (ended, more))) = absurd (other ended)
 
-      exact : (end : RunEnd) → run.account.came ≡ end → (end_status end ≡ 0 → ⊥) → (call.status ≡ end_status end) ⊎ (call.status ≡ 5)
+      exact : (end : RunEnd) → run.account.came ≡ end → (end_status end ≡ 0 → ⊥) → (call.status ≡ end_status end)
+          ⊎ (call.status ≡ 5)
       exact end is not_zero = elim run.put [
         | inr broken ↦ inr broken.status_is
         | inl put ↦ elim (told_as (λ e. not_zero (ap end_status (sym is ∙ e))) run.tells) [
@@ -181,14 +195,24 @@ module _ (call : CallSeen) (run : RunEnds call) where
 
       which : (call.status ≡ 7) ⊎ ((call.status ≡ 5) ⊎ (call.status ≡ 6))
       which = elim refusal.came_is [
-        | inl is ↦ elim (exact (NoState offset) is (λ z. absurd (omega arith))) [ inl seven ↦ inl seven | inr five ↦ inr (inl five) ]
+        | inl is ↦ elim (exact (NoState offset) is (λ z. absurd (omega arith))) [
+          | inl seven ↦ inl seven
+          | inr five ↦ inr (inl five)
+        ]
         | inr rest ↦ elim rest [
-          | inl fault ↦ elim (exact (SiteFault fault.0) fault.1 (λ z. absurd (omega arith))) [ inl five ↦ inr (inl five) | inr five ↦ inr (inl five) ]
-          | inr memory ↦ elim (exact NoMemory memory (λ z. absurd (omega arith))) [ inl six ↦ inr (inr six) | inr five ↦ inr (inl five) ]
+          | inl fault ↦ elim (exact (SiteFault fault.0) fault.1 (λ z. absurd (omega arith))) [
+            | inl five ↦ inr (inl five)
+            | inr five ↦ inr (inl five)
+          ]
+          | inr memory ↦ elim (exact NoMemory memory (λ z. absurd (omega arith))) [
+            | inl six ↦ inr (inr six)
+            | inr five ↦ inr (inl five)
+          ]
         ]
       ]
 
-  pub what_came : call.status ≢ 5 → call.status ≢ 8 → (run.account.told ≡ run.account.came) × (call.status ≡ end_status run.account.came)
+  pub what_came : call.status ≢ 5 → call.status ≢ 8 → (run.account.told ≡ run.account.came)
+      × (call.status ≡ end_status run.account.came)
   what_came not_five not_eight = elim run.put [
     | inr broken ↦ absurd (not_five broken.status_is)
     | inl put ↦ elim run.tells [
@@ -230,7 +254,8 @@ module _ (call : CallSeen) (run : RunEnds call) where
       | inl h ↦ absurd (let f = put.status_is ∙ fault_status run.account.last run.account.told h.1 in omega arith)
       | inr h ↦ elim h.1 [
         | inl same ↦
-            let is : run.account.came ≡ SessionFull = eight_is run.account.came (sym (put.status_is ∙ ap end_status same) ∙ eight) in
+            let is : run.account.came ≡ SessionFull =
+            eight_is run.account.came (sym (put.status_is ∙ ap end_status same) ∙ eight) in
             record { full = (cause_of SessionFull is).full; by = inl is }
         | inr rest ↦ elim rest.1 [
           | inl fault ↦ absurd (let f = put.status_is ∙ fault_status fault.0 run.account.told fault.1 in omega arith)
@@ -255,7 +280,8 @@ module _ (call : CallSeen) (run : RunEnds call) where
     ]
   ]
     where
-      go : call.site_after.put_faults ≡ call.site.put_faults → ((count : ℕ) × (run.account.came ≡ SiteFault count)) ⊎ (run.account.came ≡ PutFailed)
+      go : call.site_after.put_faults ≡ call.site.put_faults → ((count : ℕ) × (run.account.came ≡ SiteFault count))
+          ⊎ (run.account.came ≡ PutFailed)
           → Rose call.site.faults call.site_after.faults
       go same (inl (count, is)) = let rose = (cause_of (SiteFault count) is).0 in let w = run.after_later in omega arith
       go same (inr is) = absurd (let lt = (cause_of PutFailed is).0 in omega arith)
@@ -272,11 +298,15 @@ drawers_few (task ∷ tasks) = one (draws task.kind) (drawers_few tasks)
 
 due_few : (state : State) (place : ℕ) (words : List ℕ) → length (releases state place words) ≤ length words
 due_few state place [] = omega arith
-due_few state place (word ∷ words) = go (release_at state place word) (λ entry. due_few (applied state entry.change) (place + 1) words) (due_few state (place + 1) words)
+due_few state place (word ∷ words) =
+    go (release_at state place word) (λ entry. due_few (applied state entry.change) (place + 1) words)
+    (due_few state (place + 1) words)
   where
-    go : (o : Option Entry) → ((entry : Entry) → length (releases (applied state entry.change) (place + 1) words) ≤ length words)
+    go : (o : Option Entry)
+        → ((entry : Entry) → length (releases (applied state entry.change) (place + 1) words) ≤ length words)
         → length (releases state (place + 1) words) ≤ length words
-        → length (option_map_or (λ entry. entry ∷ releases (applied state entry.change) (place + 1) words) o (releases state (place + 1) words)) ≤ suc (length words)
+        → length (option_map_or (λ entry. entry ∷ releases (applied state entry.change) (place + 1) words) o
+        (releases state (place + 1) words)) ≤ suc (length words)
     go None a b = omega arith
     go (Some entry) a b = let c = a entry in omega arith
 
@@ -284,7 +314,8 @@ first_few : (n : ℕ) (places : List Place) → length (of_first n places) ≤ l
 first_few n [] = omega arith
 first_few n (place ∷ places) = go (nat_lt place.segment n) (first_few n places)
   where
-    go : (b : Bool) → length (of_first n places) ≤ length places → length (cond b (place ∷ of_first n places) []) ≤ suc (length places)
+    go : (b : Bool) → length (of_first n places) ≤ length places → length (cond b (place ∷ of_first n places) [])
+        ≤ suc (length places)
     go true h = omega arith
     go false h = omega arith
 
@@ -299,13 +330,15 @@ module _ (call : CallSeen) (run : RunEnds call) where
   read_few (inr (place, kind, is)) =
       let e = ap length is in let f = length-append run.account.handled (place ∷ []) in omega arith
 
-  handled_few : (came : RunEnd) → AreAnswered run.account came → length run.account.handled ≤ length (places_of run.account.items)
+  handled_few : (came : RunEnd) → AreAnswered run.account came
+      → length run.account.handled ≤ length (places_of run.account.items)
   handled_few Ended h = let e = ap length h.0 in omega arith
   handled_few (Malformed offset) h = let e = ap length h.0 in omega arith
   handled_few (SourceFault count) h = let e = ap length h.0 in omega arith
   handled_few (SiteFault count) h = let e = ap length h.0 in omega arith
   handled_few (NoState offset) h = let e = ap length h.0 in omega arith
-  handled_few NoMemory h = let e = ap length h.0.1 in let f = first_few h.0.0 (places_of run.account.items) in omega arith
+  handled_few NoMemory h = let e = ap length h.0.1 in let f = first_few h.0.0 (places_of run.account.items) in
+      omega arith
   handled_few SessionFull h = read_few h.0
   handled_few PutFailed h = read_few h.0
 
@@ -331,7 +364,8 @@ module _ (call : CallSeen) (run : RunEnds call) where
 
   -- no count rises, the input is well formed, and short enough for the history: then all is done, or memory ran out
   module _ (plan : PlanLines) (state : State) (free : IsUnhindered call run plan state)
-      (reads_once : (input : List ℕ) (xs ys : List Item) (e f : InputEnd) → IsInput input xs e → IsInput input ys f → (xs ≡ ys) × (e ≡ f))
+      (reads_once : (input : List ℕ) (xs ys : List Item) (e f : InputEnd) → IsInput input xs e → IsInput input ys f
+      → (xs ≡ ys) × (e ≡ f))
       (shows_state : (image : List ℕ) (shown : State) (offset : ℕ) → Shows image shown → ¬ ShowsNone image offset) where
     few : length call.entries < MOST_ENTRIES
     few = let h = few_entries free.site_told plan state free.shows in let s = free.short in omega arith
@@ -340,16 +374,22 @@ module _ (call : CallSeen) (run : RunEnds call) where
     last_same h = let w = run.after_later in free.site_well (omega arith)
 
     status_is : (end : RunEnd) → run.account.told ≡ end → call.status ≡ end_status end
-    status_is end is = elim run.put [ inl put ↦ put.status_is ∙ ap end_status is | inr broken ↦ absurd (free.site_well broken.rose) ]
+    status_is end is = elim run.put [
+      | inl put ↦ put.status_is ∙ ap end_status is
+      | inr broken ↦
+          absurd (free.site_well broken.rose)
+    ]
 
-    told_is : (came : RunEnd) → run.account.came ≡ came → (came ≡ Ended → ⊥) → TellsEnd call run.account → run.account.told ≡ came
+    told_is : (came : RunEnd) → run.account.came ≡ came → (came ≡ Ended → ⊥) → TellsEnd call run.account
+        → run.account.told ≡ came
     told_is came is other (inl h) = absurd (last_same h.0)
     told_is came is other (inr (well, inl same)) = same ∙ is
     told_is came is other (inr (well, inr (ended, which))) = absurd (other (sym is ∙ ended))
 
     not_malformed : (offset : ℕ) → CameBy call run.account (Malformed offset) → ⊥
     not_malformed offset cause = whole_malformed offset
-        ((reads_once call.source.left free.well_formed.0 run.account.items Whole (MalformedAt offset) free.well_formed.1 (cause.1 free.source_told)).1)
+        ((reads_once call.source.left free.well_formed.0 run.account.items Whole (MalformedAt offset) free.well_formed.1
+        (cause.1 free.source_told)).1)
       where
         whole_malformed : (offset : ℕ) → Whole ≡ MalformedAt offset → ⊥
         whole_malformed offset h = cc
@@ -361,12 +401,19 @@ module _ (call : CallSeen) (run : RunEnds call) where
             → (call.status ≡ 0) ⊎ (call.status ≡ 6)
         go Ended is cause (inl h) = absurd (last_same h.0)
         go Ended is cause (inr (well, inl same)) = inl (status_is Ended (same ∙ is))
-        go Ended is cause (inr (well, inr (ended, inl (count, told_count, rose, low)))) = absurd (free.site_well (let w = run.last_later in omega arith))
+        go Ended is cause (inr (well, inr (ended, inl (count, told_count, rose, low)))) =
+            absurd (free.site_well (let w = run.last_later in omega arith))
         go Ended is cause (inr (well, inr (ended, inr (told_full, full)))) = absurd (omega (arith, few))
         go (Malformed offset) is cause tells = absurd (not_malformed offset cause)
         go (SourceFault count) is cause tells = absurd (free.source_well cause.0)
         go (SiteFault count) is cause tells = absurd (last_same cause.0)
-        go NoMemory is cause tells = inr (status_is NoMemory (told_is NoMemory is (λ e. let s : end_status NoMemory ≡ end_status Ended = ap end_status e in absurd (omega arith)) tells))
-        go (NoState offset) is cause tells = absurd (shows_state (image_at_entry call) state offset free.shows.shows (cause.0 free.site_told))
+        go NoMemory is cause tells =
+            inr (status_is NoMemory (told_is NoMemory is (λ e. let s : end_status NoMemory ≡ end_status Ended =
+            ap end_status e in absurd (omega arith)) tells))
+        go (NoState offset) is cause tells =
+            absurd (shows_state (image_at_entry call) state offset free.shows.shows (cause.0 free.site_told))
         go SessionFull is cause tells = let f = cause.full in absurd (omega (arith, few))
-        go PutFailed is cause tells = elim run.put [ inl put ↦ let a = put.none_failed in absurd (omega arith) | inr broken ↦ absurd (free.site_well broken.rose) ]
+        go PutFailed is cause tells = elim run.put [
+          | inl put ↦ let a = put.none_failed in absurd (omega arith)
+          | inr broken ↦ absurd (free.site_well broken.rose)
+        ]

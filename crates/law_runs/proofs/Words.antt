@@ -34,31 +34,46 @@ use Rattle.counter_table.specs.Turn.{stands}
 use Rattle.law_workers.proofs.Histories.{get_front, place_of_entry}
 
 -- One segment more, handled from one view to the next, and its answers put, which added nothing.
-pub words_segment : (begin : Begin) (first v mid w : View) (places more : List Place) (answers next : List Answer) (number : ℕ) (records : List Record)
+pub words_segment : (begin : Begin) (first v mid w : View) (places more : List Place) (answers next : List Answer)
+    (number : ℕ) (records : List Record)
     → records ≡ records_of more → IsSegment number places more → length answers ≡ length places
-    → Does begin first v (records_of places) (deeds_from places answers) → MovesCounted begin first v (records_of places) (deeds_from places answers)
-    → Does begin v mid (records_of more) (deeds_from more next) → MovesCounted begin v mid records (deeds_of number records next)
-    → Does begin mid w [] [] → w.numbers ≡ mid.numbers → MovesCounted begin first w (records_of (places ++ more)) (deeds_from (places ++ more) (answers ++ next))
-words_segment begin first v mid w places more answers next number records are segment each did before does counted put same =
+    → Does begin first v (records_of places) (deeds_from places answers)
+    → MovesCounted begin first v (records_of places) (deeds_from places answers)
+    → Does begin v mid (records_of more) (deeds_from more next)
+    → MovesCounted begin v mid records (deeds_of number records next)
+    → Does begin mid w [] [] → w.numbers ≡ mid.numbers
+    → MovesCounted begin first w (records_of (places ++ more)) (deeds_from (places ++ more) (answers ++ next))
+words_segment begin first v mid w places more answers next number records are segment each did before does counted put
+    same =
     let here : MovesCounted begin v mid (records_of more) (deeds_of number (records_of more) next) =
     subst (λ (rs : List Record). MovesCounted begin v mid rs (deeds_of number rs next)) are counted in
     let own : MovesCounted begin v mid (records_of more) (deeds_from more next) =
     subst (MovesCounted begin v mid (records_of more)) (sym (deeds_of_segment number more next segment.of)) here in
-    let both : MovesCounted begin first mid (records_of places ++ records_of more) (deeds_from places answers ++ deeds_from more next) =
-    counted_then begin first v mid (records_of places) (records_of more) (deeds_from places answers) (deeds_from more next) did does before own segment.next
-    (λ index some. indexed_high segment.next index places segment.low some) (λ index some. indexed_low segment.next index more segment.high some)
+    let both : MovesCounted begin first mid (records_of places ++ records_of more)
+    (deeds_from places answers ++ deeds_from more next) =
+    counted_then begin first v mid (records_of places) (records_of more) (deeds_from places answers)
+    (deeds_from more next) did does before own segment.next
+    (λ index some. indexed_high segment.next index places segment.low some)
+    (λ index some. indexed_low segment.next index more segment.high some)
     (deeds_all (λ (task : Record). task.index < segment.next) places answers segment.low)
     (deeds_all (λ (task : Record). segment.next ≤ task.index) more next segment.high) in
-    let on : MovesCounted begin first w (records_of places ++ records_of more) (deeds_from places answers ++ deeds_from more next) =
-    counted_on begin first mid w (records_of places ++ records_of more) (deeds_from places answers ++ deeds_from more next) both put
+    let on : MovesCounted begin first w (records_of places ++ records_of more)
+    (deeds_from places answers ++ deeds_from more next) =
+    counted_on begin first mid w (records_of places ++ records_of more)
+    (deeds_from places answers ++ deeds_from more next) both put
     (λ row. ap (λ (n : Numbers). amount row n.added) same) in
-    subst (λ (rs : List Record). MovesCounted begin first w rs (deeds_from (places ++ more) (answers ++ next))) (sym (records_both places more))
-    (subst (MovesCounted begin first w (records_of places ++ records_of more)) (sym (deeds_both places more answers next each)) on)
+    subst (λ (rs : List Record). MovesCounted begin first w rs (deeds_from (places ++ more) (answers ++ next)))
+    (sym (records_both places more))
+    (subst (MovesCounted begin first w (records_of places ++ records_of more))
+    (sym (deeds_both places more answers next each)) on)
 
 -- The words at the end, where no two records have one number, and releases stand behind.
-pub moved_call : (call : CallSeen) (account : Account) (begin : Begin) (first now : View) (words : List ℕ) (releases : List Entry)
-    → begin.rows ≡ MOST_KEYS → first.turn.made ≡ [] → IsWhole MOST_KEYS now → IsJustOpened begin first → ((row : ℕ) → row < MOST_KEYS → RowStands row (slice_index words row) now.numbers)
-    → ((index : ℕ) → indexed index (records_of account.handled) ≤ 1) → MovesCounted begin first now (records_of account.handled) (deeds_in account)
+pub moved_call : (call : CallSeen) (account : Account) (begin : Begin) (first now : View) (words : List ℕ)
+    (releases : List Entry)
+    → begin.rows ≡ MOST_KEYS → first.turn.made ≡ [] → IsWhole MOST_KEYS now → IsJustOpened begin first
+    → ((row : ℕ) → row < MOST_KEYS → RowStands row (slice_index words row) now.numbers)
+    → ((index : ℕ) → indexed index (records_of account.handled) ≤ 1)
+    → MovesCounted begin first now (records_of account.handled) (deeds_in account)
     → call.entries ≡ entries_in now ++ releases → MovedWords call account begin.start (length (entries_in now)) words
 moved_call call account begin first now words releases rows none whole opened stand once m is = record {
   move_of = move_in m.moved.moves;
@@ -69,7 +84,8 @@ moved_call call account begin first now words releases rows none whole opened st
       let found : move_in m.moved.moves (slice_index_or (deeds_in account) k d).task.index ≡ move =
       move_found m.moved.moves (slice_index_or (deeds_in account) k d).task.index move (omega arith) there in
       let later : Tells begin.start (entries_in now ++ releases) (slice_index_or (deeds_in account) k d) move =
-      (tell_more begin.start (entries_in now) releases (slice_index_or (deeds_in account) k d ∷ []) (move ∷ []) (tells, tt)).0 in
+      (tell_more begin.start (entries_in now) releases (slice_index_or (deeds_in account) k d ∷ []) (move ∷ [])
+      (tells, tt)).0 in
       subst (λ (mv : Move). Tells begin.start call.entries (slice_index_or (deeds_in account) k d) mv) (sym found)
       (subst (λ (es : List Entry). Tells begin.start es (slice_index_or (deeds_in account) k d) move) (sym is) later);
   between = λ index.
@@ -78,7 +94,8 @@ moved_call call account begin first now words releases rows none whole opened st
       subst (λ (n : ℕ). LiesBetween n (mark_at begin.start) (slice_index words) (move_in m.moved.moves index)) rows
       (lies_wider begin.rows (words_in first) (words_in now) (mark_at begin.start) (slice_index words)
       (λ row low. let n = opened.nexts row low in omega arith)
-      (λ row low. let r = rows in let s = (stand row (omega arith)).seen in omega arith) (move_in m.moved.moves index) of);
+      (λ row low. let r = rows in let s = (stand row (omega arith)).seen in omega arith) (move_in m.moved.moves index)
+      of);
   entries = λ p entry index low there of.
       let (place, made, at, before) = place_made p entry low there in
       subst (λ (n : ℕ). All (CountsEntry n index) (deeds_in account)) before (m.entries place made entry index at of);
@@ -112,5 +129,6 @@ moved_call call account begin first now words releases rows none whole opened st
         let (place, below, at, same) = place_of_entry (log_of now) p entry here in
         let all : now.turn.made ≡ m.moved.made = m.moved.made_is ∙ ap (λ (l : List ℕ). l ++ m.moved.made) none in
         let once_made = whole.made place in
-        let made : 0 < stands place m.moved.made = subst (λ (l : List ℕ). 0 < stands place l) all (grind (arith, nat_tests)) in
+        let made : 0 < stands place m.moved.made =
+        subst (λ (l : List ℕ). 0 < stands place l) all (grind (arith, nat_tests)) in
         (place, made, at, ap length same ∙ length-take-le p (entries_in now) (omega arith))

@@ -100,7 +100,8 @@ pub record StopsAtFullHistory (begin : Begin) (first now : View) (places : List 
   pub full : MOST_ENTRIES ≤ length (entries_in now)
   pub not_failed : length (entries_in now) ≤ MOST_ENTRIES
       → ¬ Rose now.turn.known.opening.faults now.turn.known.faults
-  pub due : IsTrue (is_entered place.task.kind) ⊎ MayAppend (IsBetween begin first now) (course_in begin now) MOST_ENTRIES
+  pub due : IsTrue (is_entered place.task.kind) ⊎ MayAppend (IsBetween begin first now) (course_in begin now)
+      MOST_ENTRIES
       place.task
   pub unmade : HasNoEntry (entries_in now) place.task.index
 

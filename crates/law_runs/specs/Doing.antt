@@ -81,7 +81,8 @@ HasSettled begin now stored places answers =
 abbrev pub HasFenced : View → List Place → List Answer → Type 0
 HasFenced now places answers = (place : Place) (at : ℕ) (entry : Entry) → Contains places place
     → slice_get (log_of now) at ≡ Some (logged.Entry entry) → entry.index ≡ Some place.task.index
-    → length (answers_octets (answers_of_first place.segment places answers)) ≤ length (pieces_of (take at (log_of now)))
+    → length (answers_octets (answers_of_first place.segment places answers))
+    ≤ length (pieces_of (take at (log_of now)))
 
 -- The first put behind a segment found a book that settles what the worker had done before: of so many entries that
 -- were stored, no fewer than the worker knew of; so many are stored now.

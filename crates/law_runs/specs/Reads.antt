@@ -21,7 +21,8 @@ StillShows call image = (state : State) × Shows (image_at_entry call) state × 
 -- a crash then leaves what one at the entry may leave too, or what the opening of the image at the entry may leave, or
 -- one that still shows what that shows
 abbrev pub IsRead : CallSeen → List ℕ → Type 0
-IsRead call image = Leaves call.site.trace.now image ⊎ (LeftByOpening (image_at_entry call) image ⊎ StillShows call image)
+IsRead call image = Leaves call.site.trace.now image
+    ⊎ (LeftByOpening (image_at_entry call) image ⊎ StillShows call image)
 
 -- each moment of the call is such
 abbrev pub ReadsAlone : CallSeen → Type 0

@@ -24,8 +24,8 @@ use unit_image::{refused_with_one, shows_one};
 /// Law: a call whose book was opened, whose records one worker served, and which released its keys and put End, ends as
 /// a run ends, and continues each life that left the image at its entry.
 pub fn run_ends_well()
-    ensures { (told : Bool) (site after : SiteSeen) (source source_after : SourceSeen) (first now : View) (came : RunEnd)
-        (book : BookView) (words : List ℕ) (entries : List Entry) (status : ℕ)
+    ensures { (told : Bool) (site after : SiteSeen) (source source_after : SourceSeen) (first now : View)
+        (came : RunEnd) (book : BookView) (words : List ℕ) (entries : List Entry) (status : ℕ)
         → Ran told site source source_after first now came book words
         → (end : Finishes told site.faults words came book after entries status)
         → EndsAndLives (record {

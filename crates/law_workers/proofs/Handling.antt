@@ -1,5 +1,6 @@
 -- Records of one segment, handled one after the other and at once.
-use Rattle.std.proofs.Common.{◌≡◌, ◌≢◌, ◌⊎◌, ℕ, suc, Bool, ◌+◌, ◌<◌, ◌≤◌, List, [], ◌∷◌, ◌++◌, length, true, false, refl, sym, ◌∙◌, subst, inl, inr, arith, length-append, eqb, if◌then◌else◌}
+use Rattle.std.proofs.Common.{◌≡◌, ◌≢◌, ◌⊎◌, ℕ, suc, Bool, ◌+◌, ◌<◌, ◌≤◌, List, [], ◌∷◌, ◌++◌, length, true, false}
+use Rattle.std.proofs.Common.{refl, sym, ◌∙◌, subst, inl, inr, arith, length-append, eqb, if◌then◌else◌}
 use Rattle.std.specs.List.{Contains, All}
 use Rattle.std.proofs.lemmas.List.Elements.{All-contains}
 use Rattle.std.proofs.lemmas.Bool.{cases_eq}
@@ -20,14 +21,16 @@ use Rattle.law_workers.proofs.Logs.{count_kept, drawers_both}
 use Rattle.law_workers.proofs.Joining.{does_nothing, nothing_gains, does_then, then_gains, does_beside, beside_gains}
 use Rattle.law_workers.proofs.Ordering.{lined_on, lined_then, lined_beside}
 
-pub handled_nothing : (layout : Layout) (begin : Begin) (v : View) (tasks : List Record) → Handled layout begin v v tasks []
+pub handled_nothing : (layout : Layout) (begin : Begin) (v : View) (tasks : List Record)
+    → Handled layout begin v v tasks []
 handled_nothing layout begin v tasks = record {
   does = does_nothing begin v tasks;
-  lined = subst (λ (g : Gains). Lined (TakeTurns layout) (log_of v) g.made (length tasks + drawers tasks) 0) (sym (nothing_gains begin v tasks)) (record {
-    in_order = λ x y i j a b is_i is_j lt turn. absurd (omega arith);
-    few_entries = omega arith;
-    few_pieces = omega arith;
-  });
+  lined = subst (λ (g : Gains). Lined (TakeTurns layout) (log_of v) g.made (length tasks + drawers tasks) 0)
+      (sym (nothing_gains begin v tasks)) (record {
+        in_order = λ x y i j a b is_i is_j lt turn. absurd (omega arith);
+        few_entries = omega arith;
+        few_pieces = omega arith;
+      });
 }
 
 -- so many entries at most
@@ -41,8 +44,10 @@ many in_turn log made ts us h = record {
 }
 
 module _ (layout : Layout) (begin : Begin) where
-  pub handled_then : (u v w : View) (ts us : List Record) (ds es : List Deed) → Handled layout begin u v ts ds → Handled layout begin v w us es
-      → ComeBefore ts us → AllBoth (λ (d e : Deed). d.task.index < e.task.index) ds es → Handled layout begin u w (ts ++ us) (ds ++ es)
+  pub handled_then : (u v w : View) (ts us : List Record) (ds es : List Deed) → Handled layout begin u v ts ds
+      → Handled layout begin v w us es
+      → ComeBefore ts us → AllBoth (λ (d e : Deed). d.task.index < e.task.index) ds es
+      → Handled layout begin u w (ts ++ us) (ds ++ es)
   handled_then u v w ts us ds es a b come turns =
       let rest : List Logged = b.does.grows.earlier.log.0 in
       let log_is : log_of w ≡ log_of v ++ rest = b.does.grows.earlier.log.1 in
@@ -53,18 +58,25 @@ module _ (layout : Layout) (begin : Begin) where
       (lined_on (TakeTurns layout) (log_of v) rest m (length ts + drawers ts) 0 below a.lined) in
       let of_first : (i : ℕ) → count_at (is_of_record i) (log_of w) m ≤ indexed i ts =
       λ i. subst (λ (l : List Logged). count_at (is_of_record i) l m ≤ indexed i ts) (sym log_is)
-      (let c = count_kept (is_of_record i) (log_of v) rest m below in let o = a.does.works.one_entry i in omega arith) in
+      (let c = count_kept (is_of_record i) (log_of v) rest m below in let o = a.does.works.one_entry i in
+      omega arith) in
       record {
         does = does_then begin u v w ts us ds es a.does b.does turns;
-        lined = subst (λ (g : Gains). Lined (TakeTurns layout) (log_of w) g.made (length (ts ++ us) + drawers (ts ++ us)) 0)
-            (sym (then_gains begin u v w ts us ds es a.does b.does turns)) (many (TakeTurns layout) (log_of w) (m ++ n) ts us
-            (lined_then (TakeTurns layout) (log_of w) ts us m n (length ts + drawers ts) 0 (length us + drawers us) 0 of_first (λ i. b.does.works.one_entry i)
+        lined = subst (λ (g : Gains). Lined (TakeTurns layout) (log_of w) g.made
+            (length (ts ++ us) + drawers (ts ++ us)) 0)
+            (sym (then_gains begin u v w ts us ds es a.does b.does turns))
+            (many (TakeTurns layout) (log_of w) (m ++ n) ts us
+            (lined_then (TakeTurns layout) (log_of w) ts us m n (length ts + drawers ts) 0 (length us + drawers us) 0
+            of_first (λ i. b.does.works.one_entry i)
             (length (log_of v)) below (λ x h. (b.does.works.made x h).0) come first b.lined));
       }
 
-  pub handled_beside : (u v w : View) (ts us : List Record) (ds es : List Deed) → Handled layout begin (keeping u) v ts ds
-      → Handled layout begin (starting u) w us es → 1 < u.numbers.shares → u.turn.holds ≡ false → u.turn.filled ≡ true → Meets begin.rows v w
-      → AreAside (TakeTurns layout) ts us → AllBoth AtOnce ds es → Handled layout begin u (meeting v w) (ts ++ us) (ds ++ es)
+  pub handled_beside : (u v w : View) (ts us : List Record) (ds es : List Deed)
+      → Handled layout begin (keeping u) v ts ds
+      → Handled layout begin (starting u) w us es → 1 < u.numbers.shares → u.turn.holds ≡ false → u.turn.filled ≡ true
+      → Meets begin.rows v w
+      → AreAside (TakeTurns layout) ts us → AllBoth AtOnce ds es
+      → Handled layout begin u (meeting v w) (ts ++ us) (ds ++ es)
   handled_beside u v w ts us ds es a b two free filled meet aside lanes =
       let z : View = meeting v w in
       let more : List Logged = meet.earlier.log.0 in let rest : List Logged = meet.other_earlier.log.0 in
@@ -81,15 +93,20 @@ module _ (layout : Layout) (begin : Begin) where
       (lined_on (TakeTurns layout) (log_of w) rest n (length us + drawers us) 0 below_too b.lined) in
       let of_first : (i : ℕ) → count_at (is_of_record i) (log_of z) m ≤ indexed i ts =
       λ i. subst (λ (l : List Logged). count_at (is_of_record i) l m ≤ indexed i ts) (sym log_is)
-      (let c = count_kept (is_of_record i) (log_of v) more m below in let o = a.does.works.one_entry i in omega arith) in
+      (let c = count_kept (is_of_record i) (log_of v) more m below in let o = a.does.works.one_entry i in
+      omega arith) in
       let of_second : (i : ℕ) → count_at (is_of_record i) (log_of z) n ≤ indexed i us =
       λ i. subst (λ (l : List Logged). count_at (is_of_record i) l n ≤ indexed i us) (sym log_too)
-      (let c = count_kept (is_of_record i) (log_of w) rest n below_too in let o = b.does.works.one_entry i in omega arith) in
+      (let c = count_kept (is_of_record i) (log_of w) rest n below_too in let o = b.does.works.one_entry i in
+      omega arith) in
       record {
         does = does_beside begin u v w ts us ds es a.does b.does two free filled meet lanes;
-        lined = subst (λ (g : Gains). Lined (TakeTurns layout) (log_of z) g.made (length (ts ++ us) + drawers (ts ++ us)) 0)
-            (sym (beside_gains begin u v w ts us ds es a.does b.does two free filled meet lanes)) (many (TakeTurns layout) (log_of z) (m ++ n) ts us
-            (lined_beside (TakeTurns layout) (log_of z) ts us m n (length ts + drawers ts) 0 (length us + drawers us) 0 of_first of_second aside first second));
+        lined = subst (λ (g : Gains). Lined (TakeTurns layout) (log_of z) g.made
+            (length (ts ++ us) + drawers (ts ++ us)) 0)
+            (sym (beside_gains begin u v w ts us ds es a.does b.does two free filled meet lanes))
+            (many (TakeTurns layout) (log_of z) (m ++ n) ts us
+            (lined_beside (TakeTurns layout) (log_of z) ts us m n (length ts + drawers ts) 0 (length us + drawers us) 0
+            of_first of_second aside first second));
       }
 
 -- an index that stands among records is one's
@@ -99,12 +116,14 @@ record_indexed i (t ∷ ts) h = elim (cases_eq t.index i) [
   | inl is ↦ (t, (0, omega arith, refl), is)
   | inr off ↦
       let f : eqb t.index i ≡ false = grind (arith, nat_tests) in
-      let k : 0 < (if false then 1 else 0) + indexed i ts = subst (λ (b : Bool). 0 < (if b then 1 else 0) + indexed i ts) f h in
+      let k : 0 < (if false then 1 else 0) + indexed i ts =
+      subst (λ (b : Bool). 0 < (if b then 1 else 0) + indexed i ts) f h in
       let (u, (p, low, is), same) = record_indexed i ts (omega arith) in (u, (suc p, omega arith, is), same)
 ]
 
 -- records of one segment on different lanes are not handled in turn
-pub set_aside : (layout : Layout) (s : ℕ) (tasks ts us : List Record) → LiesIn layout s tasks → All (Contains tasks) ts → All (Contains tasks) us
+pub set_aside : (layout : Layout) (s : ℕ) (tasks ts us : List Record) → LiesIn layout s tasks → All (Contains tasks) ts
+    → All (Contains tasks) us
     → ((t u : Record) → Contains ts t → Contains us u → t.lane ≢ u.lane) → AreAside (TakeTurns layout) ts us
 set_aside layout s tasks ts us lies in_ts in_us apart i j a b =
     let (t, there, is) = record_indexed i ts a in let (u, there', is') = record_indexed j us b in

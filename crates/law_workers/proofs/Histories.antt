@@ -1,5 +1,6 @@
 -- What stays so of a history and its log while they grow.
-use Rattle.std.proofs.Common.{◌≡◌, ℕ, zero, suc, ◌<◌, ◌≤◌, List, [], ◌∷◌, ◌++◌, length, take, Some, None, Option, refl, ap, arith}
+use Rattle.std.proofs.Common.{◌≡◌, ℕ, zero, suc, ◌<◌, ◌≤◌, List, [], ◌∷◌, ◌++◌, length, take, Some, None, Option, refl}
+use Rattle.std.proofs.Common.{ap, arith}
 use Rattle.std.specs.List.{slice_get}
 use Rattle.sdls_base.specs.declared.entry.Entry.{Entry}
 use Rattle.sdls_base.specs.declared.entry.Logged.{Logged}
@@ -28,11 +29,13 @@ get_front (x ∷ xs) ys zero h = refl
 get_front (x ∷ xs) ys (suc k) h = get_front xs ys k (omega arith)
 
 -- a key keeps its row
-pub row_kept : (s : State) (es : List Entry) (key row : ℕ) → place_of s.keys key ≡ Some row → place_of (after s es).keys key ≡ Some row
+pub row_kept : (s : State) (es : List Entry) (key row : ℕ) → place_of s.keys key ≡ Some row
+    → place_of (after s es).keys key ≡ Some row
 row_kept s [] key row h = h
 row_kept s (e ∷ es) key row h = row_kept (applied s e.change) es key row (places_kept s e.change key row h)
 
-pub row_kept_first : (s : State) (es : List Entry) (p key row : ℕ) → place_of (after_first s es p).keys key ≡ Some row → place_of (after s es).keys key ≡ Some row
+pub row_kept_first : (s : State) (es : List Entry) (p key row : ℕ) → place_of (after_first s es p).keys key ≡ Some row
+    → place_of (after s es).keys key ≡ Some row
 row_kept_first s [] zero key row h = h
 row_kept_first s [] (suc p) key row h = h
 row_kept_first s (e ∷ es) zero key row h = row_kept s (e ∷ es) key row h
@@ -46,7 +49,8 @@ epoch_first (e ∷ es) (suc p) = let h = epoch_first es p in omega arith
 
 -- the place of an entry in the log
 pub place_of_entry : (log : List Logged) (p : ℕ) (e : Entry) → slice_get (entries_of log) p ≡ Some e
-    → (place : ℕ) × (place < length log) × (slice_get log place ≡ Some (lines.Entry e)) × (entries_of (take place log) ≡ take p (entries_of log))
+    → (place : ℕ) × (place < length log) × (slice_get log place ≡ Some (lines.Entry e))
+    × (entries_of (take place log) ≡ take p (entries_of log))
 place_of_entry [] p e h = absurd (let k : ◌≡◌ {A = Option Entry} None (Some e) = h in cc)
 place_of_entry (lines.Entry x ∷ log) zero e h = (0, omega arith, ap (λ (o : Option Entry). logged o) h, refl)
   where
@@ -54,6 +58,7 @@ place_of_entry (lines.Entry x ∷ log) zero e h = (0, omega arith, ap (λ (o : O
     logged None = None
     logged (Some y) = Some (lines.Entry y)
 place_of_entry (lines.Entry x ∷ log) (suc p) e h =
-    let (place, low, there, same) = place_of_entry log p e h in (suc place, omega arith, there, ap (λ (z : List Entry). x ∷ z) same)
+    let (place, low, there, same) = place_of_entry log p e h in
+    (suc place, omega arith, there, ap (λ (z : List Entry). x ∷ z) same)
 place_of_entry (lines.Piece x ∷ log) p e h =
     let (place, low, there, same) = place_of_entry log p e h in (suc place, omega arith, there, same)

@@ -1,5 +1,7 @@
 -- What one worker did after another, and what two workers did at once.
-use Rattle.std.proofs.Common.{◌≡◌, ◌⊎◌, ℕ, ◌+◌, ◌<◌, ◌≤◌, List, [], ◌∷◌, ◌++◌, length, take, Some, Bool, false, true, refl, sym, ◌∙◌, ap, subst, inl, inr, arith, le_trans, append_assoc, append-nil, if◌then◌else◌, ◌||◌, max, IsTrue, ◌&&◌, nat_le, ◌-◌}
+use Rattle.std.proofs.Common.{◌≡◌, ◌⊎◌, ℕ, ◌+◌, ◌<◌, ◌≤◌, List, [], ◌∷◌, ◌++◌, length, take, Some, Bool, false, true}
+use Rattle.std.proofs.Common.{refl, sym, ◌∙◌, ap, subst, inl, inr, arith, le_trans, append_assoc, append-nil}
+use Rattle.std.proofs.Common.{if◌then◌else◌, ◌||◌, max, IsTrue, ◌&&◌, nat_le, ◌-◌}
 use Rattle.std.specs.List.{slice_index_or}
 use Rattle.std.proofs.lemmas.Bool.{cases_lt}
 use Rattle.std.proofs.lemmas.List.{take-append-le, take_all}
@@ -17,13 +19,15 @@ use Rattle.run_promise.specs.Log.{entries_of}
 use Rattle.run_promise.specs.Answers.{Uses}
 use Rattle.run_promise.specs.Fits.{Fits}
 use Rattle.run_promise.specs.Call.{Begin}
-use Rattle.law_workers.specs.Views.{Gains, no_gains, both_gains, log_of, entries_in, IsBetween, IsRow, KnowsMore, Gained, keeping, starting, meeting, Meets}
+use Rattle.law_workers.specs.Views.{Gains, no_gains, both_gains, log_of, entries_in, IsBetween, IsRow, KnowsMore}
+use Rattle.law_workers.specs.Views.{Gained, keeping, starting, meeting, Meets}
 use Rattle.law_workers.specs.Work.{Works, Worked}
 use Rattle.run_promise.specs.Deed.{Deed, StandsBehind, InTurn, is_protected, tells_entry, tells_epoch}
 use Rattle.law_workers.specs.Deeds.{StandsWithin, Agree, MadeLast, IsSpent, Answers, Does, AtOnce, AllBoth, course_in}
 use Rattle.law_workers.proofs.Logs.{stands_both, times_both, piece_count_both, last_once, entries_low}
 use Rattle.law_workers.proofs.Faults.{fault_rose, fault_tells}
-use Rattle.law_workers.proofs.Working.{widen_works, widen_answers, merge_works, merge_answers, merge_unmade, widen_unmade, row_later, told_later, closed}
+use Rattle.law_workers.proofs.Working.{widen_works, widen_answers, merge_works, merge_answers, merge_unmade}
+use Rattle.law_workers.proofs.Working.{widen_unmade, row_later, told_later, closed}
 use Rattle.record_io.specs.declared.kinds.RecordKind.{RecordKind}
 use Rattle.record_io.specs.declared.kinds.RecordKind.TheVariants.{Protect, Open, Command, Monitor}
 use Rattle.record_io.specs.declared.code.TheConstants.{EXHAUSTED, SITE_FAULT}
@@ -35,12 +39,23 @@ top_both row [] b = omega arith
 top_both row (p ∷ a) b = let h = top_both row a b in omega arith
 
 earlier_itself : (k : Known) → Earlier k k
-earlier_itself k = record { log = ([], sym (append-nil k.log)); changes = omega arith; faults = omega arith; standing = omega arith; put_faults = omega arith; stopped = λ r. refl; stood = λ r. refl }
+earlier_itself k = record {
+  log = ([], sym (append-nil k.log));
+  changes = omega arith;
+  faults = omega arith;
+  standing = omega arith;
+  put_faults = omega arith;
+  stopped = λ r. refl;
+  stood = λ r. refl;
+}
 
 earlier_further : (a b c : Known) → Earlier a b → Earlier b c → c.opening ≡ b.opening → Earlier a c
 earlier_further a b c ab bc same =
     record {
-      log = (ab.log.0 ++ bc.log.0, bc.log.1 ∙ (ap (λ (z : List Logged). z ++ bc.log.0) ab.log.1 ∙ append_assoc a.log ab.log.0 bc.log.0));
+      log = (
+        ab.log.0 ++ bc.log.0,
+        bc.log.1 ∙ (ap (λ (z : List Logged). z ++ bc.log.0) ab.log.1 ∙ append_assoc a.log ab.log.0 bc.log.0),
+      );
       changes = le_trans ab.changes bc.changes;
       faults = le_trans ab.faults bc.faults;
       standing = le_trans ab.standing bc.standing;
@@ -57,7 +72,8 @@ earlier_further a b c ab bc same =
           bc.stood (omega arith) ∙ ab.stood r';
     }
 
-sparing_further : (a b c : Known) → Earlier a b → Earlier b c → c.opening ≡ b.opening → IsSparing a b → IsSparing b c → IsSparing a c
+sparing_further : (a b c : Known) → Earlier a b → Earlier b c → c.opening ≡ b.opening → IsSparing a b → IsSparing b c
+    → IsSparing a c
 sparing_further a b c first next same ab bc =
     let one = ab.0 in
     let two = bc.0 in
@@ -69,7 +85,8 @@ sparing_further a b c first next same ab bc =
           let mid : Rose c.opening.faults b.faults = bc.1 rose (omega arith) all in
           let log = next.stopped mid in
           let stood = next.stood mid in
-          subst (λ (z : ℕ). Rose z a.faults) (sym o) (ab.1 (subst (λ (z : ℕ). Rose z b.faults) o mid) (omega arith) (omega arith)),
+          subst (λ (z : ℕ). Rose z a.faults) (sym o)
+          (ab.1 (subst (λ (z : ℕ). Rose z b.faults) o mid) (omega arith) (omega arith)),
     )
 
 -- of two counts of which the greater rose, one rose
@@ -86,7 +103,12 @@ pieces_front a b e =
     let parts = piece_count_both a.log e.log.0 in omega arith
 
 pub grows_itself : (v : View) → KnowsMore v v
-grows_itself v = record { nexts = λ r. omega arith; earlier = earlier_itself v.turn.known; opening = refl; epochs = omega arith }
+grows_itself v = record {
+  nexts = λ r. omega arith;
+  earlier = earlier_itself v.turn.known;
+  opening = refl;
+  epochs = omega arith;
+}
 
 pub grows_further : (u v w : View) → KnowsMore u v → KnowsMore v w → KnowsMore u w
 grows_further u v w a b = record {
@@ -146,7 +168,8 @@ unfolding does_nothing
 nothing_gains begin v tasks = refl
 
 -- what was done without an answer
-pub does_unanswered : (begin : Begin) (v w : View) (tasks : List Record) → Worked begin v w tasks → Does begin v w tasks []
+pub does_unanswered : (begin : Begin) (v w : View) (tasks : List Record) → Worked begin v w tasks
+    → Does begin v w tasks []
 does_unanswered begin v w tasks d = record {
   gains = d.gains;
   gained = d.gained;
@@ -161,7 +184,8 @@ gained_then : (u v w : View) (g h : Gains) → Gained u v g → Gained v w h →
 gained_then u v w g h a b = record {
   drawn = b.drawn ∙ (ap (λ (l : List (ℕ × ℕ)). l ++ h.drawn) a.drawn ∙ append_assoc u.numbers.drawn g.drawn h.drawn);
   spent = b.spent ∙ (ap (λ (l : List (ℕ × ℕ)). l ++ h.spent) a.spent ∙ append_assoc u.numbers.spent g.spent h.spent);
-  raised = b.raised ∙ (ap (λ (l : List (ℕ × ℕ)). l ++ h.raised) a.raised ∙ append_assoc u.numbers.raised g.raised h.raised);
+  raised = b.raised ∙ (ap (λ (l : List (ℕ × ℕ)). l ++ h.raised) a.raised ∙ append_assoc u.numbers.raised g.raised
+      h.raised);
   added = b.added ∙ (ap (λ (l : List (ℕ × ℕ)). l ++ h.added) a.added ∙ append_assoc u.numbers.added g.added h.added);
   made = b.made ∙ (ap (λ (l : List ℕ). l ++ h.made) a.made ∙ append_assoc u.turn.made g.made h.made);
   shares = b.shares ∙ a.shares;
@@ -182,19 +206,24 @@ epoch_tells Command entered rest position epoch told = absurd (let t : false ≡
 epoch_tells Monitor entered rest position epoch told = absurd (let t : false ≡ true = told in cc)
 
 -- of the later record's answer to the earlier's
-agree_back : (begin : Begin) (z : View) (d e : Deed) → d.task.index < e.task.index → Agree begin (entries_in z) d e → Agree begin (entries_in z) e d
+agree_back : (begin : Begin) (z : View) (d e : Deed) → d.task.index < e.task.index → Agree begin (entries_in z) d e
+    → Agree begin (entries_in z) e d
 agree_back begin z d e lt h = record {
   pairs = λ ne k n a b. h.pairs (λ s. ne (sym s)) k n b a;
   faults = λ ne a b. h.faults (λ s. ne (sym s)) b a;
   order = λ lt'. absurd (omega arith);
 }
 
-module _ (begin : Begin) (u v w : View) (ts us : List Record) (ds es : List Deed) (a : Does begin u v ts ds) (b : Does begin v w us es)
+module _ (begin : Begin) (u v w : View) (ts us : List Record) (ds es : List Deed) (a : Does begin u v ts ds)
+    (b : Does begin v w us es)
     (turns : AllBoth (λ (d e : Deed). d.task.index < e.task.index) ds es) where
   -- the epoch that a frame's answer tells was seen when it was handled
-  seen_before : (d : Deed) → StandsWithin begin u v d → IsTrue (tells_epoch begin d) → d.answer.position ≤ epoch_seen v.turn
+  seen_before : (d : Deed) → StandsWithin begin u v d → IsTrue (tells_epoch begin d)
+      → d.answer.position ≤ epoch_seen v.turn
   seen_before d s told =
-      let (ordered, same) = epoch_tells d.task.kind (tells_entry d) (has_channel begin.plan d.task.link d.task.octets && nat_le d.answer.code EXHAUSTED)
+      let (ordered, same) =
+      epoch_tells d.task.kind (tells_entry d) (has_channel begin.plan d.task.link d.task.octets
+      && nat_le d.answer.code EXHAUSTED)
       d.answer.position (epoch_after (take d.answer.position (entries_in v))) told in
       let high = (s.epoch ordered).1 in omega arith
 
@@ -205,13 +234,18 @@ module _ (begin : Begin) (u v w : View) (ts us : List Record) (ds es : List Deed
       let rest : List Logged = b.grows.earlier.log.0 in
       let log_is : log_of w ≡ log_of v ++ rest = b.grows.earlier.log.1 in
       let here : take (length (log_of v)) (log_of w) ≡ log_of v =
-      ap (take (length (log_of v))) log_is ∙ (take-append-le (length (log_of v)) (log_of v) rest (omega arith) ∙ take_all (length (log_of v)) (log_of v) (omega arith)) in
-      let size : length (entries_of (take (length (log_of v)) (log_of w))) ≡ length (entries_in v) = ap (λ (l : List Logged). length (entries_of l)) here in
+      ap (take (length (log_of v))) log_is
+      ∙ (take-append-le (length (log_of v)) (log_of v) rest (omega arith) ∙ take_all (length (log_of v)) (log_of v)
+      (omega arith)) in
+      let size : length (entries_of (take (length (log_of v)) (log_of w))) ≡ length (entries_in v) =
+      ap (λ (l : List Logged). length (entries_of l)) here in
       let below = entries_low (log_of w) (length (log_of v)) q.place from in
       let last = q.last.0 in omega arith
 
-  behind : (d e : Deed) → StandsWithin begin u v d → StandsWithin begin v w e → Fits (IsBetween begin u v) (course_in begin v) d.task d.answer
-      → Fits (IsBetween begin v w) (course_in begin w) e.task e.answer → (e.answer.code ≡ SITE_FAULT → MadeLast w b.gains)
+  behind : (d e : Deed) → StandsWithin begin u v d → StandsWithin begin v w e
+      → Fits (IsBetween begin u v) (course_in begin v) d.task d.answer
+      → Fits (IsBetween begin v w) (course_in begin w) e.task e.answer
+      → (e.answer.code ≡ SITE_FAULT → MadeLast w b.gains)
       → StandsBehind begin (entries_in w) d e
   behind d e s t fit later last = record {
     entries = λ p q. let x = s.entry p in let y = t.entry q in omega arith;
@@ -231,17 +265,21 @@ module _ (begin : Begin) (u v w : View) (ts us : List Record) (ds es : List Deed
         let risen = fault_rose (IsBetween begin u v) (course_in begin v) d.task d.answer fit p in
         let same = closed begin u u v w (grows_itself u) b.grows risen in
         (λ q. let y = t.entry q in omega arith, λ q. let more = made_behind (last q) in omega arith);
-    epochs = λ p q. let x = s.epoch p in let y = t.epoch q in let same = told_later begin u u v w (grows_itself u) b.grows d s p in omega arith;
+    epochs = λ p q. let x = s.epoch p in let y = t.epoch q in
+        let same = told_later begin u u v w (grows_itself u) b.grows d s p in omega arith;
     epochs_before = λ p q. let low = seen_before d s p in let high = t.behind q in omega arith;
     numbers = λ lane c c' k k' keys.
         let (r, is, lo, hi) = s.number c k in let (r', is', lo', hi') = t.number c' k' in
         let same : r ≡ r' = same_row begin w e.answer.key r r'
-        (subst (λ (key : ℕ). IsRow begin w key r) keys (row_later begin u u v w (grows_itself u) b.grows d.answer.key r is)) is' in
-        let lo'' : top r v.numbers.nexts ≤ e.answer.number = subst (λ (q : ℕ). top q v.numbers.nexts ≤ e.answer.number) (sym same) lo' in
+        (subst (λ (key : ℕ). IsRow begin w key r) keys
+        (row_later begin u u v w (grows_itself u) b.grows d.answer.key r is)) is' in
+        let lo'' : top r v.numbers.nexts ≤ e.answer.number =
+        subst (λ (q : ℕ). top q v.numbers.nexts ≤ e.answer.number) (sym same) lo' in
         omega arith;
   }
 
-  apart_pairs : (d e : Deed) (k n : ℕ) → IsSpent begin v a.gains d → IsSpent begin w b.gains e → Uses d.answer k n → Uses e.answer k n → ⊥
+  apart_pairs : (d e : Deed) (k n : ℕ) → IsSpent begin v a.gains d → IsSpent begin w b.gains e → Uses d.answer k n
+      → Uses e.answer k n → ⊥
   apart_pairs d e k n p q x y =
       let (r, few, is, in') = p k n x in let (r', few', is', in'') = q k n y in
       let same : r ≡ r' = same_row begin w k r r' (row_later begin u u v w (grows_itself u) b.grows k r is) is' in
@@ -258,23 +296,30 @@ module _ (begin : Begin) (u v w : View) (ts us : List Record) (ds es : List Deed
   does_then =
       let first : Works begin u w a.gains ts = widen_works begin u u v w (grows_itself u) b.grows a.gains ts a.works in
       let second : Works begin u w b.gains us = widen_works begin u v w w a.grows (grows_itself w) b.gains us b.works in
-      let early : Answers begin u w a.gains ds = widen_answers begin u u v w (grows_itself u) b.grows a.gains ds (λ x h. (a.works.made x h).1) a.answers in
-      let late : Answers begin u w b.gains es = widen_answers begin u v w w a.grows (grows_itself w) b.gains es (λ x h. (b.works.made x h).1) b.answers in
+      let early : Answers begin u w a.gains ds =
+      widen_answers begin u u v w (grows_itself u) b.grows a.gains ds (λ x h. (a.works.made x h).1) a.answers in
+      let late : Answers begin u w b.gains es =
+      widen_answers begin u v w w a.grows (grows_itself w) b.gains es (λ x h. (b.works.made x h).1) b.answers in
       let cross : AllBoth (Agree begin (entries_in w)) ds es = λ i d l j e m. record {
-        pairs = λ ne k n. apart_pairs (slice_index_or ds i d) (slice_index_or es j e) k n (a.answers.used i d l) (b.answers.used j e m);
+        pairs = λ ne k n. apart_pairs (slice_index_or ds i d) (slice_index_or es j e) k n (a.answers.used i d l)
+            (b.answers.used j e m);
         faults = λ ne p q. apart_faults (a.answers.failed i d l p) (b.answers.failed j e m q);
-        order = λ lt turn. behind _ _ (a.answers.stand i d l) (b.answers.stand j e m) (a.answers.fit i d l) (b.answers.fit j e m) (b.answers.failed j e m);
+        order = λ lt turn. behind _ _ (a.answers.stand i d l) (b.answers.stand j e m) (a.answers.fit i d l)
+            (b.answers.fit j e m) (b.answers.failed j e m);
       } in
       record {
         gains = both_gains a.gains b.gains;
         gained = gained_then u v w a.gains b.gains a.gained b.gained;
         grows = grows_further u v w a.grows b.grows;
-        sparing = sparing_further u.turn.known v.turn.known w.turn.known a.grows.earlier b.grows.earlier b.grows.opening a.sparing b.sparing;
+        sparing = sparing_further u.turn.known v.turn.known w.turn.known a.grows.earlier b.grows.earlier b.grows.opening
+            a.sparing b.sparing;
         works = merge_works begin u w a.gains b.gains ts us first second;
         answers = merge_answers begin u w a.gains b.gains ds es early late cross
-            (λ j e m i d l. agree_back begin w (slice_index_or ds i d) (slice_index_or es j e) (turns i d l j e m) (cross i d l j e m));
+            (λ j e m i d l. agree_back begin w (slice_index_or ds i d) (slice_index_or es j e) (turns i d l j e m)
+            (cross i d l j e m));
         unmade = merge_unmade begin u w a.gains b.gains ts us ds es first second
-            (widen_unmade begin u u v w (grows_itself u) b.grows a.gains ts ds (λ x h. (a.works.made x h).1) a.unmade) b.unmade;
+            (widen_unmade begin u u v w (grows_itself u) b.grows a.gains ts ds (λ x h. (a.works.made x h).1) a.unmade)
+            b.unmade;
       }
 
   pub then_gains : does_then.gains ≡ both_gains a.gains b.gains
@@ -285,11 +330,16 @@ module _ (begin : Begin) (u v w : View) (ts us : List Record) (ds es : List Deed
 pub known_after : (v w : View) → v.turn.holds ≡ false → v.turn.filled ≡ true
     → (meeting v w).turn.known ≡ later v.turn.known.opening v.turn.known w.turn.known
 known_after v w free filled =
-    ap (λ (h : Bool). if h then v.turn.known else later (if v.turn.filled then v.turn.known.opening else w.turn.known.opening) v.turn.known w.turn.known) free
-    ∙ ap (λ (f : Bool). later (if f then v.turn.known.opening else w.turn.known.opening) v.turn.known w.turn.known) filled
+    ap (λ (h : Bool). if h then v.turn.known
+    else later (if v.turn.filled then v.turn.known.opening else w.turn.known.opening) v.turn.known w.turn.known)
+    free
+    ∙ ap (λ (f : Bool). later (if f then v.turn.known.opening else w.turn.known.opening) v.turn.known w.turn.known)
+    filled
 
-module _ (begin : Begin) (u v w : View) (ts us : List Record) (ds es : List Deed) (a : Does begin (keeping u) v ts ds) (b : Does begin (starting u) w us es)
-    (two : 1 < u.numbers.shares) (free : u.turn.holds ≡ false) (filled : u.turn.filled ≡ true) (meet : Meets begin.rows v w)
+module _ (begin : Begin) (u v w : View) (ts us : List Record) (ds es : List Deed) (a : Does begin (keeping u) v ts ds)
+    (b : Does begin (starting u) w us es)
+    (two : 1 < u.numbers.shares) (free : u.turn.holds ≡ false) (filled : u.turn.filled ≡ true)
+    (meet : Meets begin.rows v w)
     (lanes : AllBoth AtOnce ds es) where
   abbrev z : View
   z = meeting v w
@@ -329,16 +379,27 @@ module _ (begin : Begin) (u v w : View) (ts us : List Record) (ds es : List Deed
   }
 
   from_left : KnowsMore u (keeping u)
-  from_left = record { nexts = λ r. omega arith; earlier = earlier_itself u.turn.known; opening = refl; epochs = omega arith }
+  from_left = record {
+    nexts = λ r. omega arith;
+    earlier = earlier_itself u.turn.known;
+    opening = refl;
+    epochs = omega arith;
+  }
 
   from_right : KnowsMore u (starting u)
-  from_right = record { nexts = λ r. omega arith; earlier = earlier_itself u.turn.known; opening = refl; epochs = omega arith }
+  from_right = record {
+    nexts = λ r. omega arith;
+    earlier = earlier_itself u.turn.known;
+    opening = refl;
+    epochs = omega arith;
+  }
 
   left : Answers begin u z a.gains ds
   left = widen_answers begin u (keeping u) v z from_left grows_left a.gains ds (λ x h. (a.works.made x h).1) a.answers
 
   right : Answers begin u z b.gains es
-  right = widen_answers begin u (starting u) w z from_right grows_right b.gains es (λ x h. (b.works.made x h).1) b.answers
+  right = widen_answers begin u (starting u) w z from_right grows_right b.gains es (λ x h. (b.works.made x h).1)
+      b.answers
 
   -- a number that was spent in both was drawn in both
   not_both : (k n : ℕ) → ((row : ℕ) × (row < begin.rows) × IsRow begin z k row × (0 < times row n a.gains.spent))
@@ -347,7 +408,8 @@ module _ (begin : Begin) (u v w : View) (ts us : List Record) (ds es : List Deed
       let same : r ≡ r' = same_row begin z k r r' is is' in
       let q' : 0 < times r n b.gains.spent = subst (λ (s : ℕ). 0 < times s n b.gains.spent) (sym same) q in
       let s1 = a.works.spent r n in let s2 = b.works.spent r n in
-      let t1 : times r n v.numbers.drawn ≡ times r n u.numbers.drawn + times r n a.gains.drawn = ap (times r n) a.gained.drawn ∙ times_both r n u.numbers.drawn a.gains.drawn in
+      let t1 : times r n v.numbers.drawn ≡ times r n u.numbers.drawn + times r n a.gains.drawn =
+      ap (times r n) a.gained.drawn ∙ times_both r n u.numbers.drawn a.gains.drawn in
       let t2 : times r n w.numbers.drawn ≡ times r n b.gains.drawn = ap (times r n) b.gained.drawn in
       let m = meet.drawn r n few in omega arith
 
@@ -356,7 +418,8 @@ module _ (begin : Begin) (u v w : View) (ts us : List Record) (ds es : List Deed
       let same : p.place ≡ q.place = last_once (log_of z) p.place q.place p.last q.last in
       let i : 0 < stands p.place b.gains.made = subst (λ (x : ℕ). 0 < stands x b.gains.made) (sym same) q.is_made in
       let j = p.is_made in
-      let s1 : stands p.place v.turn.made ≡ stands p.place u.turn.made + stands p.place a.gains.made = ap (stands p.place) a.gained.made ∙ stands_both p.place u.turn.made a.gains.made in
+      let s1 : stands p.place v.turn.made ≡ stands p.place u.turn.made + stands p.place a.gains.made =
+      ap (stands p.place) a.gained.made ∙ stands_both p.place u.turn.made a.gains.made in
       let s2 : stands p.place w.turn.made ≡ stands p.place b.gains.made = ap (stands p.place) b.gained.made in
       let m = meet.made p.place in omega arith
 
@@ -371,25 +434,37 @@ module _ (begin : Begin) (u v w : View) (ts us : List Record) (ds es : List Deed
   -- the lists of the joined view
   beside : Gained u z (both_gains a.gains b.gains)
   beside = record {
-    drawn = ap (λ (l : List (ℕ × ℕ)). l ++ w.numbers.drawn) a.gained.drawn ∙ (ap (λ (l : List (ℕ × ℕ)). (u.numbers.drawn ++ a.gains.drawn) ++ l) b.gained.drawn ∙ append_assoc u.numbers.drawn a.gains.drawn b.gains.drawn);
-    spent = ap (λ (l : List (ℕ × ℕ)). l ++ w.numbers.spent) a.gained.spent ∙ (ap (λ (l : List (ℕ × ℕ)). (u.numbers.spent ++ a.gains.spent) ++ l) b.gained.spent ∙ append_assoc u.numbers.spent a.gains.spent b.gains.spent);
-    raised = ap (λ (l : List (ℕ × ℕ)). l ++ w.numbers.raised) a.gained.raised ∙ (ap (λ (l : List (ℕ × ℕ)). (u.numbers.raised ++ a.gains.raised) ++ l) b.gained.raised ∙ append_assoc u.numbers.raised a.gains.raised b.gains.raised);
-    added = ap (λ (l : List (ℕ × ℕ)). l ++ w.numbers.added) a.gained.added ∙ (ap (λ (l : List (ℕ × ℕ)). (u.numbers.added ++ a.gains.added) ++ l) b.gained.added ∙ append_assoc u.numbers.added a.gains.added b.gains.added);
-    made = ap (λ (l : List ℕ). l ++ w.turn.made) a.gained.made ∙ (ap (λ (l : List ℕ). (u.turn.made ++ a.gains.made) ++ l) b.gained.made ∙ append_assoc u.turn.made a.gains.made b.gains.made);
+    drawn = ap (λ (l : List (ℕ × ℕ)). l ++ w.numbers.drawn) a.gained.drawn
+        ∙ (ap (λ (l : List (ℕ × ℕ)). (u.numbers.drawn ++ a.gains.drawn) ++ l) b.gained.drawn
+        ∙ append_assoc u.numbers.drawn a.gains.drawn b.gains.drawn);
+    spent = ap (λ (l : List (ℕ × ℕ)). l ++ w.numbers.spent) a.gained.spent
+        ∙ (ap (λ (l : List (ℕ × ℕ)). (u.numbers.spent ++ a.gains.spent) ++ l) b.gained.spent
+        ∙ append_assoc u.numbers.spent a.gains.spent b.gains.spent);
+    raised = ap (λ (l : List (ℕ × ℕ)). l ++ w.numbers.raised) a.gained.raised
+        ∙ (ap (λ (l : List (ℕ × ℕ)). (u.numbers.raised ++ a.gains.raised) ++ l) b.gained.raised
+        ∙ append_assoc u.numbers.raised a.gains.raised b.gains.raised);
+    added = ap (λ (l : List (ℕ × ℕ)). l ++ w.numbers.added) a.gained.added
+        ∙ (ap (λ (l : List (ℕ × ℕ)). (u.numbers.added ++ a.gains.added) ++ l) b.gained.added
+        ∙ append_assoc u.numbers.added a.gains.added b.gains.added);
+    made = ap (λ (l : List ℕ). l ++ w.turn.made) a.gained.made
+        ∙ (ap (λ (l : List ℕ). (u.turn.made ++ a.gains.made) ++ l) b.gained.made ∙ append_assoc u.turn.made a.gains.made
+        b.gains.made);
     shares = let s = a.gained.shares in let t = b.gained.shares in omega arith;
     holds = v_free ∙ sym free;
     filled = ap (λ (f : Bool). f || w.turn.filled) v_filled ∙ sym filled;
   }
 
   -- a fault that one of the two knows had come before they were split
-  calm_part : (k : Known) → k.opening ≡ u.turn.known.opening → z.turn.known.opening.faults ≡ u.turn.known.opening.faults → IsSparing u.turn.known k
+  calm_part : (k : Known) → k.opening ≡ u.turn.known.opening → z.turn.known.opening.faults ≡ u.turn.known.opening.faults
+      → IsSparing u.turn.known k
       → Earlier k z.turn.known → Rose z.turn.known.opening.faults k.faults → k.put_faults ≤ u.turn.known.put_faults
       → entries z.turn.known.log ≤ z.turn.known.standing → Rose z.turn.known.opening.faults u.turn.known.faults
   calm_part k opening before sparing earlier rose low all =
       let log = earlier.stopped rose in
       let stood = earlier.stood rose in
       let same : k.opening.faults ≡ z.turn.known.opening.faults = ap (λ (o : Opening). o.faults) opening ∙ sym before in
-      subst (λ (n : ℕ). Rose n u.turn.known.faults) same (sparing.1 (subst (λ (n : ℕ). Rose n k.faults) (sym same) rose) low (omega arith))
+      subst (λ (n : ℕ). Rose n u.turn.known.faults) same
+      (sparing.1 (subst (λ (n : ℕ). Rose n k.faults) (sym same) rose) low (omega arith))
 
   -- each of the two logs is a front of the joined one
   sparing_both : IsSparing u.turn.known z.turn.known
@@ -397,15 +472,20 @@ module _ (begin : Begin) (u v w : View) (ts us : List Record) (ds es : List Deed
       let x = a.sparing.0 in let y = b.sparing.0 in
       let left_pieces = pieces_front v.turn.known z.turn.known meet.earlier in
       let right_pieces = pieces_front w.turn.known z.turn.known meet.other_earlier in
-      let failed : z.turn.known.put_faults ≡ max v.turn.known.put_faults w.turn.known.put_faults = ap (λ (k : Known). k.put_faults) known in
-      let faults : z.turn.known.faults ≡ max v.turn.known.faults w.turn.known.faults = ap (λ (k : Known). k.faults) known in
-      let before : z.turn.known.opening.faults ≡ u.turn.known.opening.faults = ap (λ (k : Known). k.opening.faults) known ∙ ap (λ (o : Opening). o.faults) a.grows.opening in (
+      let failed : z.turn.known.put_faults ≡ max v.turn.known.put_faults w.turn.known.put_faults =
+      ap (λ (k : Known). k.put_faults) known in
+      let faults : z.turn.known.faults ≡ max v.turn.known.faults w.turn.known.faults =
+      ap (λ (k : Known). k.faults) known in
+      let before : z.turn.known.opening.faults ≡ u.turn.known.opening.faults =
+      ap (λ (k : Known). k.opening.faults) known ∙ ap (λ (o : Opening). o.faults) a.grows.opening in (
         omega arith,
         λ rose low all.
-            let rise : Rose z.turn.known.opening.faults (max v.turn.known.faults w.turn.known.faults) = subst (Rose z.turn.known.opening.faults) faults rose in
+            let rise : Rose z.turn.known.opening.faults (max v.turn.known.faults w.turn.known.faults) =
+            subst (Rose z.turn.known.opening.faults) faults rose in
             elim (rose_either z.turn.known.opening.faults v.turn.known.faults w.turn.known.faults rise) [
               | inl one ↦ calm_part v.turn.known a.grows.opening before a.sparing meet.earlier one (omega arith) all
-              | inr other ↦ calm_part w.turn.known b.grows.opening before b.sparing meet.other_earlier other (omega arith) all
+              | inr other ↦ calm_part w.turn.known b.grows.opening before b.sparing meet.other_earlier other
+                  (omega arith) all
             ],
       )
 
@@ -421,12 +501,14 @@ module _ (begin : Begin) (u v w : View) (ts us : List Record) (ds es : List Deed
       let cross : AllBoth (Agree begin (entries_in z)) ds es = λ i d l j e m. record {
         pairs = λ ne k n p q. not_both k n (left.used i d l k n p) (right.used j e m k n q);
         faults = λ ne p q. not_failed (left.failed i d l p) (right.failed j e m q);
-        order = λ lt turn. absurd (not_in_turn (slice_index_or ds i d) (slice_index_or es j e) (lanes i d l j e m) turn);
+        order = λ lt turn.
+            absurd (not_in_turn (slice_index_or ds i d) (slice_index_or es j e) (lanes i d l j e m) turn);
       } in
       let back : AllBoth (Agree begin (entries_in z)) es ds = λ j e m i d l. record {
         pairs = λ ne k n q p. not_both k n (left.used i d l k n p) (right.used j e m k n q);
         faults = λ ne q p. not_failed (left.failed i d l p) (right.failed j e m q);
-        order = λ lt turn. absurd (not_in_turn_back (slice_index_or ds i d) (slice_index_or es j e) (lanes i d l j e m) turn);
+        order = λ lt turn.
+            absurd (not_in_turn_back (slice_index_or ds i d) (slice_index_or es j e) (lanes i d l j e m) turn);
       } in
       record {
         gains = both_gains a.gains b.gains;
@@ -436,8 +518,10 @@ module _ (begin : Begin) (u v w : View) (ts us : List Record) (ds es : List Deed
         works = merge_works begin u z a.gains b.gains ts us works_left works_right;
         answers = merge_answers begin u z a.gains b.gains ds es left right cross back;
         unmade = merge_unmade begin u z a.gains b.gains ts us ds es works_left works_right
-            (widen_unmade begin u (keeping u) v z from_left grows_left a.gains ts ds (λ x h. (a.works.made x h).1) a.unmade)
-            (widen_unmade begin u (starting u) w z from_right grows_right b.gains us es (λ x h. (b.works.made x h).1) b.unmade);
+            (widen_unmade begin u (keeping u) v z from_left grows_left a.gains ts ds (λ x h. (a.works.made x h).1)
+            a.unmade)
+            (widen_unmade begin u (starting u) w z from_right grows_right b.gains us es (λ x h. (b.works.made x h).1)
+            b.unmade);
       }
 
   pub beside_gains : does_beside.gains ≡ both_gains a.gains b.gains

@@ -1,5 +1,7 @@
 -- What stays so of the lines of a log while it grows.
-use Rattle.std.proofs.Common.{◌≡◌, ℕ, zero, suc, ◌+◌, ◌<◌, ◌≤◌, List, [], ◌∷◌, ◌++◌, length, take, Option, Bool, IsTrue, true, false, refl, sym, ◌∙◌, ap, inl, inr, arith, eq-eqb, eqb, ◌≢◌, subst, if◌then◌else◌, ◌&&◌, ◌||◌}
+use Rattle.std.proofs.Common.{◌≡◌, ℕ, zero, suc, ◌+◌, ◌<◌, ◌≤◌, List, [], ◌∷◌, ◌++◌, length, take, Option, Bool, IsTrue}
+use Rattle.std.proofs.Common.{true, false, refl, sym, ◌∙◌, ap, inl, inr, arith, eq-eqb, eqb, ◌≢◌, subst, if◌then◌else◌}
+use Rattle.std.proofs.Common.{◌&&◌, ◌||◌}
 use Rattle.std.specs.List.{slice_get, Contains}
 use Rattle.std.proofs.lemmas.List.{take-append-le}
 use Rattle.std.proofs.lemmas.Bool.{cases_lt, cases_eq}
@@ -56,7 +58,8 @@ pub indexed_both : (i : ℕ) (a b : List Record) → indexed i (a ++ b) ≡ inde
 indexed_both i [] b = omega arith
 indexed_both i (t ∷ a) b = let h = indexed_both i a b in omega arith
 
-pub count_at_both : (test : Option Logged → Bool) (log : List Logged) (a b : List ℕ) → count_at test log (a ++ b) ≡ count_at test log a + count_at test log b
+pub count_at_both : (test : Option Logged → Bool) (log : List Logged) (a b : List ℕ)
+    → count_at test log (a ++ b) ≡ count_at test log a + count_at test log b
 count_at_both test log [] b = omega arith
 count_at_both test log (p ∷ a) b = let h = count_at_both test log a b in omega arith
 
@@ -71,7 +74,8 @@ pub stands_tail : (p x : ℕ) (places : List ℕ) → 0 < stands x places → 0 
 stands_tail p x places h = omega arith
 
 pub more_stands : (p x : ℕ) (places : List ℕ) → eqb p x ≡ false → 0 < stands x (p ∷ places) → 0 < stands x places
-more_stands p x places f h = let k : 0 < (if false then 1 else 0) + stands x places = subst (λ (b : Bool). 0 < (if b then 1 else 0) + stands x places) f h in omega arith
+more_stands p x places f h = let k : 0 < (if false then 1 else 0) + stands x places =
+    subst (λ (b : Bool). 0 < (if b then 1 else 0) + stands x places) f h in omega arith
 
 -- a place that is among others is one of those that the test takes
 pub count_one : (test : Option Logged → Bool) (log : List Logged) (x : ℕ) (places : List ℕ) → 0 < stands x places
@@ -84,7 +88,8 @@ count_one test log x (p ∷ places) a s = elim (cases_eq p x) [
       let h = count_one test log x places a' s in omega arith
 ]
 
-pub count_two : (test : Option Logged → Bool) (log : List Logged) (x y : ℕ) (places : List ℕ) → x ≢ y → 0 < stands x places → 0 < stands y places
+pub count_two : (test : Option Logged → Bool) (log : List Logged) (x y : ℕ) (places : List ℕ) → x ≢ y
+    → 0 < stands x places → 0 < stands y places
     → test (slice_get log x) ≡ true → test (slice_get log y) ≡ true → 2 ≤ count_at test log places
 count_two test log x y [] apart a b s t = absurd (omega arith)
 count_two test log x y (p ∷ places) apart a b s t = elim (cases_eq p x) [
@@ -99,7 +104,8 @@ count_two test log x y (p ∷ places) apart a b s t = elim (cases_eq p x) [
       elim (cases_eq p y) [
         | inl is ↦
             let h = count_one test log x places a' s in
-            let t' : test (slice_get log p) ≡ true = ap (λ (z : ℕ). test (slice_get log z)) is ∙ t in rw t' (omega arith)
+            let t' : test (slice_get log p) ≡ true = ap (λ (z : ℕ). test (slice_get log z)) is ∙ t in
+            rw t' (omega arith)
         | inr off' ↦
             let g : eqb p y ≡ false = grind (arith, nat_tests) in
             let b' : 0 < stands y places = more_stands p y places g b in
@@ -115,7 +121,8 @@ count_kept test log rest (p ∷ places) low =
     rw (get_front log rest p (low p (stands_head p places)), h) refl
 
 -- an entry stays legal where more is known to be near, and among more records
-module _ (near far : ℕ → ℕ → Type 0) (more : (k n : ℕ) → near k n → far k n) (plan : PlanLines) (start : State) (tasks others : List Record)
+module _ (near far : ℕ → ℕ → Type 0) (more : (k n : ℕ) → near k n → far k n) (plan : PlanLines) (start : State)
+    (tasks others : List Record)
     (wider : (t : Record) → Contains tasks t → Contains others t) where
   pub legal_wider : (s : State) (e : Entry) → IsLegal near plan s tasks e → IsLegal far plan s others e
   legal_wider s e (inl h) = inl (record {
@@ -147,16 +154,19 @@ module _ (near far : ℕ → ℕ → Type 0) (more : (k n : ℕ) → near k n �
     entry_is = h.entry_is;
   }))
 
-  pub legal_more : (log rest : List Logged) (place : ℕ) → place < length log → IsLegalAt near plan start tasks log place → IsLegalAt far plan start others (log ++ rest) place
+  pub legal_more : (log rest : List Logged) (place : ℕ) → place < length log → IsLegalAt near plan start tasks log place
+      → IsLegalAt far plan start others (log ++ rest) place
   legal_more log rest place low h e there =
       let low' : place ≤ length log = omega arith in
       rw (take-append-le place log rest low')
       (legal_wider (after start (entries_of (take place log))) e (h e (sym (get_front log rest place low) ∙ there)))
 
 -- the epoch that an ordered answer tells stays
-pub told_kept : (kind : RecordKind) (c h : Bool) (p : ℕ) (es rest : List Entry) → (IsTrue (is_entered kind && c) → p ≤ length es)
+pub told_kept : (kind : RecordKind) (c h : Bool) (p : ℕ) (es rest : List Entry)
+    → (IsTrue (is_entered kind && c) → p ≤ length es)
     → IsTrue ((is_entered kind && c) || (is_protected kind && h))
-    → (if is_protected kind then p else epoch_after (take p (es ++ rest))) ≡ (if is_protected kind then p else epoch_after (take p es))
+    → (if is_protected kind then p else epoch_after (take p (es ++ rest)))
+    ≡ (if is_protected kind then p else epoch_after (take p es))
 told_kept Protect c h p es rest low ordered = refl
 told_kept Open true h p es rest low ordered = ap epoch_after (take-append-le p es rest (low ordered))
 told_kept Open false h p es rest low ordered = (let o : false ≡ true = ordered in cc)
@@ -165,7 +175,8 @@ told_kept Command false h p es rest low ordered = (let o : false ≡ true = orde
 told_kept Monitor c h p es rest low ordered = (let o : false ≡ true = ordered in cc)
 
 -- the entries before a place
-pub entries_low : (log : List Logged) (p q : ℕ) → p ≤ q → length (entries_of (take p log)) ≤ length (entries_of (take q log))
+pub entries_low : (log : List Logged) (p q : ℕ) → p ≤ q → length (entries_of (take p log))
+    ≤ length (entries_of (take q log))
 entries_low [] zero zero h = omega arith
 entries_low [] zero (suc q) h = omega arith
 entries_low [] (suc p) zero h = absurd (omega arith)
@@ -185,7 +196,8 @@ last_once log p q a b = elim (cases_lt p q) [
 ]
 
 -- once no entry comes any more
-pub last_kept : (log rest : List Logged) (p : ℕ) → p < length log → length (entries_of (log ++ rest)) ≡ length (entries_of log) → IsLastAt log p → IsLastAt (log ++ rest) p
+pub last_kept : (log rest : List Logged) (p : ℕ) → p < length log
+    → length (entries_of (log ++ rest)) ≡ length (entries_of log) → IsLastAt log p → IsLastAt (log ++ rest) p
 last_kept log rest p low same h =
     let low' : p ≤ length log = omega arith in
     let low'' : p + 1 ≤ length log = omega arith in

@@ -1,5 +1,6 @@
 -- A Monitor record, for which a worker does nothing but look into the book: for `looking_reports`.
-use Rattle.std.proofs.Common.{◌≡◌, ◌≢◌, ◌⊎◌, ℕ, zero, ◌+◌, ◌<◌, ◌≤◌, nat_le, ◌&&◌, Bool, true, false, IsTrue, List, [], ◌∷◌, length, Ok, Err, inl, inr, refl, sym, ap, ◌∙◌, subst, arith, append-nil, eq-eqb}
+use Rattle.std.proofs.Common.{◌≡◌, ◌≢◌, ◌⊎◌, ℕ, zero, ◌+◌, ◌<◌, ◌≤◌, nat_le, ◌&&◌, Bool, true, false, IsTrue, List, []}
+use Rattle.std.proofs.Common.{◌∷◌, length, Ok, Err, inl, inr, refl, sym, ap, ◌∙◌, subst, arith, append-nil, eq-eqb}
 use Rattle.std.specs.Prelude.{if◌then◌else◌, Result}
 use Rattle.std.specs.List.{All}
 use Rattle.std.proofs.lemmas.Bool.Decides.{nat_tests}
@@ -41,13 +42,17 @@ record IsReportCode (code : ℕ) : Type 0 where
   some : 4 < code
   none_failed : code ≢ 0x31
 
-said_code : (answer : Answer) (said : Result (List ℕ) ℕ) → told_by answer ≡ monitored_told said → IsReportCode answer.code
-said_code answer (Ok reply) told = let c = ap (λ (t : Told). t.code) told in record { some = omega arith; none_failed = λ e. omega arith }
-said_code answer (Err offset) told = let c = ap (λ (t : Told). t.code) told in record { some = omega arith; none_failed = λ e. omega arith }
+said_code : (answer : Answer) (said : Result (List ℕ) ℕ) → told_by answer ≡ monitored_told said
+    → IsReportCode answer.code
+said_code answer (Ok reply) told = let c = ap (λ (t : Told). t.code) told in
+    record { some = omega arith; none_failed = λ e. omega arith }
+said_code answer (Err offset) told = let c = ap (λ (t : Told). t.code) told in
+    record { some = omega arith; none_failed = λ e. omega arith }
 
 code_is : (view : View) (answer : Answer) → IsReportAt view answer → IsReportCode answer.code
 code_is view answer (inl (said, told, at)) = said_code answer said told
-code_is view answer (inr wants) = let c = ap (λ (t : Told). t.code) wants.told in record { some = omega arith; none_failed = λ e. omega arith }
+code_is view answer (inr wants) = let c = ap (λ (t : Told). t.code) wants.told in
+    record { some = omega arith; none_failed = λ e. omega arith }
 
 module _ (begin : Begin) (old new : View) (segment : ℕ) (task : Record) (answer : Answer) (kind : task.kind ≡ Monitor)
     (looked : Looked begin old new (task ∷ [])) (is : IsReportAt new answer) where
@@ -74,8 +79,11 @@ module _ (begin : Begin) (old new : View) (segment : ℕ) (task : Record) (answe
   no_entry : IsTrue (tells_entry deed) → ⊥
   no_entry e = go task.kind kind e
     where
-      go : (k : RecordKind) → k ≡ Monitor → IsTrue (is_entered k && (nat_le 1 answer.code && nat_le answer.code 0x17)) → ⊥
-      go k same e = let f : false ≡ true = subst (λ (k : RecordKind). IsTrue (is_entered k && (nat_le 1 answer.code && nat_le answer.code 0x17))) same e in cc
+      go : (k : RecordKind) → k ≡ Monitor → IsTrue (is_entered k && (nat_le 1 answer.code && nat_le answer.code 0x17))
+          → ⊥
+      go k same e = let f : false ≡ true =
+          subst (λ (k : RecordKind). IsTrue (is_entered k && (nat_le 1 answer.code && nat_le answer.code 0x17))) same
+          e in cc
 
   unused : (key number : ℕ) → Uses answer key number → ⊥
   unused key number u = go u.0
@@ -90,7 +98,8 @@ module _ (begin : Begin) (old new : View) (segment : ℕ) (task : Record) (answe
       ordered_not : task.kind ≡ Monitor → is_ordered begin deed ≡ false
       ordered_not same = rw same refl
 
-  counted : IsTrue (tells_count deed) → (length (entries_in old) ≤ answer.position) × (answer.position ≤ length (entries_in new))
+  counted : IsTrue (tells_count deed) → (length (entries_in old) ≤ answer.position)
+      × (answer.position ≤ length (entries_in new))
   counted c = by_is is
     where
       count_is : task.kind ≡ Monitor → tells_count deed ≡ (true && nat_le answer.code 6)
@@ -100,7 +109,8 @@ module _ (begin : Begin) (old new : View) (segment : ℕ) (task : Record) (answe
       test true e = refl
       test false e = (let f : false ≡ true = e in cc)
 
-      by_is : IsReportAt new answer → (length (entries_in old) ≤ answer.position) × (answer.position ≤ length (entries_in new))
+      by_is : IsReportAt new answer → (length (entries_in old) ≤ answer.position)
+          × (answer.position ≤ length (entries_in new))
       by_is (inl (said, told, at)) = let size = ap length (ap entries_of looked.log) in (omega arith, omega arith)
       by_is (inr wants) =
           let low : nat_le answer.code 6 ≡ true = test (nat_le answer.code 6) (rw (sym (count_is kind)) c) in
@@ -126,17 +136,22 @@ module _ (begin : Begin) (old new : View) (segment : ℕ) (task : Record) (answe
 
   answers : Answers begin old new gains (deed ∷ [])
   answers = record {
-    fit = one_only (λ (d : Deed). Fits (IsBetween begin old new) (course_in begin new) d.task d.answer) deed (rw kind fits);
+    fit = one_only (λ (d : Deed). Fits (IsBetween begin old new) (course_in begin new) d.task d.answer) deed
+        (rw kind fits);
     stand = one_only (StandsWithin begin old new) deed stands_within;
-    agree = one_only (λ (d : Deed). All (Agree begin (entries_in new) d) (deed ∷ [])) deed (one_only (Agree begin (entries_in new) deed) deed agrees);
+    agree = one_only (λ (d : Deed). All (Agree begin (entries_in new) d) (deed ∷ [])) deed
+        (one_only (Agree begin (entries_in new) deed) deed agrees);
     used = one_only (IsSpent begin new gains) deed (λ key number u. absurd (unused key number u));
-    failed = one_only (λ (d : Deed). d.answer.code ≡ 0x31 → MadeLast new gains) deed (λ e. absurd (is_code.none_failed e));
+    failed = one_only (λ (d : Deed). d.answer.code ≡ 0x31 → MadeLast new gains) deed
+        (λ e. absurd (is_code.none_failed e));
   }
 
   without : IsWithoutEntry new gains (task ∷ []) task.index
   without =
-      let one : indexed task.index (task ∷ []) ≡ 1 = ap (λ (b : Bool). (if b then 1 else 0) + 0) (eq-eqb task.index task.index refl) in
-      let none : count_at (is_of_record task.index) (log_of new) gains.made ≡ 0 = ap (count_at (is_of_record task.index) (log_of new)) none_made in
+      let one : indexed task.index (task ∷ []) ≡ 1 =
+      ap (λ (b : Bool). (if b then 1 else 0) + 0) (eq-eqb task.index task.index refl) in
+      let none : count_at (is_of_record task.index) (log_of new) gains.made ≡ 0 =
+      ap (count_at (is_of_record task.index) (log_of new)) none_made in
       omega arith
 
   pub handles : (layout : Layout) → Handled layout begin old new (task ∷ []) (deed ∷ [])
@@ -148,9 +163,11 @@ module _ (begin : Begin) (old new : View) (segment : ℕ) (task : Record) (answe
       sparing = looked.worked.sparing;
       works = looked.worked.works;
       answers = answers;
-      unmade = one_only (λ (d : Deed). IsUnmade d.answer.code → IsWithoutEntry new gains (task ∷ []) d.task.index) deed (λ code. without);
+      unmade = one_only (λ (d : Deed). IsUnmade d.answer.code → IsWithoutEntry new gains (task ∷ []) d.task.index) deed
+          (λ code. without);
     };
-    lined = subst (λ (made : List ℕ). Lined (TakeTurns layout) (log_of new) made (length (task ∷ []) + drawers (task ∷ [])) 0) (sym none_made)
+    lined = subst (λ (made : List ℕ). Lined (TakeTurns layout) (log_of new) made
+        (length (task ∷ []) + drawers (task ∷ [])) 0) (sym none_made)
         (record { in_order = λ x y i j a. absurd (omega arith); few_entries = omega arith; few_pieces = omega arith });
   }
 
@@ -181,17 +198,20 @@ module _ (begin : Begin) (old new : View) (segment : ℕ) (task : Record) (answe
     where
       by_is : IsReportAt new answer → AloneServes begin (stood_in old) task answer [] Kept
       by_is (inl (said, told, at)) =
-          inr (subst (λ (k : RecordKind). ServesKind begin (stood_in old) k task answer [] Kept) (sym kind) (refl, refl))
+          inr (subst (λ (k : RecordKind). ServesKind begin (stood_in old) k task answer [] Kept) (sym kind)
+          (refl, refl))
       by_is (inr wants) = let code = ap (λ (t : Told). t.code) wants.told in inl (omega arith)
 
   -- the count is that of the entries that stand, and of one more where not all do
-  counts : IsLevel old → (failed : Bool) → (¬ AllStand old → IsTrue failed) → IsTrue (tells_count deed) → CountsAll failed (stood_in old) answer.position
+  counts : IsLevel old → (failed : Bool) → (¬ AllStand old → IsTrue failed) → IsTrue (tells_count deed)
+      → CountsAll failed (stood_in old) answer.position
   counts level failed tells c = by_all (nat_le (length (entries_in old)) old.turn.known.standing) refl
     where
       here : answer.position ≡ length (entries_in old)
       here = let (low, high) = counted c in let size = ap length same_entries in omega arith
 
-      by_all : (b : Bool) → nat_le (length (entries_in old)) old.turn.known.standing ≡ b → CountsAll failed (stood_in old) answer.position
+      by_all : (b : Bool) → nat_le (length (entries_in old)) old.turn.known.standing ≡ b
+          → CountsAll failed (stood_in old) answer.position
       by_all true test =
           let all : length (entries_in old) ≤ old.turn.known.standing = grind (arith, nat_tests) in
           inl (here ∙ sym (ap length (all_stood old all)))
@@ -204,14 +224,17 @@ module _ (begin : Begin) (old new : View) (segment : ℕ) (task : Record) (answe
   between : ServedBetween begin old new [] [] (deed ∷ []) (Kept ∷ []) []
   between = record {
     spent_is = ap (λ (n : Numbers). n.spent) looked.numbers ∙ sym (append-nil old.numbers.spent);
-    level = λ level. level_on old new looked.worked.grows.earlier looked.worked.grows.opening same_entries looked.worked.grows.epochs level;
+    level = λ level. level_on old new looked.worked.grows.earlier looked.worked.grows.opening same_entries
+        looked.worked.grows.epochs level;
     served = λ all level backed. (
       [],
       [],
       stood level ∙ sym (append-nil (stood_in old)),
       λ failed tells. (
         ([], [], refl, serves level, counts level failed tells, refl),
-        λ not. failed_on failed (tells (λ stands. not (all_on old new looked.worked.grows.earlier looked.worked.grows.opening same_entries stands))),
+        λ not. failed_on failed
+            (tells (λ stands.
+            not (all_on old new looked.worked.grows.earlier looked.worked.grows.opening same_entries stands))),
       ),
       (λ none. refl, inl refl),
     );
@@ -230,7 +253,8 @@ module _ (begin : Begin) (old new : View) (segment : ℕ) (task : Record) (answe
     };
     spent = [];
     between = subst (λ (moves : List Move). ServedBetween begin old new [] [] (deed ∷ []) moves [])
-        (sym (move_moves begin old new [] deed Kept told (λ place h. absurd (omega arith)) added grown (λ still. tt) tt)) between;
+        (sym (move_moves begin old new [] deed Kept told (λ place h. absurd (omega arith)) added grown (λ still. tt)
+        tt)) between;
   }
 
   pub moves_counted : MovesCounted begin old new (task ∷ []) (deed ∷ [])
@@ -238,8 +262,10 @@ module _ (begin : Begin) (old new : View) (segment : ℕ) (task : Record) (answe
     moved = record {
       moves = (task.index, Kept) ∷ [];
       few = λ index. omega arith;
-      told = one_only (TellsOne begin.start (entries_in new) ((task.index, Kept) ∷ [])) deed (Kept, (zero, omega arith, refl), told);
-      between = one_only (λ (own : ℕ × Move). LiesBetween begin.rows (words_in old) (words_in new) own.1) (task.index, Kept) tt;
+      told = one_only (TellsOne begin.start (entries_in new) ((task.index, Kept) ∷ [])) deed
+          (Kept, (zero, omega arith, refl), told);
+      between = one_only (λ (own : ℕ × Move). LiesBetween begin.rows (words_in old) (words_in new) own.1)
+          (task.index, Kept) tt;
       added = λ row. added row;
       made = [];
       made_is = looked.made ∙ sym (append-nil old.turn.made);

@@ -1,5 +1,6 @@
 -- Entries in input order, of what was done one after the other and at once.
-use Rattle.std.proofs.Common.{◌≡◌, ◌⊎◌, ℕ, zero, suc, ◌+◌, ◌<◌, ◌≤◌, List, ◌++◌, length, true, sym, ◌∙◌, ap, inl, inr, arith}
+use Rattle.std.proofs.Common.{◌≡◌, ◌⊎◌, ℕ, zero, suc, ◌+◌, ◌<◌, ◌≤◌, List, ◌++◌, length, true, sym, ◌∙◌, ap, inl, inr}
+use Rattle.std.proofs.Common.{arith}
 use Rattle.std.specs.List.{slice_get}
 use Rattle.sdls_base.specs.declared.entry.Logged.{Logged}
 use Rattle.counter_table.specs.Turn.{stands}
@@ -16,7 +17,8 @@ either (suc a) b h = inl (omega arith)
 
 module _ (in_turn : ℕ → ℕ → Type 0) where
   -- what was made stays so while the log grows
-  pub lined_on : (log rest : List Logged) (made : List ℕ) (entries pieces : ℕ) → ((x : ℕ) → 0 < stands x made → x < length log)
+  pub lined_on : (log rest : List Logged) (made : List ℕ) (entries pieces : ℕ)
+      → ((x : ℕ) → 0 < stands x made → x < length log)
       → Lined in_turn log made entries pieces → Lined in_turn (log ++ rest) made entries pieces
   lined_on log rest made entries pieces below h = record {
     in_order = λ x y i j a b is_i is_j. h.in_order x y i j a b
@@ -39,10 +41,12 @@ module _ (in_turn : ℕ → ℕ → Type 0) where
     few a b = let x = count_at_both is_piece log m n in let p = a.few_pieces in let q = b.few_pieces in omega arith
 
     few_lines : Lined in_turn log m f c → Lined in_turn log n g d → count_at is_line log (m ++ n) ≤ f + g
-    few_lines a b = let x = count_at_both is_line log m n in let p = a.few_entries in let q = b.few_entries in omega arith
+    few_lines a b = let x = count_at_both is_line log m n in let p = a.few_entries in let q = b.few_entries in
+        omega arith
 
     -- what was made one after the other: the first below this place, the second from it on
-    pub lined_then : (middle : ℕ) → ((x : ℕ) → 0 < stands x m → x < middle) → ((x : ℕ) → 0 < stands x n → middle ≤ x) → ComeBefore ts us
+    pub lined_then : (middle : ℕ) → ((x : ℕ) → 0 < stands x m → x < middle) → ((x : ℕ) → 0 < stands x n → middle ≤ x)
+        → ComeBefore ts us
         → Lined in_turn log m f c → Lined in_turn log n g d → Lined in_turn log (m ++ n) (f + g) (c + d)
     lined_then middle below above turns a b = record {
       in_order = λ x y i j in_x in_y is_i is_j lt turn.
@@ -53,7 +57,8 @@ module _ (in_turn : ℕ → ℕ → Type 0) where
               | inr yn ↦ let p = below x xm in let q = above y yn in omega arith
             ]
             | inr xn ↦ elim (either (stands y m) (stands y n) (omega arith)) [
-              | inl ym ↦ let k = turns j i (record_first y j ym is_j) (record_second x i xn is_i) in absurd (omega arith)
+              | inl ym ↦ let k = turns j i (record_first y j ym is_j) (record_second x i xn is_i) in
+                  absurd (omega arith)
               | inr yn ↦ b.in_order x y i j xn yn is_i is_j lt turn
             ]
           ];
@@ -62,7 +67,8 @@ module _ (in_turn : ℕ → ℕ → Type 0) where
     }
 
     -- what was made at once, by records of which none is handled in turn with one of the other
-    pub lined_beside : AreAside in_turn ts us → Lined in_turn log m f c → Lined in_turn log n g d → Lined in_turn log (m ++ n) (f + g) (c + d)
+    pub lined_beside : AreAside in_turn ts us → Lined in_turn log m f c → Lined in_turn log n g d
+        → Lined in_turn log (m ++ n) (f + g) (c + d)
     lined_beside aside a b = record {
       in_order = λ x y i j in_x in_y is_i is_j lt turn.
           let s = stands_both x m n in let t = stands_both y m n in

@@ -1,5 +1,6 @@
 -- A monitoring message has one answer of the log, by the answers before it: for `served_once`.
-use Rattle.std.proofs.Common.{◌≡◌, ℕ, ◌<◌, nat_le, ◌&&◌, Bool, true, false, IsTrue, List, length, Ok, Err, inl, inr, sym, ◌∙◌, ap, subst, arith}
+use Rattle.std.proofs.Common.{◌≡◌, ℕ, ◌<◌, nat_le, ◌&&◌, Bool, true, false, IsTrue, List, length, Ok, Err, inl, inr}
+use Rattle.std.proofs.Common.{sym, ◌∙◌, ap, subst, arith}
 use Rattle.std.proofs.lemmas.Bool.Decides.{nat_tests}
 use Rattle.sdls_base.specs.declared.entry.Entry.{Entry}
 use Rattle.record_io.specs.declared.kinds.RecordKind.{RecordKind}
@@ -25,8 +26,10 @@ same_noted d e task answer =
     ap (λ (t : Record). let n : Noted = record { index = t.index; kind = t.kind; answer = d.answer } in n) task
     ∙ ap (λ (a : Answer). let n : Noted = record { index = e.task.index; kind = e.task.kind; answer = a } in n) answer
 
-module _ (one_message : (one other : Monitoring) (octets : List ℕ) → IsMonitoring one octets → IsMonitoring other octets → one ≡ other) where
-  said_once : (report : Report) (octets : List ℕ) (a b : Result (List ℕ) ℕ) → Answers report octets a → Answers report octets b
+module _ (one_message : (one other : Monitoring) (octets : List ℕ) → IsMonitoring one octets → IsMonitoring other octets
+    → one ≡ other) where
+  said_once : (report : Report) (octets : List ℕ) (a b : Result (List ℕ) ℕ) → Answers report octets a
+      → Answers report octets b
       → monitored_told a ≡ monitored_told b
   said_once report octets (Ok a) (Ok b) x y =
       let same : x.asked ≡ y.asked = one_message x.asked y.asked octets x.is_message y.is_message in
@@ -39,15 +42,19 @@ module _ (one_message : (one other : Monitoring) (octets : List ℕ) → IsMonit
   said_once report octets (Err m) (Err n) x y =
       ap (λ (o : ℕ). monitored_told (Err o)) (same_Some m n (sym x ∙ y))
 
-  pub report_once : (before : List Noted) (d e : Deed) → d.task ≡ e.task → d.answer.code < SITE_FAULT → e.answer.code < SITE_FAULT
+  pub report_once : (before : List Noted) (d e : Deed) → d.task ≡ e.task → d.answer.code < SITE_FAULT
+      → e.answer.code < SITE_FAULT
       → IsReported before d → IsReported before e → told_by d.answer ≡ told_by e.answer
   report_once before d e same low less (inl wants) y = let c = ap (λ (t : Told). t.code) wants in absurd (omega arith)
-  report_once before d e same low less (inr x) (inl wants) = let c = ap (λ (t : Told). t.code) wants in absurd (omega arith)
+  report_once before d e same low less (inr x) (inl wants) = let c = ap (λ (t : Told). t.code) wants in
+      absurd (omega arith)
   report_once before d e same low less (inr (a, x, told)) (inr (b, y, tells)) =
-      told ∙ said_once (report_of before) d.task.octets a b x (subst (λ (t : Record). Answers (report_of before) t.octets b) (sym same) y) ∙ sym tells
+      told ∙ said_once (report_of before) d.task.octets a b x
+      (subst (λ (t : Record). Answers (report_of before) t.octets b) (sym same) y) ∙ sym tells
 
 -- the answer of the log to a monitoring message tells a count, if memory did not run out
-pub told_count : (before : List Noted) (d : Deed) → d.task.kind ≡ Monitor → d.answer.code < SITE_FAULT → IsReported before d → IsTrue (tells_count d)
+pub told_count : (before : List Noted) (d : Deed) → d.task.kind ≡ Monitor → d.answer.code < SITE_FAULT
+    → IsReported before d → IsTrue (tells_count d)
 told_count before d kind low (inl wants) = let c = ap (λ (t : Told). t.code) wants in absurd (omega arith)
 told_count before d kind low (inr (said, x, told)) = by_kind d.task.kind kind (nat_le d.answer.code 6) (few said told)
   where

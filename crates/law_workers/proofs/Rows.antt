@@ -1,5 +1,6 @@
 -- The rows of keys: a row is of one key, and its mark is that key's.
-use Rattle.std.proofs.Common.{◌≡◌, ℕ, zero, suc, ◌<◌, ◌≤◌, nat_eq, List, [], ◌∷◌, length, map, get_or, Some, None, Option, Bool, refl, sym, ◌∙◌, ap, subst, inl, inr, arith}
+use Rattle.std.proofs.Common.{◌≡◌, ℕ, zero, suc, ◌<◌, ◌≤◌, nat_eq, List, [], ◌∷◌, length, map, get_or, Some, None}
+use Rattle.std.proofs.Common.{Option, Bool, refl, sym, ◌∙◌, ap, subst, inl, inr, arith}
 use Rattle.std.specs.List.{position_or_len, slice_get, slice_index_or}
 use Rattle.std.specs.Option.{option_map_or}
 use Rattle.std.proofs.lemmas.Bool.{cases_lt}
@@ -27,7 +28,8 @@ is_key : ℕ → KeyRow → Bool
 is_key key row = nat_eq row.id key
 
 -- a row has its key
-pub row_named : (keys : List KeyRow) (key row : ℕ) (d : KeyRow) → place_of keys key ≡ Some row → (row < length keys) × ((get_or keys row d).id ≡ key)
+pub row_named : (keys : List KeyRow) (key row : ℕ) (d : KeyRow) → place_of keys key ≡ Some row
+    → (row < length keys) × ((get_or keys row d).id ≡ key)
 row_named keys key row d place =
     let at = position-Some (λ (held : KeyRow). nat_eq held.id key) keys row d place in
     (at.0, same_number (get_or keys row d).id key at.1)
@@ -35,48 +37,99 @@ row_named keys key row d place =
 -- and is of one key
 pub row_one : (keys : List KeyRow) (a b row : ℕ) → place_of keys a ≡ Some row → place_of keys b ≡ Some row → a ≡ b
 row_one keys a b row p q =
-    let x = row_named keys a row (record { id = 0; state = PreActive; bytes = []; digest = []; mark = 0; floor = 0 }) p in
-    let y = row_named keys b row (record { id = 0; state = PreActive; bytes = []; digest = []; mark = 0; floor = 0 }) q in
+    let x = row_named keys a row (record { id = 0; state = PreActive; bytes = []; digest = []; mark = 0; floor = 0 })
+    p in
+    let y = row_named keys b row (record { id = 0; state = PreActive; bytes = []; digest = []; mark = 0; floor = 0 })
+    q in
     sym x.1 ∙ y.1
 
 -- the key of a row has that place
-pub row_placed : (keys : List KeyRow) (row : ℕ) (d : KeyRow) → AreKeyRows keys → row < length keys → place_of keys (get_or keys row d).id ≡ Some row
+pub row_placed : (keys : List KeyRow) (row : ℕ) (d : KeyRow) → AreKeyRows keys → row < length keys
+    → place_of keys (get_or keys row d).id ≡ Some row
 row_placed keys row d rules low =
     let p : KeyRow → Bool = λ held. nat_eq held.id (get_or keys row d).id in
     let at : position_or_len (λ (held : KeyRow). nat_eq held.id (get_or keys row d).id) keys ≡ row =
     position_or_len_is (λ (held : KeyRow). nat_eq held.id (get_or keys row d).id) keys row d (omega arith)
-    (λ k less. let off = other_identifier keys row k d rules low (omega arith) (λ e. omega arith) in grind (arith, nat_tests))
+    (λ k less. let off = other_identifier keys row k d rules low (omega arith) (λ e. omega arith) in
+    grind (arith, nat_tests))
     (λ _. grind (arith, nat_tests)) in
     grind (arith, nat_tests)
 
-place_is : (keys : List KeyRow) (key row : ℕ) → place_of keys key ≡ Some row → position_or_len (λ (held : KeyRow). nat_eq held.id key) keys ≡ row
+place_is : (keys : List KeyRow) (key row : ℕ) → place_of keys key ≡ Some row
+    → position_or_len (λ (held : KeyRow). nat_eq held.id key) keys ≡ row
 place_is keys key row place = grind (arith, nat_tests)
 
 -- the mark at the place of a key is the key's
-pub mark_placed : (state : State) (key row : ℕ) → place_of state.keys key ≡ Some row → mark_at state row ≡ mark_of state key
+pub mark_placed : (state : State) (key row : ℕ) → place_of state.keys key ≡ Some row
+    → mark_at state row ≡ mark_of state key
 mark_placed state key row place =
     let d : KeyRow = record { id = 0; state = PreActive; bytes = []; digest = []; mark = 0; floor = 0 } in
-    let named = row_named state.keys key row (record { id = 0; state = PreActive; bytes = []; digest = []; mark = 0; floor = 0 }) place in
-    let found : row_of state.keys key ≡ Some (get_or state.keys row (record { id = 0; state = PreActive; bytes = []; digest = []; mark = 0; floor = 0 })) =
-    find_at (λ (held : KeyRow). nat_eq held.id key) state.keys ∙ (ap (slice_get state.keys) (place_is state.keys key row place)
-    ∙ slice_get-get_or state.keys row (record { id = 0; state = PreActive; bytes = []; digest = []; mark = 0; floor = 0 }) named.0) in
-    get_or-map (λ (held : KeyRow). held.mark) state.keys row (record { id = 0; state = PreActive; bytes = []; digest = []; mark = 0; floor = 0 }) 1 named.0
+    let named =
+    row_named state.keys key row (record {
+      id = 0;
+      state = PreActive;
+      bytes = [];
+      digest = [];
+      mark = 0;
+      floor = 0;
+    }) place in
+    let found : row_of state.keys key
+    ≡ Some (get_or state.keys row (record {
+      id = 0;
+      state = PreActive;
+      bytes = [];
+      digest = [];
+      mark = 0;
+      floor = 0;
+    })) =
+    find_at (λ (held : KeyRow). nat_eq held.id key) state.keys
+    ∙ (ap (slice_get state.keys) (place_is state.keys key row place)
+    ∙ slice_get-get_or state.keys row (record {
+      id = 0;
+      state = PreActive;
+      bytes = [];
+      digest = [];
+      mark = 0;
+      floor = 0;
+    }) named.0) in
+    get_or-map (λ (held : KeyRow). held.mark) state.keys row
+    (record { id = 0; state = PreActive; bytes = []; digest = []; mark = 0; floor = 0 }) 1 named.0
     ∙ sym (ap (λ (o : Option KeyRow). option_map_or (λ (held : KeyRow). held.mark) o 1) found)
 
--- A key that a later state has at a row has there, at the start, its own mark; where the start lacks the key, no other key has
+-- A key that a later state has at a row has there, at the start, its own mark; where the start lacks the key, no other
+-- key has
 -- the row, and its mark is 1.
-pub mark_known : (start : State) (entries : List Entry) (key row : ℕ) → KeepsRules start → place_of (after start entries).keys key ≡ Some row
+pub mark_known : (start : State) (entries : List Entry) (key row : ℕ) → KeepsRules start
+    → place_of (after start entries).keys key ≡ Some row
     → mark_at start row ≡ mark_of start key
 mark_known start entries key row rules place = elim (cases_lt row (length start.keys)) [
   | inl low ↦
       let d : KeyRow = record { id = 0; state = PreActive; bytes = []; digest = []; mark = 0; floor = 0 } in
-      let own : place_of start.keys (get_or start.keys row (record { id = 0; state = PreActive; bytes = []; digest = []; mark = 0; floor = 0 })).id ≡ Some row =
-      row_placed start.keys row (record { id = 0; state = PreActive; bytes = []; digest = []; mark = 0; floor = 0 }) rules.keys.rules low in
-      let same : (get_or start.keys row (record { id = 0; state = PreActive; bytes = []; digest = []; mark = 0; floor = 0 })).id ≡ key =
+      let own : place_of start.keys
+      (get_or start.keys row (record {
+        id = 0;
+        state = PreActive;
+        bytes = [];
+        digest = [];
+        mark = 0;
+        floor = 0;
+      })).id ≡ Some row =
+      row_placed start.keys row (record { id = 0; state = PreActive; bytes = []; digest = []; mark = 0; floor = 0 })
+      rules.keys.rules low in
+      let same : (get_or start.keys row (record {
+        id = 0;
+        state = PreActive;
+        bytes = [];
+        digest = [];
+        mark = 0;
+        floor = 0;
+      })).id ≡ key =
       row_one (after start entries).keys _ key row (row_kept start entries _ row own) place in
       mark_placed start key row (subst (λ (id : ℕ). place_of start.keys id ≡ Some row) same own)
   | inr high ↦
-      let here : mark_at start row ≡ 1 = past (map (λ (held : KeyRow). held.mark) start.keys) row (let n = length-map start.keys (λ (held : KeyRow). held.mark) in omega arith) in
+      let here : mark_at start row ≡ 1 =
+      past (map (λ (held : KeyRow). held.mark) start.keys) row (let n =
+      length-map start.keys (λ (held : KeyRow). held.mark) in omega arith) in
       here ∙ sym (lacking high (position_or_len (λ (held : KeyRow). nat_eq held.id key) start.keys) refl)
 ]
   where
@@ -85,7 +138,8 @@ mark_known start entries key row rules place = elim (cases_lt row (length start.
     past (x ∷ xs) zero h = absurd (omega arith)
     past (x ∷ xs) (suc i) h = past xs i (omega arith)
 
-    lacking : length start.keys ≤ row → (n : ℕ) → position_or_len (λ (held : KeyRow). nat_eq held.id key) start.keys ≡ n → mark_of start key ≡ 1
+    lacking : length start.keys ≤ row → (n : ℕ) → position_or_len (λ (held : KeyRow). nat_eq held.id key) start.keys ≡ n
+        → mark_of start key ≡ 1
     lacking high n is = elim (cases_lt n (length start.keys)) [
       | inl low ↦
           let at : place_of start.keys key ≡ Some n = grind (arith, nat_tests) in
@@ -93,6 +147,7 @@ mark_known start entries key row rules place = elim (cases_lt row (length start.
           absurd (let m : n ≡ row = (let t = there in cc) in omega arith)
       | inr out ↦
           let none : row_of start.keys key ≡ None =
-          find_at (λ (held : KeyRow). nat_eq held.id key) start.keys ∙ (ap (slice_get start.keys) is ∙ slice_get_past start.keys n out) in
+          find_at (λ (held : KeyRow). nat_eq held.id key) start.keys
+          ∙ (ap (slice_get start.keys) is ∙ slice_get_past start.keys n out) in
           ap (λ (o : Option KeyRow). option_map_or (λ (held : KeyRow). held.mark) o 1) none
     ]

@@ -1,5 +1,7 @@
 -- Records that one worker served in turn: none, and some behind others.
-use Rattle.std.proofs.Common.{◌≡◌, ◌⊎◌, ℕ, zero, suc, ◌+◌, ◌-◌, ◌^◌, ◌<◌, ◌≤◌, min, Bool, IsTrue, List, [], ◌∷◌, ◌++◌, length, take, refl, sym, ◌∙◌, ap, subst, inl, inr, arith, append_assoc, append-nil, length-append}
+use Rattle.std.proofs.Common.{◌≡◌, ◌⊎◌, ℕ, zero, suc, ◌+◌, ◌-◌, ◌^◌, ◌<◌, ◌≤◌, min, Bool, IsTrue, List, [], ◌∷◌, ◌++◌}
+use Rattle.std.proofs.Common.{length, take, refl, sym, ◌∙◌, ap, subst, inl, inr, arith, append_assoc, append-nil}
+use Rattle.std.proofs.Common.{length-append}
 use Rattle.std.proofs.lemmas.Bool.{cases_lt}
 use Rattle.std.proofs.lemmas.List.{take_all}
 use Rattle.sdls_base.specs.Numbers.{times}
@@ -20,7 +22,8 @@ use Rattle.law_workers.proofs.Logs.{stands_both, times_both}
 use Rattle.law_workers.proofs.Working.{grown_entries}
 use Rattle.run_promise.specs.Words.{Move}
 use Rattle.run_promise.specs.OneLane.{ServesAll, failed_after, has_failed}
-use Rattle.law_workers.specs.InTurn.{MadeAllLines, IsClean, IsLevel, AllStand, stood_in, AreOf, IsBacked, ServedBetween, ServedInTurn}
+use Rattle.law_workers.specs.InTurn.{MadeAllLines, IsClean, IsLevel, AllStand, stood_in, AreOf, IsBacked, ServedBetween}
+use Rattle.law_workers.specs.InTurn.{ServedInTurn}
 
 either : (a b : ℕ) → 0 < a + b → (0 < a) ⊎ (0 < b)
 either zero b h = inr (omega arith)
@@ -35,7 +38,8 @@ log_low v w grows =
 risen_on : (before now later : ℕ) → now ≤ later → Rose before now → Rose before later
 risen_on before now later low rose = omega arith
 
-pub clean_on : (v w : View) → Earlier v.turn.known w.turn.known → w.turn.known.opening ≡ v.turn.known.opening → IsClean w → IsClean v
+pub clean_on : (v w : View) → Earlier v.turn.known w.turn.known → w.turn.known.opening ≡ v.turn.known.opening
+    → IsClean w → IsClean v
 clean_on v w earlier opening clean risen =
     clean (subst (λ (o : Opening). Rose o.faults w.turn.known.faults) (sym opening)
     (risen_on v.turn.known.opening.faults v.turn.known.faults w.turn.known.faults earlier.faults risen))
@@ -53,7 +57,8 @@ rose_or_not before now = elim (cases_lt now (min (before + 1) (2 ^ 64 - 1))) [
 
 -- of the entries of a view those stand that stood: no fewer, and no more once the site had failed
 pub stood_is : (v : View) (n : ℕ) → IsLevel v → v.turn.known.standing ≤ n
-    → (Rose v.turn.known.opening.faults v.turn.known.faults → n ≡ v.turn.known.standing) → take n (entries_in v) ≡ stood_in v
+    → (Rose v.turn.known.opening.faults v.turn.known.faults → n ≡ v.turn.known.standing)
+    → take n (entries_in v) ≡ stood_in v
 stood_is v n level low risen = elim (rose_or_not v.turn.known.opening.faults v.turn.known.faults) [
   | inl rose ↦ ap (λ (k : ℕ). take k (entries_in v)) (risen rose)
   | inr clean ↦
@@ -65,7 +70,8 @@ pub all_stood : (v : View) → AllStand v → stood_in v ≡ entries_in v
 all_stood v all = take_all v.turn.known.standing (entries_in v) all
 
 -- they stay so while no entry is made
-module _ (v w : View) (earlier : Earlier v.turn.known w.turn.known) (opening : w.turn.known.opening ≡ v.turn.known.opening)
+module _ (v w : View) (earlier : Earlier v.turn.known w.turn.known)
+    (opening : w.turn.known.opening ≡ v.turn.known.opening)
     (same : entries_in w ≡ entries_in v) where
   pub stood_on : IsLevel v → stood_in w ≡ stood_in v
   stood_on level = ap (take w.turn.known.standing) same
@@ -88,39 +94,54 @@ front_more {X} [] ys zero n low = (take n ys, refl)
 front_more {X} [] ys (suc m) n low = (take n ys, refl)
 front_more {X} (x ∷ xs) ys zero n low = (take n (x ∷ (xs ++ ys)), refl)
 front_more {X} (x ∷ xs) ys (suc m) zero low = absurd (omega arith)
-front_more {X} (x ∷ xs) ys (suc m) (suc n) low = let (own, is) = front_more xs ys m n (omega arith) in (own, ap (λ (l : List X). x ∷ l) is)
+front_more {X} (x ∷ xs) ys (suc m) (suc n) low = let (own, is) = front_more xs ys m n (omega arith) in
+    (own, ap (λ (l : List X). x ∷ l) is)
 
-pub stood_more : (v w : View) → v.turn.known.standing ≤ w.turn.known.standing → (more : List Entry) → entries_in w ≡ entries_in v ++ more
+pub stood_more : (v w : View) → v.turn.known.standing ≤ w.turn.known.standing → (more : List Entry)
+    → entries_in w ≡ entries_in v ++ more
     → (own : List Entry) × (stood_in w ≡ stood_in v ++ own)
 stood_more v w low more is =
     let (own, same) = front_more (entries_in v) more v.turn.known.standing w.turn.known.standing low in
     (own, ap (take w.turn.known.standing) is ∙ same)
 
-pub row_on : (begin : Begin) (v w : View) → KnowsMore v w → (key row : ℕ) → IsRow begin v key row → IsRow begin w key row
+pub row_on : (begin : Begin) (v w : View) → KnowsMore v w → (key row : ℕ) → IsRow begin v key row
+    → IsRow begin w key row
 row_on begin v w grows key row h =
     let (rest, is) = grown_entries v w grows in
     rw (is, after_more begin.start (entries_in v) rest) (row_kept (after begin.start (entries_in v)) rest key row h)
 
 -- of the places behind a log, those before a later one were made by who made those before it
-pub made_first : (u v w : View) (m n : List ℕ) → KnowsMore v w → ((place : ℕ) → 0 < stands place n → length (log_of v) ≤ place) → MadeAllLines u w (m ++ n)
+pub made_first : (u v w : View) (m n : List ℕ) → KnowsMore v w
+    → ((place : ℕ) → 0 < stands place n → length (log_of v) ≤ place) → MadeAllLines u w (m ++ n)
     → MadeAllLines u v m
 made_first u v w m n grows above all place low high =
     let h = all place low (let l = log_low v w grows in omega arith) in
     let s = stands_both place m n in
-    elim (either (stands place m) (stands place n) (omega arith)) [ inl here ↦ here | inr there ↦ absurd (let a = above place there in omega arith) ]
+    elim (either (stands place m) (stands place n) (omega arith)) [
+      | inl here ↦ here
+      | inr there ↦
+          absurd (let a = above place there in omega arith)
+    ]
 
-pub made_rest : (u v w : View) (m n : List ℕ) → KnowsMore u v → ((place : ℕ) → 0 < stands place m → place < length (log_of v)) → MadeAllLines u w (m ++ n)
+pub made_rest : (u v w : View) (m n : List ℕ) → KnowsMore u v
+    → ((place : ℕ) → 0 < stands place m → place < length (log_of v)) → MadeAllLines u w (m ++ n)
     → MadeAllLines v w n
 made_rest u v w m n grows below all place low high =
     let h = all place (let l = log_low u v grows in omega arith) high in
     let s = stands_both place m n in
-    elim (either (stands place m) (stands place n) (omega arith)) [ inl here ↦ absurd (let b = below place here in omega arith) | inr there ↦ there ]
+    elim (either (stands place m) (stands place n) (omega arith)) [
+      | inl here ↦
+          absurd (let b = below place here in omega arith)
+      | inr there ↦ there
+    ]
 
-pub failed_both : (failed : Bool) (ds es : List Deed) → failed_after failed (ds ++ es) ≡ failed_after (failed_after failed ds) es
+pub failed_both : (failed : Bool) (ds es : List Deed) → failed_after failed (ds ++ es)
+    ≡ failed_after (failed_after failed ds) es
 failed_both failed [] es = refl
 failed_both failed (d ∷ ds) es = failed_both (has_failed failed d.answer) ds es
 
-pub serves_both : (begin : Begin) (failed : Bool) (history : List Entry) (ds es : List Deed) (a b : List Move) (own more : List Entry)
+pub serves_both : (begin : Begin) (failed : Bool) (history : List Entry) (ds es : List Deed) (a b : List Move)
+    (own more : List Entry)
     → ServesAll begin failed history ds a own → ServesAll begin (failed_after failed ds) (history ++ own) es b more
     → ServesAll begin failed history (ds ++ es) (a ++ b) (own ++ more)
 serves_both begin failed history [] es [] b own more h k =
@@ -136,7 +157,8 @@ serves_both begin failed history (d ∷ ds) es (m ∷ a) b own more (first, rest
   one,
   counts,
   serves_both begin (has_failed failed d.answer) (history ++ first) ds es a b rest more all
-      (subst (λ (l : List Entry). ServesAll begin (failed_after failed (d ∷ ds)) l es b more) (ap (λ (l : List Entry). history ++ l) is ∙ sym (append_assoc history first rest)) k),
+      (subst (λ (l : List Entry). ServesAll begin (failed_after failed (d ∷ ds)) l es b more)
+      (ap (λ (l : List Entry). history ++ l) is ∙ sym (append_assoc history first rest)) k),
 )
 
 -- what is backed of a list that has more
@@ -153,17 +175,22 @@ pub of_back : (s t : List (ℕ × ℕ)) → AreOf t (s ++ t)
 of_back s t row number in' = let b = times_both row number s t in omega arith
 
 -- what is backed where the same entries stand, of a view that saw no less
-pub backed_on : (begin : Begin) (v w : View) (numbers : List (ℕ × ℕ)) → ((key row : ℕ) → IsRow begin v key row → IsRow begin w key row)
-    → stood_in w ≡ stood_in v → epoch_seen v.turn ≤ epoch_seen w.turn → IsBacked begin w numbers → IsBacked begin v numbers
+pub backed_on : (begin : Begin) (v w : View) (numbers : List (ℕ × ℕ))
+    → ((key row : ℕ) → IsRow begin v key row → IsRow begin w key row)
+    → stood_in w ≡ stood_in v → epoch_seen v.turn ≤ epoch_seen w.turn → IsBacked begin w numbers
+    → IsBacked begin v numbers
 backed_on begin v w numbers rows same epochs h = record {
   marks = λ key row number low is in'.
-      subst (λ (l : List Entry). number < mark_of (after begin.start l) key) same (h.marks key row number low (rows key row is) in');
+      subst (λ (l : List Entry). number < mark_of (after begin.start l) key) same
+      (h.marks key row number low (rows key row is) in');
   epoch = let counted = ap epoch_after same in let low = h.epoch in omega arith;
 }
 
 -- some behind others
-pub between_then : (begin : Begin) (u v w : View) (m n : List ℕ) (s t : List (ℕ × ℕ)) (ds es : List Deed) (a b last : List Move) → KnowsMore u v → KnowsMore v w
-    → ((place : ℕ) → 0 < stands place m → place < length (log_of v)) → ((place : ℕ) → 0 < stands place n → length (log_of v) ≤ place)
+pub between_then : (begin : Begin) (u v w : View) (m n : List ℕ) (s t : List (ℕ × ℕ)) (ds es : List Deed)
+    (a b last : List Move) → KnowsMore u v → KnowsMore v w
+    → ((place : ℕ) → 0 < stands place m → place < length (log_of v))
+    → ((place : ℕ) → 0 < stands place n → length (log_of v) ≤ place)
     → ServedBetween begin u v m s ds a [] → ServedBetween begin v w n t es b last
     → (MadeAllLines v w n → IsLevel v → IsBacked begin w (s ++ t) → IsBacked begin v s)
     → ServedBetween begin u w (m ++ n) (s ++ t) (ds ++ es) (a ++ b) last
@@ -172,10 +199,13 @@ between_then begin u v w m n s t ds es a b last low high below above x y back = 
   level = λ level. y.level (x.level level);
   served = λ all level backed.
       let all_rest = made_rest u v w m n low below all in
-      let (own, none, all_is, one, left) = x.served (made_first u v w m n high above all) level (back all_rest (x.level level) backed) in
+      let (own, none, all_is, one, left) =
+      x.served (made_first u v w m n high above all) level (back all_rest (x.level level) backed) in
       let own_is : stood_in v ≡ stood_in u ++ own =
-      all_is ∙ ap (λ (l : List Entry). stood_in u ++ (own ++ l)) (left.0 refl) ∙ ap (λ (l : List Entry). stood_in u ++ l) (append-nil own) in
-      let (more, rest, more_is, two, behind) = y.served all_rest (x.level level) (backed_of begin w t (s ++ t) (of_back s t) backed) in (
+      all_is ∙ ap (λ (l : List Entry). stood_in u ++ (own ++ l)) (left.0 refl)
+      ∙ ap (λ (l : List Entry). stood_in u ++ l) (append-nil own) in
+      let (more, rest, more_is, two, behind) =
+      y.served all_rest (x.level level) (backed_of begin w t (s ++ t) (of_back s t) backed) in (
         own ++ more,
         rest,
         more_is ∙ (ap (λ (l : List Entry). l ++ (more ++ rest)) own_is ∙ append_assoc (stood_in u) own (more ++ rest))
@@ -191,7 +221,8 @@ between_then begin u v w m n s t ds es a b last low high below above x y back = 
       );
 }
 
-pub in_turn_then : (begin : Begin) (u v w : View) (m n : List ℕ) (s t : List (ℕ × ℕ)) (ds es : List Deed) (a b last : List Move) → KnowsMore u v → KnowsMore v w
+pub in_turn_then : (begin : Begin) (u v w : View) (m n : List ℕ) (s t : List (ℕ × ℕ)) (ds es : List Deed)
+    (a b last : List Move) → KnowsMore u v → KnowsMore v w
     → ((place : ℕ) → 0 < stands place m → place < length (log_of v))
     → ServedInTurn begin u v m s ds a [] → ServedInTurn begin v w n t es b last
     → ServedInTurn begin u w (m ++ n) (s ++ t) (ds ++ es) (a ++ b) last
@@ -204,7 +235,8 @@ in_turn_then begin u v w m n s t ds es a b last low high below x y = record {
       ];
   backed = λ all level numbers of h.
       x.backed (made_first u v w m n high y.above all) level numbers of
-      (y.backed (made_rest u v w m n low below all) (x.between.level level) numbers (λ row number in'. in_both row number (of row number in')) h);
+      (y.backed (made_rest u v w m n low below all) (x.between.level level) numbers
+      (λ row number in'. in_both row number (of row number in')) h);
   between = between_then begin u v w m n s t ds es a b last low high below y.above x.between y.between
       (λ all level h. y.backed all level s in_rest (backed_of begin w s (s ++ t) (of_front s t) h));
 } where
@@ -226,6 +258,12 @@ in_turn_nothing begin v = record {
   between = record {
     spent_is = sym (append-nil v.numbers.spent);
     level = λ level. level;
-    served = λ all level backed. ([], [], sym (append-nil (stood_in v)), λ failed tells. (refl, tells), (λ none. refl, inl refl));
+    served = λ all level backed. (
+      [],
+      [],
+      sym (append-nil (stood_in v)),
+      λ failed tells. (refl, tells),
+      (λ none. refl, inl refl),
+    );
   };
 }

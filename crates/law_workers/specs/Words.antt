@@ -42,7 +42,8 @@ IsDrawnBy moves line = (entry : Entry) → line ≡ Some (lines.Entry entry) →
 
 -- From the old view to the new one a worker moved the words so, with these records, whatever others moved meanwhile: by
 -- no more moves than there are records with the number, an answered one by a move that its answer tells. Each reserve
--- that it made is of a number that it drew. Each fact stays true while the views grow apart, and none looks at the order
+-- that it made is of a number that it drew. Each fact stays true while the views grow apart, and none looks at the
+-- order
 -- of the records.
 pub record MovesWords (begin : Begin) (old new : View) (tasks : List Record) (deeds : List Deed) : Type 0 where
   pub moves : List (ℕ × Move)

@@ -1,7 +1,8 @@
 -- The deliveries of a chunk all arrive, if its frames were released: for the law `released_chunk_arrives`.
 use Rattle.std.proofs.Common.{◌≡◌, ℕ, zero, suc, ◌<◌, List, [], ◌∷◌, ◌++◌, map, refl, sym, ap, ◌∙◌, arith, append_assoc}
 use Rattle.std.specs.List.{All, Contains}
-use Rattle.std.proofs.lemmas.List.Elements.{All-append, All-cons, All-head, All-nil, All-tail, All-weaker, Contains-append_left}
+use Rattle.std.proofs.lemmas.List.Elements.{All-append, All-cons, All-head, All-nil, All-tail, All-weaker}
+use Rattle.std.proofs.lemmas.List.Elements.{Contains-append_left}
 use Rattle.link_world.specs.declared.fates.Fate.{Fate}
 use Rattle.link_world.specs.declared.fates.Fate.TheVariants.{Lost, Once, Twice, Late}
 use Rattle.link_world.specs.declared.link.LinkEvent.{LinkEvent}
@@ -20,7 +21,8 @@ turn_low : (k : ℕ) (fate : Fate) → All (Under (suc k)) (in_turn k fate)
 turn_low k Lost = All-nil (Under (suc k))
 turn_low k Once = All-cons (Under (suc k)) k [] (omega arith) (All-nil (Under (suc k)))
 turn_low k Twice =
-    All-cons (Under (suc k)) k (k ∷ []) (omega arith) (All-cons (Under (suc k)) k [] (omega arith) (All-nil (Under (suc k))))
+    All-cons (Under (suc k)) k (k ∷ []) (omega arith)
+    (All-cons (Under (suc k)) k [] (omega arith) (All-nil (Under (suc k))))
 turn_low k Late = All-nil (Under (suc k))
 
 late_low : (k : ℕ) (fate : Fate) → All (Under (suc k)) (late k fate)
@@ -35,12 +37,14 @@ higher k frames all = All-weaker (Under k) (Under (suc k)) (λ frame low. omega 
 turns_low : (count : ℕ) → All (Under count) (turns count)
 turns_low zero = All-nil (Under 0)
 turns_low (suc k) =
-    All-append (Under (suc k)) (turns k) (in_turn k (fate_of k)) (higher k (turns k) (turns_low k)) (turn_low k (fate_of k))
+    All-append (Under (suc k)) (turns k) (in_turn k (fate_of k)) (higher k (turns k) (turns_low k))
+    (turn_low k (fate_of k))
 
 lates_low : (count : ℕ) → All (Under count) (lates count)
 lates_low zero = All-nil (Under 0)
 lates_low (suc k) =
-    All-append (Under (suc k)) (lates k) (late k (fate_of k)) (higher k (lates k) (lates_low k)) (late_low k (fate_of k))
+    All-append (Under (suc k)) (lates k) (late k (fate_of k)) (higher k (lates k) (lates_low k))
+    (late_low k (fate_of k))
 
 pub delivered_low : (count : ℕ) → All (Under count) (deliveries count)
 delivered_low count = All-append (Under count) (turns count) (lates count) (turns_low count) (lates_low count)
@@ -51,7 +55,8 @@ delivered_low count = All-append (Under count) (turns count) (lates count) (turn
 abbrev pub AllReleased : ℕ → List LinkEvent → Type 0
 AllReleased count events = (frame : ℕ) → frame < count → Contains events (Release frame)
 
-deliver_all : (count : ℕ) (before : List LinkEvent) (frames : List ℕ) → AllReleased count before → All (Under count) frames
+deliver_all : (count : ℕ) (before : List LinkEvent) (frames : List ℕ) → AllReleased count before
+    → All (Under count) frames
     → arrivals_behind count before (map Deliver frames) ≡ frames
 deliver_all count before [] released low = refl
 deliver_all count before (frame ∷ frames) released low =
@@ -64,7 +69,8 @@ deliver_all count before (frame ∷ frames) released low =
     (deliver_all count (before ++ Deliver frame ∷ []) frames next (All-tail (Under count) frame frames low))
 
 behind_append : (count : ℕ) (before xs ys : List LinkEvent)
-    → arrivals_behind count before (xs ++ ys) ≡ arrivals_behind count before xs ++ arrivals_behind count (before ++ xs) ys
+    → arrivals_behind count before (xs ++ ys) ≡ arrivals_behind count before xs ++ arrivals_behind count (before ++ xs)
+    ys
 behind_append count before [] ys = ap (λ (l : List LinkEvent). arrivals_behind count l ys) (append_none before)
   where
     append_none : (l : List LinkEvent) → l ≡ l ++ []

@@ -1,5 +1,6 @@
 -- How many frames arrive, and how many a link delivers: for those who count them.
-use Rattle.std.proofs.Common.{◌≡◌, ℕ, zero, suc, ◌+◌, ◌*◌, ◌≤◌, nat_lt, ◌&&◌, if◌then◌else◌, Bool, true, false, List, [], ◌∷◌, ◌++◌, length, refl, sym, subst, arith, length-append}
+use Rattle.std.proofs.Common.{◌≡◌, ℕ, zero, suc, ◌+◌, ◌*◌, ◌≤◌, nat_lt, ◌&&◌, if◌then◌else◌, Bool, true, false, List}
+use Rattle.std.proofs.Common.{[], ◌∷◌, ◌++◌, length, refl, sym, subst, arith, length-append}
 use Rattle.std.specs.List.{list_any}
 use Rattle.link_world.specs.declared.fates.Fate.{Fate}
 use Rattle.link_world.specs.declared.fates.Fate.TheVariants.{Lost, Once, Twice, Late}
@@ -22,7 +23,8 @@ few_behind count before [] = omega arith
 few_behind count before (event ∷ events) =
     let one = few_one count before event in
     let rest = few_behind count (before ++ event ∷ []) events in
-    let both = length-append (arrival count before event) (arrivals_behind count (before ++ event ∷ []) events) in omega arith
+    let both = length-append (arrival count before event) (arrivals_behind count (before ++ event ∷ []) events) in
+    omega arith
 
 -- no more frames arrive than events happen
 pub few_arrive : (count : ℕ) (events : List LinkEvent) (arrived : List ℕ) → arrived ≡ arrivals count events

@@ -1,5 +1,6 @@
 -- What is put for the text that was collected is what is put for the whole input, for `collect_and_put`.
-use Rattle.std.proofs.Common.{◌≡◌, ℕ, ◌+◌, ◌<◌, ◌≤◌, List, ◌++◌, length, take, ap, sym, ◌∙◌, subst, arith, append-nil, Ok, Err, inl, inr}
+use Rattle.std.proofs.Common.{◌≡◌, ℕ, ◌+◌, ◌<◌, ◌≤◌, List, ◌++◌, length, take, ap, sym, ◌∙◌, subst, arith, append-nil}
+use Rattle.std.proofs.Common.{Ok, Err, inl, inr}
 use Rattle.std.proofs.lemmas.Bool.{cases_lt}
 use Rattle.std.proofs.lemmas.Bool.Decides.{nat_tests}
 use Rattle.std.proofs.lemmas.List.{length-take-le, length-append}
@@ -24,7 +25,8 @@ whole most left_old left_new buffer count sized collects few =
     sym (collects.moved ∙ ap (λ (rest : List ℕ). take count buffer ++ rest) ended ∙ append-nil (take count buffer))
 
 -- what was collected is the same plan as the whole input, or none for the same fault
-same_plan : (left_old left_new buffer : List ℕ) (count : ℕ) → length buffer ≡ 65537 → Collects left_old left_new buffer count
+same_plan : (left_old left_new buffer : List ℕ) (count : ℕ) → length buffer ≡ 65537
+    → Collects left_old left_new buffer count
     → plan_of (take count buffer) ≡ plan_of left_old
 same_plan left_old left_new buffer count sized collects = elim (cases_lt count 65537) [
   | inl short ↦ ap plan_of (whole 65536 left_old left_new buffer count (omega arith) collects (omega arith))
@@ -36,7 +38,8 @@ same_plan left_old left_new buffer count sized collects = elim (cases_lt count 6
 ]
 
 -- what was collected is the whole input if it is a plan
-same_text : (left_old left_new buffer : List ℕ) (count : ℕ) → length buffer ≡ 65537 → Collects left_old left_new buffer count
+same_text : (left_old left_new buffer : List ℕ) (count : ℕ) → length buffer ≡ 65537
+    → Collects left_old left_new buffer count
     → (plan : PlanLines) → plan_of (take count buffer) ≡ Ok plan → take count buffer ≡ left_old
 same_text left_old left_new buffer count sized collects plan read = elim (cases_lt count 65537) [
   | inl short ↦ whole 65536 left_old left_new buffer count (omega arith) collects (omega arith)
@@ -47,7 +50,8 @@ same_text left_old left_new buffer count sized collects plan read = elim (cases_
 
 -- texts that are the same plan, or none for the same fault, have the same put for them
 pub puts_alike : (text input old new : List ℕ) (end : PlanEnd) → plan_of text ≡ plan_of input
-    → ((plan : PlanLines) → plan_of text ≡ Ok plan → text ≡ input) → PutsPlan text old new end → PutsPlan input old new end
+    → ((plan : PlanLines) → plan_of text ≡ Ok plan → text ≡ input) → PutsPlan text old new end
+    → PutsPlan input old new end
 puts_alike text input old new (Plan moved) same equal puts =
     let P : List ℕ → Type 0 = λ text. PutsPlan text old new (Plan moved) in subst P (equal puts.1.0 puts.1.2.read) puts
 puts_alike text input old new NoPlan same equal puts =

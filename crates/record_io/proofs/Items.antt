@@ -1,12 +1,14 @@
 -- Where no item stands at the front, and octets of items one after the other.
-use Rattle.std.proofs.Common.{◌≡◌, ◌≢◌, ℕ, ◌+◌, ◌≤◌, ◌<◌, List, [], ◌∷◌, ◌++◌, length, take, drop, refl, sym, ◌∙◌, ap, arith, append_assoc, length-append}
+use Rattle.std.proofs.Common.{◌≡◌, ◌≢◌, ℕ, ◌+◌, ◌≤◌, ◌<◌, List, [], ◌∷◌, ◌++◌, length, take, drop, refl, sym, ◌∙◌, ap}
+use Rattle.std.proofs.Common.{arith, append_assoc, length-append}
 use Rattle.std.specs.Int.{w16, to_be_bytes, from_be_bytes}
 use Rattle.std.proofs.lemmas.Nat.{from_be_bytes-to_be_bytes_2}
 use Rattle.sdls_base.proofs.Endings.{take_front}
 use Rattle.record_io.specs.declared.kinds.ItemKind.{ItemKind}
 use Rattle.record_io.specs.declared.kinds.ItemKind.TheVariants.{Fence, Recorded}
 use Rattle.record_io.specs.declared.heads.ItemHead.{ItemHead}
-use Rattle.record_io.specs.Input.{Item, IsItem, most_octets, kind_octet, item_header, item_octets, items_octets, LacksItem, LacksBeginning, beginning}
+use Rattle.record_io.specs.Input.{Item, IsItem, most_octets, kind_octet, item_header, item_octets, items_octets}
+use Rattle.record_io.specs.Input.{LacksItem, LacksBeginning, beginning}
 use Rattle.record_io.specs.Heads.{IsHead, IsNoHead}
 use Rattle.record_io.specs.declared.kinds.TheConstants.{MOST_RECORD_OCTETS}
 
@@ -19,16 +21,20 @@ length-item item = omega (arith, length-append (item_header item) item.octets, l
 pub items_octets-append : (xs ys : List Item) → items_octets (xs ++ ys) ≡ items_octets xs ++ items_octets ys
 items_octets-append [] ys = refl
 items_octets-append (x ∷ xs) ys =
-    ap (λ l. item_octets x ++ l) (items_octets-append xs ys) ∙ sym (append_assoc (item_octets x) (items_octets xs) (items_octets ys))
+    ap (λ l. item_octets x ++ l) (items_octets-append xs ys)
+    ∙ sym (append_assoc (item_octets x) (items_octets xs) (items_octets ys))
 
 pub not_empty : (xs : List ℕ) → 0 < length xs → xs ≢ []
 not_empty xs long e = absurd (omega (arith, ap length e))
 
 -- the first six octets of what begins with an item
-header_in_front : (header rest after : List ℕ) (item : Item) → length header ≡ 6 → header ++ rest ≡ item_octets item ++ after → header ≡ item_header item
+header_in_front : (header rest after : List ℕ) (item : Item) → length header ≡ 6
+    → header ++ rest ≡ item_octets item ++ after → header ≡ item_header item
 header_in_front header rest after item six e =
-    let split : item_octets item ++ after ≡ item_header item ++ (item.octets ++ after) = append_assoc (item_header item) item.octets after in
-    sym (take_front header rest 6 (sym six)) ∙ ap (λ l. take 6 l) (e ∙ split) ∙ take_front (item_header item) (item.octets ++ after) 6 (sym (length-header item))
+    let split : item_octets item ++ after ≡ item_header item ++ (item.octets ++ after) =
+    append_assoc (item_header item) item.octets after in
+    sym (take_front header rest 6 (sym six)) ∙ ap (λ l. take 6 l) (e ∙ split) ∙ take_front (item_header item)
+    (item.octets ++ after) 6 (sym (length-header item))
 
 -- fewer octets than an item has at least
 pub lacks_short : (octets : List ℕ) → length octets < 6 → LacksItem octets
@@ -43,20 +49,25 @@ pub most_small : (kind : ItemKind) → most_octets kind ≤ MOST_RECORD_OCTETS
 most_small Fence = omega arith
 most_small (Recorded kind) = omega arith
 
-same_length : (item : Item) (head : ItemHead) (header : List ℕ) → IsItem item → IsHead header head → header ≡ item_header item → length item.octets ≡ head.len
+same_length : (item : Item) (head : ItemHead) (header : List ℕ) → IsItem item → IsHead header head
+    → header ≡ item_header item → length item.octets ≡ head.len
 same_length item head header is found e =
-    let fields : to_be_bytes w16 (length item.octets) ≡ to_be_bytes w16 head.len = ap (λ l. drop 4 l) (sym e ∙ found.spelled) in
+    let fields : to_be_bytes w16 (length item.octets) ≡ to_be_bytes w16 head.len =
+    ap (λ l. drop 4 l) (sym e ∙ found.spelled) in
     sym (from_be_bytes-to_be_bytes_2 (length item.octets) (omega (arith, is.short, most_small item.kind)))
-    ∙ ap (λ l. from_be_bytes w16 l) fields ∙ from_be_bytes-to_be_bytes_2 head.len (omega (arith, found.short, most_small head.kind))
+    ∙ ap (λ l. from_be_bytes w16 l) fields ∙ from_be_bytes-to_be_bytes_2 head.len
+    (omega (arith, found.short, most_small head.kind))
 
 pub length-head : (header : List ℕ) (head : ItemHead) → IsHead header head → length header ≡ 6
 length-head header head found = ap length found.spelled
 
 -- a head behind which octets are missing
-pub lacks_octets : (header part : List ℕ) (head : ItemHead) → IsHead header head → length part < head.len → LacksItem (header ++ part)
+pub lacks_octets : (header part : List ℕ) (head : ItemHead) → IsHead header head → length part < head.len
+    → LacksItem (header ++ part)
 lacks_octets header part head found few = λ item after is e.
     let six : length header ≡ 6 = length-head header head found in
-    let same : length item.octets ≡ head.len = same_length item head header is found (header_in_front header part after item six e) in
+    let same : length item.octets ≡ head.len =
+    same_length item head header is found (header_in_front header part after item six e) in
     omega (arith, ap length e, length-append header part, length-append (item_octets item) after, length-item item)
 
 -- what does not stand at the front of octets does not stand at the front of a part of them
@@ -68,7 +79,8 @@ lacks_front octets rest lacks = λ item after is e.
 pub spelled_item : (header octets : List ℕ) (head : ItemHead) → IsHead header head → length octets ≡ head.len
     → header ++ octets ≡ item_octets (record { kind = head.kind; lane = head.lane; link = head.link; octets = octets })
 spelled_item header octets head found same =
-    ap (λ l. l ++ octets) (found.spelled ∙ ap (λ n. kind_octet head.kind ∷ head.lane ∷ head.link ∷ 0 ∷ to_be_bytes w16 n) (sym same))
+    ap (λ l. l ++ octets)
+    (found.spelled ∙ ap (λ n. kind_octet head.kind ∷ head.lane ∷ head.link ∷ 0 ∷ to_be_bytes w16 n) (sym same))
 
 pub item_is : (header octets : List ℕ) (head : ItemHead) → IsHead header head → length octets ≡ head.len
     → IsItem (record { kind = head.kind; lane = head.lane; link = head.link; octets = octets })
@@ -83,7 +95,8 @@ pub lacks_short_beginning : (octets : List ℕ) → length octets < 8 → LacksB
 lacks_short_beginning octets few = λ after e. omega (arith, ap length e, length-append beginning after)
 
 -- eight octets that are another beginning
-pub lacks_other_beginning : (octets rest : List ℕ) → length octets ≡ 8 → octets ≢ beginning → LacksBeginning (octets ++ rest)
+pub lacks_other_beginning : (octets rest : List ℕ) → length octets ≡ 8 → octets ≢ beginning
+    → LacksBeginning (octets ++ rest)
 lacks_other_beginning octets rest eight other = λ after e.
     other (sym (take_front octets rest 8 (sym eight)) ∙ ap (λ l. take 8 l) e ∙ take_front beginning after 8 refl)
 

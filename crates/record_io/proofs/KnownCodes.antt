@@ -7,7 +7,8 @@ use Rattle.record_io.specs.AnswerReading.{is_answer_code}
 use Rattle.record_io.specs.Codes.{all_codes, code_at, code_octet}
 
 among : (octet : ℕ) (codes : List AnswerCode)
-    → is_some (find (λ code. code_octet code == octet) codes) ≡ list_any (λ known. known == octet) (map code_octet codes)
+    → is_some (find (λ code. code_octet code == octet) codes) ≡ list_any (λ known. known == octet)
+    (map code_octet codes)
 among octet [] = refl
 among octet (code ∷ codes) = by_test (code_octet code == octet) (among octet codes)
   where

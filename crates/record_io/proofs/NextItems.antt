@@ -1,5 +1,6 @@
 -- One item at the front of a source, for `next_item`.
-use Rattle.std.proofs.Common.{◌≡◌, ◌≢◌, ℕ, ◌<◌, ◌++◌, List, [], length, sym, ap, ◌∙◌, arith, append_assoc, length-append}
+use Rattle.std.proofs.Common.{◌≡◌, ◌≢◌, ℕ, ◌<◌, ◌++◌, List, [], length, sym, ap, ◌∙◌, arith, append_assoc}
+use Rattle.std.proofs.Common.{length-append}
 use Rattle.record_io.specs.Heads.{IsHead, IsNoHead}
 use Rattle.record_io.specs.Input.{IsItem, Item, LacksItem, item_octets}
 use Rattle.record_io.specs.NextItem.{StandsItem, item_found}
@@ -31,11 +32,13 @@ no_item header old head found few = (
   lacks_octets header old head found few,
 )
 
-pub no_head : (old header behind : List ℕ) → old ≡ header ++ behind → length header ≡ 6 → IsNoHead header → (old ≢ []) × LacksItem old
+pub no_head : (old header behind : List ℕ) → old ≡ header ++ behind → length header ≡ 6 → IsNoHead header
+    → (old ≢ []) × LacksItem old
 no_head old header behind is six none =
     rw is (not_empty header behind (omega (arith, six)), lacks_head header behind six none)
 
-pub item_stands : (old new : List ℕ) (next : NextItem) (found : FoundItem) → next ≡ nexts.Item found → StandsItem old new next
+pub item_stands : (old new : List ℕ) (next : NextItem) (found : FoundItem) → next ≡ nexts.Item found
+    → StandsItem old new next
     → (old ≡ item_octets (item_found found) ++ new) × IsItem (item_found found)
 unfolding StandsItem
 item_stands old new next found is stands = let told : StandsItem old new (nexts.Item found) = rw is at stands in told
@@ -44,6 +47,7 @@ pub end_stands : (old new : List ℕ) (next : NextItem) → next ≡ nexts.End �
 unfolding StandsItem
 end_stands old new next is stands = let told : StandsItem old new nexts.End = rw is at stands in told
 
-pub none_stands : (old new : List ℕ) (next : NextItem) → next ≡ nexts.NoItem → StandsItem old new next → (old ≢ []) × LacksItem old
+pub none_stands : (old new : List ℕ) (next : NextItem) → next ≡ nexts.NoItem → StandsItem old new next
+    → (old ≢ []) × LacksItem old
 unfolding StandsItem
 none_stands old new next is stands = let told : StandsItem old new nexts.NoItem = rw is at stands in told

@@ -1,5 +1,6 @@
 -- Octets spell items in one way, for the law `input_reads_once`.
-use Rattle.std.proofs.Common.{◌≡◌, ◌≢◌, ℕ, List, [], ◌∷◌, ◌++◌, length, take, drop, get_or, refl, sym, ◌∙◌, ap, subst, inl, inr, arith, append_assoc, length-append}
+use Rattle.std.proofs.Common.{◌≡◌, ◌≢◌, ℕ, List, [], ◌∷◌, ◌++◌, length, take, drop, get_or, refl, sym, ◌∙◌, ap, subst}
+use Rattle.std.proofs.Common.{inl, inr, arith, append_assoc, length-append}
 use Rattle.std.specs.Prelude.{◌==◌, if◌then◌else◌}
 use Rattle.std.specs.List.{All}
 use Rattle.std.proofs.lemmas.List.Elements.{All-head, All-tail}
@@ -10,12 +11,15 @@ use Rattle.sdls_base.proofs.Endings.{take_front, drop_front}
 use Rattle.record_io.specs.declared.kinds.RecordKind.TheVariants.{Protect, Open, Command, Monitor}
 use Rattle.record_io.specs.declared.kinds.ItemKind.{ItemKind}
 use Rattle.record_io.specs.declared.kinds.ItemKind.TheVariants.{Fence, Recorded}
-use Rattle.record_io.specs.Input.{Item, IsItem, kind_octet, item_header, item_octets, items_octets, beginning, AreRead, LacksItem, LacksBeginning, InputEnd, Whole, MalformedAt, EndsAs, IsInput}
+use Rattle.record_io.specs.Input.{Item, IsItem, kind_octet, item_header, item_octets, items_octets, beginning, AreRead}
+use Rattle.record_io.specs.Input.{LacksItem, LacksBeginning, InputEnd, Whole, MalformedAt, EndsAs, IsInput}
 use Rattle.record_io.proofs.Items.{length-header, most_small, lacks_short}
 
 -- the kind that an octet says
 kind_back : ℕ → ItemKind
-kind_back n = if n == 0 then Fence else (if n == 1 then Recorded Protect else (if n == 2 then Recorded Open else (if n == 3 then Recorded Command else Recorded Monitor)))
+kind_back n = if n == 0 then Fence
+    else (if n == 1 then Recorded Protect
+    else (if n == 2 then Recorded Open else (if n == 3 then Recorded Command else Recorded Monitor)))
 
 kind_again : (kind : ItemKind) → kind_back (kind_octet kind) ≡ kind
 unfolding kind_back
@@ -36,7 +40,8 @@ same_item x y e f g h =
     ∙ ap (λ (octets : List ℕ). record { kind = y.kind; lane = y.lane; link = y.link; octets = octets }) h
 
 -- two items in front of the same octets are one
-one_item : (x y : Item) (a b : List ℕ) → IsItem x → IsItem y → item_octets x ++ a ≡ item_octets y ++ b → (x ≡ y) × (a ≡ b)
+one_item : (x y : Item) (a b : List ℕ) → IsItem x → IsItem y → item_octets x ++ a ≡ item_octets y ++ b
+    → (x ≡ y) × (a ≡ b)
 one_item x y a b is_x is_y e =
     let whole : item_header x ++ (x.octets ++ a) ≡ item_header y ++ (y.octets ++ b) =
     sym (append_assoc (item_header x) x.octets a) ∙ e ∙ append_assoc (item_header y) y.octets b in
@@ -51,9 +56,12 @@ one_item x y a b is_x is_y e =
     ∙ ap (λ l. from_be_bytes w16 (drop 4 l)) headers
     ∙ from_be_bytes-to_be_bytes_2 (length y.octets) (omega (arith, is_y.short, most_small y.kind)) in
     let octets : x.octets ≡ y.octets =
-    sym (take_front x.octets a (length x.octets) refl) ∙ ap (λ l. take (length x.octets) l) behind ∙ take_front y.octets b (length x.octets) sizes in (
-      same_item x y (one_kind x.kind y.kind (ap (λ l. get_or l 0 0) headers)) (ap (λ l. get_or l 1 0) headers) (ap (λ l. get_or l 2 0) headers) octets,
-      sym (drop_front x.octets a (length x.octets) refl) ∙ ap (λ l. drop (length x.octets) l) behind ∙ drop_front y.octets b (length x.octets) sizes,
+    sym (take_front x.octets a (length x.octets) refl) ∙ ap (λ l. take (length x.octets) l) behind
+    ∙ take_front y.octets b (length x.octets) sizes in (
+      same_item x y (one_kind x.kind y.kind (ap (λ l. get_or l 0 0) headers)) (ap (λ l. get_or l 1 0) headers)
+          (ap (λ l. get_or l 2 0) headers) octets,
+      sym (drop_front x.octets a (length x.octets) refl) ∙ ap (λ l. drop (length x.octets) l) behind
+          ∙ drop_front y.octets b (length x.octets) sizes,
     )
 
 -- items behind which no item stands
@@ -61,11 +69,14 @@ one_list : (xs ys : List Item) (r s : List ℕ) → All IsItem xs → All IsItem
     → items_octets xs ++ r ≡ items_octets ys ++ s → (xs ≡ ys) × (r ≡ s)
 one_list [] [] r s is_xs is_ys no_r no_s e = (refl, e)
 one_list [] (y ∷ ys) r s is_xs is_ys no_r no_s e =
-    absurd (no_r y (items_octets ys ++ s) (All-head IsItem y ys is_ys) (e ∙ append_assoc (item_octets y) (items_octets ys) s))
+    absurd (no_r y (items_octets ys ++ s) (All-head IsItem y ys is_ys)
+    (e ∙ append_assoc (item_octets y) (items_octets ys) s))
 one_list (x ∷ xs) [] r s is_xs is_ys no_r no_s e =
-    absurd (no_s x (items_octets xs ++ r) (All-head IsItem x xs is_xs) (sym e ∙ append_assoc (item_octets x) (items_octets xs) r))
+    absurd (no_s x (items_octets xs ++ r) (All-head IsItem x xs is_xs)
+    (sym e ∙ append_assoc (item_octets x) (items_octets xs) r))
 one_list (x ∷ xs) (y ∷ ys) r s is_xs is_ys no_r no_s e =
-    let first = one_item x y (items_octets xs ++ r) (items_octets ys ++ s) (All-head IsItem x xs is_xs) (All-head IsItem y ys is_ys)
+    let first = one_item x y (items_octets xs ++ r) (items_octets ys ++ s) (All-head IsItem x xs is_xs)
+    (All-head IsItem y ys is_ys)
     (sym (append_assoc (item_octets x) (items_octets xs) r) ∙ e ∙ append_assoc (item_octets y) (items_octets ys) s) in
     let rest = one_list xs ys r s (All-tail IsItem x xs is_xs) (All-tail IsItem y ys is_ys) no_r no_s first.1 in
     (ap (λ (l : Item). l ∷ xs) first.0 ∙ ap (λ (l : List Item). y ∷ l) rest.0, rest.1)
@@ -87,9 +98,11 @@ at_start rest Whole ends = absurd (ends.0 refl)
 at_start rest (MalformedAt offset) ends = (ap MalformedAt ends.0, ends.1)
 
 starts : (items : List Item) (octets : List ℕ) → octets ≡ beginning ++ items_octets items → octets ≢ []
-starts items octets e none = absurd (omega (arith, ap length (sym e ∙ none), length-append beginning (items_octets items)))
+starts items octets e none =
+    absurd (omega (arith, ap length (sym e ∙ none), length-append beginning (items_octets items)))
 
-pub input_once : (input : List ℕ) (xs ys : List Item) (e f : InputEnd) → IsInput input xs e → IsInput input ys f → (xs ≡ ys) × (e ≡ f)
+pub input_once : (input : List ℕ) (xs ys : List Item) (e f : InputEnd) → IsInput input xs e → IsInput input ys f
+    → (xs ≡ ys) × (e ≡ f)
 input_once input xs ys e f x y = go x.read_are y.read_are
   where
     same : x.read ++ x.rest ≡ y.read ++ y.rest
@@ -102,10 +115,14 @@ input_once input xs ys e f x y = go x.read_are y.read_are
         (no_xs ∙ sym no_ys, a.0 ∙ sym b.0)
     go (inl (none, no_xs)) (inr spelled) =
         let a = at_start x.rest e (subst (λ (l : List ℕ). EndsAs l x.rest e) none x.ends) in
-        absurd (a.1 (items_octets ys ++ y.rest) (ap (λ l. l ++ x.rest) (sym none) ∙ same ∙ ap (λ l. l ++ y.rest) spelled ∙ append_assoc beginning (items_octets ys) y.rest))
+        absurd (a.1 (items_octets ys ++ y.rest)
+        (ap (λ l. l ++ x.rest) (sym none) ∙ same ∙ ap (λ l. l ++ y.rest) spelled
+        ∙ append_assoc beginning (items_octets ys) y.rest))
     go (inr spelled) (inl (nothing, no_ys)) =
         let b = at_start y.rest f (subst (λ (l : List ℕ). EndsAs l y.rest f) nothing y.ends) in
-        absurd (b.1 (items_octets xs ++ x.rest) (ap (λ l. l ++ y.rest) (sym nothing) ∙ sym same ∙ ap (λ l. l ++ x.rest) spelled ∙ append_assoc beginning (items_octets xs) x.rest))
+        absurd (b.1 (items_octets xs ++ x.rest)
+        (ap (λ l. l ++ y.rest) (sym nothing) ∙ sym same ∙ ap (λ l. l ++ x.rest) spelled
+        ∙ append_assoc beginning (items_octets xs) x.rest))
     go (inr spelled) (inr written) =
         let both : beginning ++ (items_octets xs ++ x.rest) ≡ beginning ++ (items_octets ys ++ y.rest) =
         sym (append_assoc beginning (items_octets xs) x.rest) ∙ ap (λ l. l ++ x.rest) (sym spelled) ∙ same
@@ -114,5 +131,6 @@ input_once input xs ys e f x y = go x.read_are y.read_are
         let no_y : LacksItem y.rest = no_item _ _ y.rest f (subst (λ (l : List ℕ). EndsAs l y.rest f) written y.ends) in
         let lists = one_list xs ys x.rest y.rest x.items_are y.items_are no_x no_y
         (append_cancel_left beginning (items_octets xs ++ x.rest) (items_octets ys ++ y.rest) both) in
-        let reads : x.read ≡ y.read = spelled ∙ ap (λ (l : List Item). beginning ++ items_octets l) lists.0 ∙ sym written in
+        let reads : x.read ≡ y.read = spelled ∙ ap (λ (l : List Item). beginning ++ items_octets l) lists.0
+        ∙ sym written in
         (lists.0, one_end x.read y.read x.rest y.rest e f reads lists.1 (starts xs x.read spelled) x.ends y.ends)

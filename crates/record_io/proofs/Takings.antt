@@ -1,5 +1,6 @@
 -- Items taken one after the other, for `read_behind`, `read_item` and `read_items`.
-use Rattle.std.proofs.Common.{◌≡◌, ◌≢◌, ℕ, zero, suc, ◌+◌, ◌≤◌, ◌<◌, Bool, IsTrue, List, [], ◌∷◌, ◌++◌, length, take, refl, sym, ◌∙◌, ap, subst, inl, ⊎_elim, arith, append_assoc, length-append, lit<}
+use Rattle.std.proofs.Common.{◌≡◌, ◌≢◌, ℕ, zero, suc, ◌+◌, ◌≤◌, ◌<◌, Bool, IsTrue, List, [], ◌∷◌, ◌++◌, length, take}
+use Rattle.std.proofs.Common.{refl, sym, ◌∙◌, ap, subst, inl, ⊎_elim, arith, append_assoc, length-append, lit<}
 use Rattle.std.specs.Prelude.{Result, Ok, Err, OnErr}
 use Rattle.std.proofs.lemmas.List.{append-nil}
 use Rattle.std.proofs.lemmas.Grind.{common_steps}
@@ -19,8 +20,10 @@ use Rattle.record_io.specs.declared.reader.Read.{Read}
 use Rattle.record_io.specs.declared.reader.Read.TheVariants as reads
 use Rattle.record_io.specs.Input.{Item, IsItem, most_octets, item_octets, items_octets, LacksItem, MOST_OCTETS}
 use Rattle.record_io.specs.Heads.{IsHead, IsNoHead}
-use Rattle.record_io.specs.Steps.{still_counted, TakesTooFew, Took, item_of, items_of, AreNumbered, ReadsOn, Segment, task_at, Breaks, EndsBehind, EndsNext, ReadsItem, Wants}
-use Rattle.record_io.proofs.Items.{items_octets-append, not_empty, lacks_short, lacks_head, lacks_octets, lacks_front, length-head, spelled_item, item_is}
+use Rattle.record_io.specs.Steps.{still_counted, TakesTooFew, Took, item_of, items_of, AreNumbered, ReadsOn, Segment}
+use Rattle.record_io.specs.Steps.{task_at, Breaks, EndsBehind, EndsNext, ReadsItem, Wants}
+use Rattle.record_io.proofs.Items.{items_octets-append, not_empty, lacks_short, lacks_head, lacks_octets, lacks_front}
+use Rattle.record_io.proofs.Items.{length-head, spelled_item, item_is}
 use Rattle.record_io.specs.declared.reader.TheConstants.{SEGMENT_RECORDS}
 
 -- nothing was taken
@@ -33,7 +36,8 @@ took_none told old left few = record {
 }
 
 -- a part of an item was taken
-pub took_part : (told : Bool) (part : List ℕ) (old : ℕ) (left_old left_new : List ℕ) → (IsTrue told → left_old ≡ part ++ left_new)
+pub took_part : (told : Bool) (part : List ℕ) (old : ℕ) (left_old left_new : List ℕ)
+    → (IsTrue told → left_old ≡ part ++ left_new)
     → old + length part ≤ MOST_OCTETS → LacksItem part → Took told [] part old left_old left_new
 took_part told part old left_old left_new moved within lacks = record {
   items_are = All-nil IsItem;
@@ -43,7 +47,8 @@ took_part told part old left_old left_new moved within lacks = record {
 }
 
 -- one item was taken
-pub took_one : (told : Bool) (item : Item) (old : ℕ) (left_old left_new : List ℕ) → IsItem item → (IsTrue told → left_old ≡ item_octets item ++ left_new)
+pub took_one : (told : Bool) (item : Item) (old : ℕ) (left_old left_new : List ℕ) → IsItem item
+    → (IsTrue told → left_old ≡ item_octets item ++ left_new)
     → old + length (item_octets item) ≤ MOST_OCTETS → Took told (item ∷ []) [] old left_old left_new
 took_one told item old left_old left_new is moved within =
     let whole : items_octets (item ∷ []) ≡ item_octets item = append-nil (item_octets item) in
@@ -70,7 +75,8 @@ took_more told xs ys part old mid left_old left_mid left_new first counted secon
     }
 
 pub took_from : (told : Bool) (items : List Item) (part : List ℕ) (old before : ℕ) (left_old front left_new : List ℕ)
-    → before ≡ old → (IsTrue told → left_old ≡ front) → Took told items part before front left_new → Took told items part old left_old left_new
+    → before ≡ old → (IsTrue told → left_old ≡ front) → Took told items part before front left_new
+    → Took told items part old left_old left_new
 took_from told items part old before left_old front left_new same e took = record {
   items_are = took.items_are;
   moved = λ t. e t ∙ took.moved t;
@@ -86,15 +92,18 @@ breaks_at_head told old header left offset at within six none = record {
   took = took_part told header old (header ++ left) left (λ _. refl) (omega (arith, six))
       (lacks_front header [] (lacks_head header [] six none));
   offset_is = omega (arith, at);
-  some = λ _. not_empty (header ++ still_counted (offset + length header) left) (omega (arith, length-append header (still_counted (offset + length header) left), six));
+  some = λ _. not_empty (header ++ still_counted (offset + length header) left)
+      (omega (arith, length-append header (still_counted (offset + length header) left), six));
   malformed = λ _. lacks_head header (still_counted (offset + length header) left) six none;
 }
 
 -- the head of a fence, which ends the segment
-pub continues_at_fence : (told : Bool) (old new : ℕ) (header left : List ℕ) (head : ItemHead) → IsHead header head → head.kind ≡ Fence
+pub continues_at_fence : (told : Bool) (old new : ℕ) (header left : List ℕ) (head : ItemHead) → IsHead header head
+    → head.kind ≡ Fence
     → new ≡ old + 6 → new ≤ MOST_OCTETS → ReadsOn told 0 [] old new (header ++ left) left
 continues_at_fence told old new header left head found fence counted few =
-    let none : head.len ≡ 0 = omega (arith, subst (λ (kind : ItemKind). head.len ≤ most_octets kind) fence found.short) in
+    let none : head.len ≡ 0 =
+    omega (arith, subst (λ (kind : ItemKind). head.len ≤ most_octets kind) fence found.short) in
     let item : Item = record { kind = head.kind; lane = head.lane; link = head.link; octets = [] } in
     let spelled : header ≡ item_octets item = sym (append-nil header) ∙ spelled_item header [] head found (sym none) in
     let six : length header ≡ 6 = length-head header head found in
@@ -108,7 +117,8 @@ continues_at_fence told old new header left head found fence counted few =
     }
 
 -- a fault behind the head
-pub fails_behind : (told : Bool) (old mid : ℕ) (header left_old left_new : List ℕ) (head : ItemHead) → IsHead header head
+pub fails_behind : (told : Bool) (old mid : ℕ) (header left_old left_new : List ℕ) (head : ItemHead)
+    → IsHead header head
     → mid ≡ old + 6 → (f : TakesTooFew told head.len mid left_old left_new)
     → Took told [] (header ++ f.part) old (header ++ left_old) left_new
 fails_behind told old mid header left_old left_new head found counted f =
@@ -118,7 +128,8 @@ fails_behind told old mid header left_old left_new head found counted f =
     (lacks_octets header f.part head found f.few)
 
 -- octets that are cut
-pub breaks_in_octets : (told : Bool) (old new : ℕ) (header octets left_old left_new : List ℕ) (head : ItemHead) (offset : ℕ) → offset ≡ old
+pub breaks_in_octets : (told : Bool) (old new : ℕ) (header octets left_old left_new : List ℕ) (head : ItemHead)
+    (offset : ℕ) → offset ≡ old
     → IsHead header head → length octets < head.len → (IsTrue told → left_old ≡ octets ++ left_new)
     → new ≡ old + 6 + length octets → new ≤ MOST_OCTETS → (IsTrue told → still_counted new left_new ≡ [])
     → Breaks told [] old (header ++ left_old) left_new offset
@@ -126,8 +137,10 @@ breaks_in_octets told old new header octets left_old left_new head offset at fou
     let six : length header ≡ 6 = length-head header head found in
     let size : length (header ++ octets) ≡ 6 + length octets = omega (arith, six, length-append header octets) in
     let place : offset + length (header ++ octets) ≡ new = omega (arith, at, size, counted) in
-    let whole : IsTrue told → (header ++ octets) ++ still_counted (offset + length (header ++ octets)) left_new ≡ header ++ octets =
-    λ t. ap (λ n. (header ++ octets) ++ still_counted n left_new) place ∙ ap (λ l. (header ++ octets) ++ l) (ended t) ∙ append-nil (header ++ octets) in
+    let whole : IsTrue told → (header ++ octets) ++ still_counted (offset + length (header ++ octets)) left_new
+    ≡ header ++ octets =
+    λ t. ap (λ n. (header ++ octets) ++ still_counted n left_new) place ∙ ap (λ l. (header ++ octets) ++ l) (ended t)
+    ∙ append-nil (header ++ octets) in
     record {
       part = header ++ octets;
       took = took_part told (header ++ octets) old (header ++ left_old) left_new
@@ -139,7 +152,8 @@ breaks_in_octets told old new header octets left_old left_new head offset at fou
     }
 
 -- memory runs out for the octets behind a head; if there are none, the head is the whole item
-pub wants_octets : (told : Bool) (old : ℕ) (header left : List ℕ) (head : ItemHead) (len : ℕ) → len ≡ head.len → IsHead header head
+pub wants_octets : (told : Bool) (old : ℕ) (header left : List ℕ) (head : ItemHead) (len : ℕ) → len ≡ head.len
+    → IsHead header head
     → old + 6 ≤ MOST_OCTETS → Wants told old (header ++ left) left
 wants_octets told old header left head zero none found few =
     let item : Item = record { kind = head.kind; lane = head.lane; link = head.link; octets = [] } in
@@ -157,19 +171,27 @@ wants_octets told old header left head (suc n) some found few = (
 )
 
 -- a record with its octets
-pub reads_record : (told : Bool) (old new : ℕ) (header octets left_old left_new : List ℕ) (head : ItemHead) (kind : RecordKind)
-    → IsHead header head → head.kind ≡ Recorded kind → length octets ≡ head.len → (IsTrue told → left_old ≡ octets ++ left_new)
+pub reads_record : (told : Bool) (old new : ℕ) (header octets left_old left_new : List ℕ) (head : ItemHead)
+    (kind : RecordKind)
+    → IsHead header head → head.kind ≡ Recorded kind → length octets ≡ head.len
+    → (IsTrue told → left_old ≡ octets ++ left_new)
     → new ≡ old + 6 + length octets → new ≤ MOST_OCTETS
     → ReadsItem told old new (header ++ left_old) left_new (reads.Next kind head.lane head.link octets)
 reads_record told old new header octets left_old left_new head kind found is same moved counted few =
-    let item : ItemKind → Item = λ (k : ItemKind). record { kind = k; lane = head.lane; link = head.link; octets = octets } in
+    let item : ItemKind → Item = λ (k : ItemKind). record {
+      kind = k;
+      lane = head.lane;
+      link = head.link;
+      octets = octets;
+    } in
     let spelled : header ++ octets ≡ item_octets (item (Recorded kind)) =
     spelled_item header octets head found same ∙ ap (λ k. item_octets (item k)) is in
     let size : length (item_octets (item (Recorded kind))) ≡ 6 + length octets =
     omega (arith, ap length spelled, length-append header octets, length-head header head found) in (
       took_one told (item (Recorded kind)) old (header ++ left_old) left_new
           (subst (λ (k : ItemKind). IsItem (item k)) is (item_is header octets head found same))
-          (λ t. ap (λ l. header ++ l) (moved t) ∙ sym (append_assoc header octets left_new) ∙ ap (λ l. l ++ left_new) spelled)
+          (λ t. ap (λ l. header ++ l) (moved t) ∙ sym (append_assoc header octets left_new)
+          ∙ ap (λ l. l ++ left_new) spelled)
           (omega (arith, size, counted)),
       omega (arith, size, counted),
     )
@@ -204,7 +226,8 @@ ends_from told old before new left_old front left_new (SourceFault faults) same 
 
 -- what was read, from the octets that were left before the header
 pub read_from : (told : Bool) (old before new : ℕ) (left_old front left_new : List ℕ) (read : Read) → before ≡ old
-    → (IsTrue told → left_old ≡ front) → ReadsItem told before new front left_new read → ReadsItem told old new left_old left_new read
+    → (IsTrue told → left_old ≡ front) → ReadsItem told before new front left_new read
+    → ReadsItem told old new left_old left_new read
 read_from told old before new left_old front left_new (reads.Next kind lane link octets) same e (took, counted) =
     let item : Item = record { kind = Recorded kind; lane = lane; link = link; octets = octets } in
     (took_from told (item ∷ []) [] old before left_old front left_new same e took, omega (arith, counted, same))
@@ -220,27 +243,37 @@ pub take_whole : (n : ℕ) (xs : List ℕ) → n ≡ length xs → take n xs ≡
 take_whole n xs e = ap (λ k. take k xs) e ∙ grind (arith, common_steps)
 
 -- one record more
-pub items_of-push : (records : List Record) (r : Record) → items_of (records ++ r ∷ []) ≡ items_of records ++ item_of r ∷ []
+pub items_of-push : (records : List Record) (r : Record)
+    → items_of (records ++ r ∷ []) ≡ items_of records ++ item_of r ∷ []
 items_of-push [] r = refl
 items_of-push (x ∷ records) r = ap (λ l. item_of x ∷ l) (items_of-push records r)
 
-pub AreNumbered-push : (n : ℕ) (records : List Record) (r : Record) → AreNumbered n records → r.index ≡ n + length records
+pub AreNumbered-push : (n : ℕ) (records : List Record) (r : Record) → AreNumbered n records
+    → r.index ≡ n + length records
     → AreNumbered n (records ++ r ∷ [])
 AreNumbered-push n [] r numbered index = (omega (arith, index), tt)
 AreNumbered-push n (x ∷ records) r (here, numbered) index =
     (here, AreNumbered-push (n + 1) records r numbered (omega (arith, index)))
 
 -- what ends a segment, behind records that were read before
-pub ends_after : (told : Bool) (count : ℕ) (items : List Item) (old mid new : ℕ) (left_old left_mid left_new : List ℕ) (end : SegmentEnd)
+pub ends_after : (told : Bool) (count : ℕ) (items : List Item) (old mid new : ℕ) (left_old left_mid left_new : List ℕ)
+    (end : SegmentEnd)
     → Took told items [] old left_old left_mid → mid ≡ old + length (items_octets items) → count < SEGMENT_RECORDS
     → EndsNext told mid new left_mid left_new end → EndsBehind told count items old new left_old left_new end
 ends_after told count items old mid new left_old left_mid left_new More first counted few ends = record {
   close = ends.close;
   closes = ⊎_elim (λ fence. inl (few, fence.1, fence.2, fence.3)) (λ full. absurd (omega (arith, full.0))) ends.closes;
   took = took_more told items ends.close [] old mid left_old left_mid left_new first counted ends.took;
-  counted = omega (arith, ends.counted, counted, ap length (items_octets-append items ends.close), length-append (items_octets items) (items_octets ends.close));
+  counted = omega (
+    arith,
+    ends.counted,
+    counted,
+    ap length (items_octets-append items ends.close),
+    length-append (items_octets items) (items_octets ends.close),
+  );
 }
-ends_after told count items old mid new left_old left_mid left_new (ends_as.Monitor task) first counted few none = absurd none
+ends_after told count items old mid new left_old left_mid left_new (ends_as.Monitor task) first counted few none =
+    absurd none
 ends_after told count items old mid new left_old left_mid left_new End first counted few (_, took, ended) = (
   few,
   subst (λ (l : List Item). Took told l [] old left_old left_new) (append-nil items)
@@ -280,7 +313,8 @@ on_err (Err e) P p = p
 
 -- fewer octets than a head has
 pub breaks_in_head : (told : Bool) (old new : ℕ) (part left_old left_new : List ℕ) (count offset : ℕ) → offset ≡ old
-    → length part ≡ count → 0 < count → count < 6 → (IsTrue told → left_old ≡ part ++ left_new) → new ≡ old + count → new ≤ MOST_OCTETS
+    → length part ≡ count → 0 < count → count < 6 → (IsTrue told → left_old ≡ part ++ left_new) → new ≡ old + count
+    → new ≤ MOST_OCTETS
     → (IsTrue told → still_counted new left_new ≡ []) → Breaks told [] old left_old left_new offset
 breaks_in_head told old new part left_old left_new count offset at size some short moved counted few ended =
     let place : offset + length part ≡ new = omega (arith, at, size, counted) in
@@ -288,30 +322,41 @@ breaks_in_head told old new part left_old left_new count offset at size some sho
     λ t. ap (λ n. part ++ still_counted n left_new) place ∙ ap (λ l. part ++ l) (ended t) ∙ append-nil part in
     record {
       part = part;
-      took = took_part told part old left_old left_new moved (omega (arith, size, counted)) (lacks_short part (omega (arith, size)));
+      took = took_part told part old left_old left_new moved (omega (arith, size, counted))
+          (lacks_short part (omega (arith, size)));
       offset_is = omega (arith, at);
       some = λ t. subst (λ (l : List ℕ). l ≢ []) (sym (whole t)) (not_empty part (omega (arith, size)));
       malformed = λ t. subst LacksItem (sym (whole t)) (lacks_short part (omega (arith, size)));
     }
 
 -- the records that were taken, and one more
-pub took_record : (told : Bool) (records more : List Record) (r : Record) (old mid : ℕ) (left_old left_mid left_new : List ℕ)
-    → more ≡ records ++ r ∷ [] → Took told (items_of records) [] old left_old left_mid → mid ≡ old + length (items_octets (items_of records))
+pub took_record : (told : Bool) (records more : List Record) (r : Record) (old mid : ℕ)
+    (left_old left_mid left_new : List ℕ)
+    → more ≡ records ++ r ∷ [] → Took told (items_of records) [] old left_old left_mid
+    → mid ≡ old + length (items_octets (items_of records))
     → Took told (item_of r ∷ []) [] mid left_mid left_new → Took told (items_of more) [] old left_old left_new
 took_record told records more r old mid left_old left_mid left_new pushed first counted second =
-    subst (λ (items : List Item). Took told items [] old left_old left_new) (sym (ap items_of pushed ∙ items_of-push records r))
+    subst (λ (items : List Item). Took told items [] old left_old left_new)
+    (sym (ap items_of pushed ∙ items_of-push records r))
     (took_more told (items_of records) (item_of r ∷ []) [] old mid left_old left_mid left_new first counted second)
 
 pub length-record : (records more : List Record) (r : Record) → more ≡ records ++ r ∷ []
-    → length (items_octets (items_of more)) ≡ length (items_octets (items_of records)) + length (item_octets (item_of r))
+    → length (items_octets (items_of more)) ≡ length (items_octets (items_of records))
+    + length (item_octets (item_of r))
 length-record records more r pushed =
     let e : items_octets (items_of more) ≡ items_octets (items_of records) ++ (item_octets (item_of r) ++ []) =
     ap (λ (l : List Record). items_octets (items_of l)) pushed ∙ ap items_octets (items_of-push records r)
     ∙ items_octets-append (items_of records) (item_of r ∷ []) in
-    omega (arith, ap length e, length-append (items_octets (items_of records)) (item_octets (item_of r) ++ []), ap length (append-nil (item_octets (item_of r))))
+    omega (
+      arith,
+      ap length e,
+      length-append (items_octets (items_of records)) (item_octets (item_of r) ++ []),
+      ap length (append-nil (item_octets (item_of r))),
+    )
 
 -- no Monitor record is what stands next
-no_task : (told : Bool) (old new : ℕ) (left_old left_new : List ℕ) (end : SegmentEnd) → EndsNext told old new left_old left_new end → task_at end ≡ []
+no_task : (told : Bool) (old new : ℕ) (left_old left_new : List ℕ) (end : SegmentEnd)
+    → EndsNext told old new left_old left_new end → task_at end ≡ []
 no_task told old new left_old left_new More ends = refl
 no_task told old new left_old left_new (ends_as.Monitor task) ends = absurd ends
 no_task told old new left_old left_new End ends = refl
@@ -320,17 +365,22 @@ no_task told old new left_old left_new (SourceFault faults) ends = refl
 
 module _ (told : Bool) (old mid new : Standing) (left_old left_mid left_new : List ℕ) (records : List Record) where
   -- what stands next ends the segment
-  pub ends_segment : (end : SegmentEnd) → All (λ (r : Record). r.kind ≢ Monitor) records → AreNumbered old.records records
+  pub ends_segment : (end : SegmentEnd) → All (λ (r : Record). r.kind ≢ Monitor) records
+      → AreNumbered old.records records
       → mid.records ≡ old.records + length records → Took told (items_of records) [] old.taken left_old left_mid
       → mid.taken ≡ old.taken + length (items_octets (items_of records)) → length records < SEGMENT_RECORDS
-      → EndsNext told mid.taken new.taken left_mid left_new end → new.records ≡ mid.records → Segment told old new left_old left_new records end
+      → EndsNext told mid.taken new.taken left_mid left_new end → new.records ≡ mid.records
+      → Segment told old new left_old left_new records end
   ends_segment end plain numbered counted took taken few ends same =
-      let none : records ++ task_at end ≡ records = ap (λ (l : List Record). records ++ l) (no_task told mid.taken new.taken left_mid left_new end ends) ∙ append-nil records in
+      let none : records ++ task_at end ≡ records =
+      ap (λ (l : List Record). records ++ l) (no_task told mid.taken new.taken left_mid left_new end ends)
+      ∙ append-nil records in
       record {
         plain = plain;
         numbered = subst (AreNumbered old.records) (sym none) numbered;
         counted = omega (arith, same, counted, ap length none);
-        ends = ends_after told (length records) (items_of records) old.taken mid.taken new.taken left_old left_mid left_new end took taken few ends;
+        ends = ends_after told (length records) (items_of records) old.taken mid.taken new.taken left_old left_mid
+            left_new end took taken few ends;
       }
 
   -- a Monitor record was read, which ends it
@@ -338,11 +388,14 @@ module _ (told : Bool) (old mid new : Standing) (left_old left_mid left_new : Li
       → mid.records ≡ old.records + length records → Took told (items_of records) [] old.taken left_old left_mid
       → mid.taken ≡ old.taken + length (items_octets (items_of records)) → length records < SEGMENT_RECORDS
       → task.kind ≡ Monitor → task.index ≡ mid.records → new.records ≡ mid.records + 1
-      → Took told (item_of task ∷ []) [] mid.taken left_mid left_new → new.taken ≡ mid.taken + length (item_octets (item_of task))
+      → Took told (item_of task ∷ []) [] mid.taken left_mid left_new
+      → new.taken ≡ mid.taken + length (item_octets (item_of task))
       → Segment told old new left_old left_new records (ends_as.Monitor task)
   task_segment task plain numbered counted took taken few monitor index more one octets =
-      let whole : items_octets (item_of task ∷ []) ≡ item_octets (item_of task) = append-nil (item_octets (item_of task)) in
-      let both : items_octets (items_of records ++ item_of task ∷ []) ≡ items_octets (items_of records) ++ items_octets (item_of task ∷ []) =
+      let whole : items_octets (item_of task ∷ []) ≡ item_octets (item_of task) =
+      append-nil (item_octets (item_of task)) in
+      let both : items_octets (items_of records ++ item_of task ∷ []) ≡ items_octets (items_of records)
+      ++ items_octets (item_of task ∷ []) =
       items_octets-append (items_of records) (item_of task ∷ []) in
       record {
         plain = plain;
@@ -352,8 +405,16 @@ module _ (told : Bool) (old mid new : Standing) (left_old left_mid left_new : Li
           few,
           record {
             is_monitor = monitor;
-            took = took_more told (items_of records) (item_of task ∷ []) [] old.taken mid.taken left_old left_mid left_new took taken one;
-            counted = omega (arith, octets, taken, ap length both, ap length whole, length-append (items_octets (items_of records)) (items_octets (item_of task ∷ [])));
+            took = took_more told (items_of records) (item_of task ∷ []) [] old.taken mid.taken left_old left_mid
+                left_new took taken one;
+            counted = omega (
+              arith,
+              octets,
+              taken,
+              ap length both,
+              ap length whole,
+              length-append (items_octets (items_of records)) (items_octets (item_of task ∷ [])),
+            );
           },
         );
       }

@@ -49,9 +49,11 @@ pub width_field-width : (width : ℕ) → IsWidth width → width_of width ≡ w
 width_field-width width bounds = mod-eq_of_lt (omega (arith, bounds.most))
 
 -- the window that begins at a number with the field of another
-pub new_window-field : (high : ℕ) (window : Window) → window.width < 2 ^ 56 → new_window high (field_of window) ≡ begun_at high window
+pub new_window-field : (high : ℕ) (window : Window) → window.width < 2 ^ 56
+    → new_window high (field_of window) ≡ begun_at high window
 new_window-field high window low =
-    ap (λ (n : ℕ). record (begun_at high window) { width = n; back = back_of (field_of window) }) (width_of-field window.back window.width low)
+    ap (λ (n : ℕ). record (begun_at high window) { width = n; back = back_of (field_of window) })
+    (width_of-field window.back window.width low)
     ∙ ap (λ (n : ℕ). record (begun_at high window) { back = n }) (back_of-field window.back window.width low)
 
 pub field_of-new_window : (high field : ℕ) → field_of (new_window high field) ≡ field

@@ -7,7 +7,8 @@ use Rattle.replay_window.specs.Window.{begun_at, lowered_to, field_of}
 pub lowered_high : (floor : ℕ) (window : Window) → (lowered_to floor window).high ≡ min window.high floor
 lowered_high floor window = by (nat_lt floor window.high) refl
   where
-    by : (b : Bool) → nat_lt floor window.high ≡ b → (cond b (begun_at floor window) window).high ≡ min window.high floor
+    by : (b : Bool) → nat_lt floor window.high ≡ b → (cond b (begun_at floor window) window).high
+        ≡ min window.high floor
     by true above = let low : floor < window.high = ltb-true _ _ above in omega arith
     by false above = let high : window.high ≤ floor = ltb-false _ _ above in omega arith
 

@@ -1,5 +1,6 @@
 -- Numbers that are past (`past_stays`, `accepted_once`).
-use Rattle.std.proofs.Common.{◌≡◌, ℕ, ◌-◌, ◌<◌, ◌≤◌, ◌⊎◌, max, Bool, true, false, cond, nat_lt, refl, inl, inr, ⊎_elim, arith}
+use Rattle.std.proofs.Common.{◌≡◌, ℕ, ◌-◌, ◌<◌, ◌≤◌, ◌⊎◌, max, Bool, true, false, cond, nat_lt, refl, inl, inr, ⊎_elim}
+use Rattle.std.proofs.Common.{arith}
 use Rattle.std.specs.List.{Contains}
 use Rattle.std.specs.FinSet as set
 use Rattle.std.proofs.lemmas.Bool.{cases_lt}
@@ -9,11 +10,13 @@ use Rattle.replay_window.specs.Window.{accepted, begun_at, lowered_to, IsFresh, 
 use Rattle.replay_window.specs.Past.{IsPast}
 use Rattle.replay_window.proofs.Numbers.{listed, from_listed, kept_near}
 
-past_by : (window : Window) (n m : ℕ) → m ≤ max window.high n → (m ≡ n) ⊎ (set.contains window.taken m ≡ true) → IsPast (accepted n window) m
+past_by : (window : Window) (n m : ℕ) → m ≤ max window.high n → (m ≡ n) ⊎ (set.contains window.taken m ≡ true)
+    → IsPast (accepted n window) m
 past_by window n m low which = record {
   up_to_high = low;
   cause = ⊎_elim
-      (λ (near : max window.high n - m < 64). inr (inr (listed _ m (kept_near window.taken n (max window.high n) m which near))))
+      (λ (near : max window.high n - m < 64).
+      inr (inr (listed _ m (kept_near window.taken n (max window.high n) m which near))))
       (λ (far : 64 ≤ max window.high n - m). inr (inl far))
       (cases_lt (max window.high n - m) 64);
 }

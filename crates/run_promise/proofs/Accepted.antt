@@ -1,5 +1,6 @@
 -- The acceptance of a number is a change that the state allows.
-use Rattle.std.proofs.Common.{◌≡◌, ℕ, ◌+◌, ◌-◌, ◌<◌, ◌≤◌, min, Bool, true, false, cond, nat_lt, Option, IsSomeAnd, refl, sym, ap, subst, arith}
+use Rattle.std.proofs.Common.{◌≡◌, ℕ, ◌+◌, ◌-◌, ◌<◌, ◌≤◌, min, Bool, true, false, cond, nat_lt, Option, IsSomeAnd, refl}
+use Rattle.std.proofs.Common.{sym, ap, subst, arith}
 use Rattle.std.specs.Option.{option_map_or}
 use Rattle.std.proofs.lemmas.Bool.Decides.{nat_tests}
 use Rattle.sdls_base.specs.KeyId.{end_of}
@@ -32,7 +33,8 @@ raised_by floor number accept end false test low below some =
     let covered : number ≤ floor = grind (arith, nat_tests) in
     record { grown = omega arith; covered = covered; below = low }
 
-pub accept_allowed : (plan : PlanLines) (state : State) (spi key number : ℕ) → KeepsRules state → MayBeAccepted state spi key number
+pub accept_allowed : (plan : PlanLines) (state : State) (spi key number : ℕ) → KeepsRules state
+    → MayBeAccepted state spi key number
     → 1 ≤ plan.accept → Allows state (Accepted spi key number (raised_floor plan state key number))
 accept_allowed plan state spi key number rules may some =
     let at : IsThere state key = is_there state key rules may.held in
@@ -41,7 +43,8 @@ accept_allowed plan state spi key number rules may some =
     (floor_below state key rules may.held) may.below_end some in
     record {
       row = may.row;
-      held = subst (λ (o : Option KeyRow). IsSomeAnd o (λ held. held.floor ≤ raised_floor plan state key number)) (sym at.is)
+      held = subst (λ (o : Option KeyRow). IsSomeAnd o (λ held. held.floor ≤ raised_floor plan state key number))
+          (sym at.is)
           (subst (λ (n : ℕ). n ≤ raised_floor plan state key number)
           (ap (λ (o : Option KeyRow). option_map_or (λ (row : KeyRow). row.floor) o 0) at.is) raised.grown);
       covered = raised.covered;
@@ -50,7 +53,8 @@ accept_allowed plan state spi key number rules may some =
 
 -- a reply that is not Accepted changes nothing
 pub nothing_changed : (plan : PlanLines) (state : State) (reply : OpenReply)
-    → ((spi key number from to : ℕ) → reply ≡ opens.Accepted spi key number from to → ⊥) → changes.Nothing ≡ frame_change plan state reply
+    → ((spi key number from to : ℕ) → reply ≡ opens.Accepted spi key number from to → ⊥)
+    → changes.Nothing ≡ frame_change plan state reply
 nothing_changed plan state (opens.Accepted spi key number from to) not = absurd (not spi key number from to refl)
 nothing_changed plan state opens.Clear not = refl
 nothing_changed plan state (opens.Layout number) not = refl

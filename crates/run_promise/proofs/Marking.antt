@@ -1,5 +1,6 @@
 -- Reserves and releases are changes that the state allows.
-use Rattle.std.proofs.Common.{◌≡◌, ℕ, zero, suc, ◌+◌, ◌<◌, ◌≤◌, min, Bool, true, false, cond, ◌&&◌, nat_eq, List, [], ◌∷◌, Option, Some, None, IsSome, refl, sym, ◌∙◌, ap, subst, arith}
+use Rattle.std.proofs.Common.{◌≡◌, ℕ, zero, suc, ◌+◌, ◌<◌, ◌≤◌, min, Bool, true, false, cond, ◌&&◌, nat_eq, List, []}
+use Rattle.std.proofs.Common.{◌∷◌, Option, Some, None, IsSome, refl, sym, ◌∙◌, ap, subst, arith}
 use Rattle.std.specs.List.{slice_get}
 use Rattle.std.specs.Option.{option_map, option_map_or, option_and_then}
 use Rattle.std.proofs.lemmas.Bool.{false≢true}
@@ -54,13 +55,15 @@ is_there state key rules some =
       rules = held_rules state key row rules is;
     }
 
-pub floor_below : (state : State) (key : ℕ) → KeepsRules state → IsSome (key_row state key) → floor_of state key < end_of key
+pub floor_below : (state : State) (key : ℕ) → KeepsRules state → IsSome (key_row state key)
+    → floor_of state key < end_of key
 floor_below state key rules some =
     let at : IsThere state key = is_there state key rules some in
     subst (λ (o : Option KeyRow). option_map_or (λ (row : KeyRow). row.floor) o 0 < end_of key) (sym at.is)
     (subst (λ (id : ℕ). at.row.floor < end_of id) at.id at.rules.floor_below_end)
 
-pub reserve_allowed : (plan : PlanLines) (state : State) (key number : ℕ) → KeepsRules state → IsSome (key_row state key)
+pub reserve_allowed : (plan : PlanLines) (state : State) (key number : ℕ) → KeepsRules state
+    → IsSome (key_row state key)
     → number < end_of key → 1 ≤ plan.block → Allows state (reserve_of plan state key number).change
 reserve_allowed plan state key number rules some below block = record {
   there = some;
@@ -76,23 +79,29 @@ mark_set state key mark floor rules some =
     let at : IsThere state key = is_there state key rules some in
     let f : KeyRow → KeyRow = λ row. record row { mark = mark; floor = floor } in
     ap (λ (o : Option KeyRow). option_map_or (λ (row : KeyRow). row.mark) o 1)
-    (row_of_changed state.keys key key f (λ row. refl) ∙ ap (option_map (λ (row : KeyRow). cond (nat_eq row.id key) (f row) row)) at.is)
+    (row_of_changed state.keys key key f (λ row. refl)
+    ∙ ap (option_map (λ (row : KeyRow). cond (nat_eq row.id key) (f row) row)) at.is)
     ∙ ap (λ (b : Bool). (cond b (f at.row) at.row).mark) (number_test at.row.id key at.id)
 
 -- the mark that a reserve leaves is above the number
-pub mark_above : (plan : PlanLines) (state next : State) (key number mark : ℕ) → KeepsRules state → IsSome (key_row state key)
-    → number < end_of key → 1 ≤ plan.block → next ≡ applied state (reserve_of plan state key number).change → mark ≡ mark_of next key
+pub mark_above : (plan : PlanLines) (state next : State) (key number mark : ℕ) → KeepsRules state
+    → IsSome (key_row state key)
+    → number < end_of key → 1 ≤ plan.block → next ≡ applied state (reserve_of plan state key number).change
+    → mark ≡ mark_of next key
     → number < mark
 mark_above plan state next key number mark rules some below block is mark_is =
     let same : mark ≡ min (number + plan.block) (end_of key) =
-    mark_is ∙ ap (λ (s : State). mark_of s key) is ∙ mark_set state key (min (number + plan.block) (end_of key)) (floor_of state key) rules some in
+    mark_is ∙ ap (λ (s : State). mark_of s key) is ∙ mark_set state key (min (number + plan.block) (end_of key))
+    (floor_of state key) rules some in
     omega arith
 
 -- a row that stands in a list is found by its identifier
-there_at : (rows : List KeyRow) (place : ℕ) (held : KeyRow) → slice_get rows place ≡ Some held → IsSome (row_of rows held.id)
+there_at : (rows : List KeyRow) (place : ℕ) (held : KeyRow) → slice_get rows place ≡ Some held
+    → IsSome (row_of rows held.id)
 there_at [] place held there = absurd (none-some held there)
 there_at (row ∷ rows) zero held there =
-    let same : nat_eq row.id held.id ≡ true = number_test row.id held.id (ap (λ (r : KeyRow). r.id) (same_Some row held there)) in
+    let same : nat_eq row.id held.id ≡ true =
+    number_test row.id held.id (ap (λ (r : KeyRow). r.id) (same_Some row held there)) in
     subst (λ (b : Bool). IsSome (cond b (Some row) (row_of rows held.id))) (sym same) refl
 there_at (row ∷ rows) (suc place) held there = by (nat_eq row.id held.id) (there_at rows place held there)
   where
@@ -100,30 +109,40 @@ there_at (row ∷ rows) (suc place) held there = by (nat_eq row.id held.id) (the
     by true rest = refl
     by false rest = rest
 
-high_below : (direction : Direction) (own : Option ℕ) (key high : ℕ) → HasHigh direction own high → (is_receiving direction && is_key key own) ≡ true
+high_below : (direction : Direction) (own : Option ℕ) (key high : ℕ) → HasHigh direction own high
+    → (is_receiving direction && is_key key own) ≡ true
     → high < end_of key
 high_below Receive (Some own) key high has test = subst (λ (n : ℕ). high < end_of n) (equal_number own key test) has
 high_below Receive None key high has test = absurd cc
 high_below Send own key high has test = absurd cc
 
-released_below : (state : State) (held : KeyRow) → KeepsRules state → held.floor < end_of held.id → released_floor state held < end_of held.id
+released_below : (state : State) (held : KeyRow) → KeepsRules state → held.floor < end_of held.id
+    → released_floor state held < end_of held.id
 released_below state held rules low = by (receiver_with state.associations held.id) refl
   where
     by : (o : Option SaRow) → receiver_with state.associations held.id ≡ o
         → option_map_or (λ (row : SaRow). row.window.high) o held.floor < end_of held.id
     by None is = low
     by (Some row) is =
-        high_below row.direction row.key held.id row.window.high (found IsSaRow (receives_with held.id) state.associations row is rules.associations.each).high
+        high_below row.direction row.key held.id row.window.high
+        (found IsSaRow (receives_with held.id) state.associations row is rules.associations.each).high
         (found_passes (receives_with held.id) state.associations row is)
 
 release_by : (state : State) (word : ℕ) (held : KeyRow) (b : Bool) (entry : Entry)
-    → cond b None (Some (record { index = None; seen = Word word; change = Marks held.id (min held.mark word) (released_floor state held) })) ≡ Some entry
+    → cond b None
+    (Some (record {
+      index = None;
+      seen = Word word;
+      change =
+          Marks held.id (min held.mark word) (released_floor state held);
+    })) ≡ Some entry
     → entry.change ≡ Marks held.id (min held.mark word) (released_floor state held)
 release_by state word held true entry is = absurd (none-some entry is)
 release_by state word held false entry is = ap (λ (e : Entry). e.change) (sym (same_Some _ entry is))
 
 -- the release of a key is allowed
-pub release_of_allowed : (state : State) (word : ℕ) (held : KeyRow) (entry : Entry) → KeepsRules state → IsKeyRow held → IsSome (key_row state held.id)
+pub release_of_allowed : (state : State) (word : ℕ) (held : KeyRow) (entry : Entry) → KeepsRules state → IsKeyRow held
+    → IsSome (key_row state held.id)
     → 1 ≤ word → release_of state word held ≡ Some entry → Allows state entry.change
 release_of_allowed state word held entry rules row there some is =
     subst (Allows state) (sym (release_by state word held (is_released state held word) entry is))
@@ -136,7 +155,8 @@ release_of_allowed state word held entry rules row there some is =
       below_end = released_below state held rules row.floor_below_end;
     })
 
-pub release_allowed : (state : State) (place word : ℕ) (entry : Entry) → KeepsRules state → 1 ≤ word → release_at state place word ≡ Some entry
+pub release_allowed : (state : State) (place word : ℕ) (entry : Entry) → KeepsRules state → 1 ≤ word
+    → release_at state place word ≡ Some entry
     → Allows state entry.change
 release_allowed state place word entry rules some is = by (slice_get state.keys place) refl is
   where

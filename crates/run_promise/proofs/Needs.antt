@@ -7,7 +7,8 @@ use Rattle.ep_core.specs.declared.need.Need.{Need}
 use Rattle.ep_core.specs.Need.{need_of}
 use Rattle.run_promise.specs.History.{IsNeedOf}
 
-pub need_one : (state : State) (octets : List ℕ) (need other : Need) → IsNeedOf state octets need → IsNeedOf state octets other → need ≡ other
+pub need_one : (state : State) (octets : List ℕ) (need other : Need) → IsNeedOf state octets need
+    → IsNeedOf state octets other → need ≡ other
 need_one state octets need other (inl (command, spelled, is)) (inl (again, spells, also)) =
     is ∙ ap (need_of state) (one_value command again octets spelled spells) ∙ sym also
 need_one state octets need other (inl (command, spelled, is)) (inr (offset, fault, also)) =

@@ -33,7 +33,8 @@ pub record Begin : Type 0 where
 
 -- ---- the call
 
--- a call: source and site before and after it, whether the site tells what it holds, and the status and the entries that
+-- a call: source and site before and after it, whether the site tells what it holds, and the status and the entries
+-- that
 -- it answers
 pub record CallSeen : Type 0 where
   pub source : SourceSeen

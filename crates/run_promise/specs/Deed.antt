@@ -66,8 +66,10 @@ abbrev pub is_ordered : Begin → Deed → Bool
 is_ordered begin deed = tells_entry deed || tells_epoch begin deed
 
 -- The later answer stands behind the earlier one: its entry, or the entries that it counts, its epoch, its number. A
--- frame that is protected first is answered by a state from before the entry of the later one. Behind an answer that says
--- that the site failed no entry is made, and none fails: a count has all there are, and one that was told before a failed
+-- frame that is protected first is answered by a state from before the entry of the later one. Behind an answer that
+-- says
+-- that the site failed no entry is made, and none fails: a count has all there are, and one that was told before a
+-- failed
 -- one is less.
 pub record StandsBehind (begin : Begin) (history : List Entry) (one other : Deed) : Type 0 where
   pub entries : IsTrue (tells_entry one) → IsTrue (tells_entry other) → one.answer.position < other.answer.position

@@ -71,7 +71,8 @@ abbrev pub IsServed : CallSeen → Account → PlanLines → State → List ℕ 
 IsServed call account plan state image sunk = SoundMoment (course_of call account plan state)
     (deeds_in account) (end_octets call account.told) (image_at_entry call) image (sunk_since call sunk)
 
--- A segment is answered before the next one is handled. The image and its opened forms show no more than the first `most`
+-- A segment is answered before the next one is handled. The image and its opened forms show no more than the first
+-- `most`
 -- entries. Where one of these is of a record, all octets of the answers of the segments before the record's were sunk.
 pub record IsFenced (call : CallSeen) (account : Account) (state : State) (image sunk : List ℕ) : Type 0 where
   pub most : ℕ
@@ -82,7 +83,8 @@ pub record IsFenced (call : CallSeen) (account : Account) (state : State) (image
       → length (answers_octets (answers_of_first place.segment account.handled account.answers))
       ≤ length (sunk_since call sunk)
 
--- The run is sound, and each of its moments is so, or early. Each moment behind the opening is fenced. The fields of its
+-- The run is sound, and each of its moments is so, or early. Each moment behind the opening is fenced. The fields of
+-- its
 -- End have their widths.
 pub record IsSoundCall (call : CallSeen) (account : Account) (plan : PlanLines) (state : State) : Type 0 where
   pub run : IsSound (course_of call account plan state) account.handled (deeds_in account)

@@ -90,7 +90,8 @@ pub record CanRaiseFloor (course : Course) (p : ℕ) (task : Record) : Type 0 wh
   pub from : ℕ
   pub to : ℕ
   pub field : List ℕ
-  pub accepts : IsOpenReply course.begin.plan (state_after course p) task.link task.octets (Accepted spi key number from to)
+  pub accepts : IsOpenReply course.begin.plan (state_after course p) task.link task.octets
+      (Accepted spi key number from to)
       field
   pub above : floor_of (state_after course p) key < number
 
@@ -133,7 +134,8 @@ pub record MayAppendOnce (near : ℕ → ℕ → Type 0) (course : Course) (task
 pub record IsBound (course : Course) (task : Record) (answer : Answer) : Type 0 where
   pub reached : answer.position ≤ epoch_after course.entries
   pub binding : Binding
-  pub bound : protect_reply course.begin.plan (state_in course answer.position) task.link task.octets ≡ Ok (Some binding)
+  pub bound : protect_reply course.begin.plan (state_in course answer.position) task.link task.octets
+      ≡ Ok (Some binding)
   pub key_is : answer.key ≡ binding.key
 
 -- the body is the frame protected under a number that the key's word `next` can have been
@@ -216,7 +218,8 @@ pub record IsWanting (answer : Answer) : Type 0 where
   pub told : told_by answer ≡ plain NO_MEMORY 0
   pub position_is : answer.position ≡ 0
 
--- A monitoring message has a reply or a fault (`Reports` says which). The answer counts all entries that there are then.
+-- A monitoring message has a reply or a fault (`Reports` says which). The answer counts all entries that there are
+-- then.
 pub record IsReport (course : Course) (answer : Answer) : Type 0 where
   pub reached : answer.position ≤ length course.entries
   pub said : Result (List ℕ) ℕ

@@ -1,4 +1,5 @@
--- One lane alone: what each record makes of the history before it, and that the words are those of the machine (profile).
+-- One lane alone: what each record makes of the history before it, and that the words are those of the machine
+-- (profile).
 use Rattle.std.specs.Prelude.{◌≡◌, ◌⊎◌, ℕ, ◌+◌, ◌<◌, ◌≤◌, ◌==◌, ◌||◌, Bool, IsTrue, List, [], ◌∷◌, ◌++◌, length, Option}
 use Rattle.std.specs.Prelude.{Some, None, Result, Ok, Err, ◌≢◌, take, slice_get, slice_index, Contains, false}
 use Rattle.std.specs.List.{All}

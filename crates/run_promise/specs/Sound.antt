@@ -66,13 +66,15 @@ IsNearBehind entries deed = (place key high number : ℕ) → Accepts deed.answe
 -- The run is sound: its history is legal, each answer fits its record, no number is used or accepted twice under a key,
 -- one accepted below what an entry before its own accepted under its key is less than 64 below, at most one answer says
 -- that the site failed while an entry was stored, the answers stand in order, no entry is of a record whose answer says
--- that it made none, each monitoring message has the answer of the log, and the fields of each answer have their widths.
+-- that it made none, each monitoring message has the answer of the log, and the fields of each answer have their
+-- widths.
 pub record IsSound (course : Course) (places : List Place) (deeds : List Deed) : Type 0 where
   pub history : IsLegalHistory course.begin.plan course.begin.start places course.entries
   pub answers : All (λ deed. Fits (NearWord course.begin.start course.entries (records_of places)) course deed.task
       deed.answer) deeds
   pub pairs : AllPairs (Differ Uses) deeds
-  pub pairs_above : All (λ deed. (key number : ℕ) → Uses deed.answer key number → mark_of course.begin.start key ≤ number)
+  pub pairs_above : All (λ deed. (key number : ℕ) → Uses deed.answer key number
+      → mark_of course.begin.start key ≤ number)
       deeds
   pub accepted : AllPairs (Differ Accepts) deeds
   pub accepted_above : All (λ deed. (key number : ℕ) → Accepts deed.answer key number
@@ -88,7 +90,8 @@ pub record IsSound (course : Course) (places : List Place) (deeds : List Deed) :
 -- accepted are among what that state knows.
 pub record IsCoveredBy (course : Course) (p : ℕ) (deed : Deed) : Type 0 where
   pub entry : IsTrue (tells_entry deed) → deed.answer.position ≤ p
-  pub epoch : IsTrue (is_ordered course.begin deed) → epoch_told course.entries deed ≤ epoch_after (take p course.entries)
+  pub epoch : IsTrue (is_ordered course.begin deed) → epoch_told course.entries deed
+      ≤ epoch_after (take p course.entries)
   pub used : (key number : ℕ) → Uses deed.answer key number
       → number < mark_of (after_first course.begin.start course.entries p) key
   pub accepted : (key number : ℕ) → Accepts deed.answer key number
@@ -107,7 +110,8 @@ pub record ShowsServed (course : Course) (deeds : List Deed) (image : List ℕ) 
   pub covers : (q : ℕ) → p ≤ q → q ≤ length course.entries → EachBegun (IsCoveredBy course q) count deeds
 
 -- A moment of the run: what was sunk is a front of the octets of the answers and of End. While the book is opened no
--- answer was begun, and the image is one that the opening of that at the start may leave; while it serves, what the image
+-- answer was begun, and the image is one that the opening of that at the start may leave; while it serves, what the
+-- image
 -- shows covers the answers that were begun.
 pub record SoundMoment (course : Course) (deeds : List Deed) (ends : List ℕ) (start image sunk : List ℕ) : Type 0 where
   pub front : sunk ≡ take (length sunk) (deeds_octets deeds ++ ends)

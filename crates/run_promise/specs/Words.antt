@@ -56,7 +56,8 @@ IsAt rows words (Drew row number) = (row < rows) × (number ≡ words row)
 IsAt rows words (Raised row word number) = (row < rows) × (word ≡ words row)
 IsAt rows words (Overdrew row number) = ⊥
 
--- The move found the word of one of so many rows, no lower than the first of these words, and left it no higher than the
+-- The move found the word of one of so many rows, no lower than the first of these words, and left it no higher than
+-- the
 -- last.
 abbrev pub LiesBetween : ℕ → (ℕ → ℕ) → (ℕ → ℕ) → Move → Type 0
 LiesBetween rows first last Kept = ⊤
@@ -149,9 +150,11 @@ adds_each row move_of (task ∷ tasks) = adds row (move_of task.index) + adds_ea
 abbrev pub CountsEntry : ℕ → ℕ → Deed → Type 0
 CountsEntry p index deed = IsTrue (tells_count deed) → ((p < deed.answer.position) ↔ (index < deed.task.index))
 
--- Each record that was handled made one move, on whichever lane, and its answer tells it. Of a record without an answer,
+-- Each record that was handled made one move, on whichever lane, and its answer tells it. Of a record without an
+-- answer,
 -- of one that is answered 31 or 32 (but an Open), and of a command that is answered 33, the move may be any one that
--- lies between the marks at the start and the words, as each move does. Each reserve, of the first `ends` entries, is of
+-- lies between the marks at the start and the words, as each move does. Each reserve, of the first `ends` entries, is
+-- of
 -- a number that a record drew. A count that is told is that of the entries of the records before, their reserves among
 -- them. The words are the marks at the start and what all moves added.
 pub record MovedWords (call : CallSeen) (account : Account) (state : State) (ends : ℕ) (words : List ℕ) : Type 0 where

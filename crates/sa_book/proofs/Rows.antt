@@ -1,11 +1,15 @@
 -- Rows by their place, and what a write, an insertion and a removal leave of the rules.
-use Rattle.std.proofs.Common.{◌≡◌, ◌≢◌, ℕ, zero, suc, ◌+◌, ◌-◌, ◌<◌, ◌≤◌, Bool, true, false, cond, not, nat_eq, nat_lt, List, [], ◌∷◌, ◌++◌, length, get_or, set, take, drop, map, Option, Some, None, IsSome, IsSomeAnd, sym, refl, ap, ◌∙◌, subst, inl, inr, ⊎_elim, ◌⊎◌, arith, rules}
+use Rattle.std.proofs.Common.{◌≡◌, ◌≢◌, ℕ, zero, suc, ◌+◌, ◌-◌, ◌<◌, ◌≤◌, Bool, true, false, cond, not, nat_eq, nat_lt}
+use Rattle.std.proofs.Common.{List, [], ◌∷◌, ◌++◌, length, get_or, set, take, drop, map, Option, Some, None, IsSome}
+use Rattle.std.proofs.Common.{IsSomeAnd, sym, refl, ap, ◌∙◌, subst, inl, inr, ⊎_elim, ◌⊎◌, arith, rules}
 use Rattle.std.specs.List.{filter, insert, remove, position, position_or_len, AllPairs, Contains}
 use Rattle.std.specs.Option.{unwrap_or}
 use Rattle.std.proofs.lemmas.Bool.{cases_eq, cases_lt}
 use Rattle.std.proofs.lemmas.Bool.Decides.{nat_tests}
-use Rattle.std.proofs.lemmas.List.{length-take, get_or-take, length-map, get_or-map, get_or_default, get_or-set_same, get_or-set_other, same_lists, length-set, length_push}
-use Rattle.std.proofs.lemmas.List.Edits.{length-insert, get_or-insert_below, get_or-insert_at, get_or-insert_above, length-remove}
+use Rattle.std.proofs.lemmas.List.{length-take, get_or-take, length-map, get_or-map, get_or_default, get_or-set_same}
+use Rattle.std.proofs.lemmas.List.{get_or-set_other, same_lists, length-set, length_push}
+use Rattle.std.proofs.lemmas.List.Edits.{length-insert, get_or-insert_below, get_or-insert_at, get_or-insert_above}
+use Rattle.std.proofs.lemmas.List.Edits.{length-remove}
 use Rattle.std.proofs.lemmas.List.Elements.{All-set, All-push, All-append, All-cons, All-take, All-drop}
 use Rattle.std.proofs.lemmas.List.Sums.{prefix_len-le-length, fails_before_first, passes_at_first}
 use Rattle.std.proofs.lemmas.List.Quantifiers.{position-Some, all_pairs_push, all_pairs_remove}
@@ -31,25 +35,30 @@ other_number a b h = grind (arith, nat_tests)
 
 -- judging the row of an association
 
-pub on_place : (rows : List SaRow) (spi i : ℕ) (row : SaRow) (f : SaRow → Option SaRefusal) → place_of rows spi ≡ Some i → row ≡ get_or rows i row → on_row (row_of rows spi) f ≡ f row
+pub on_place : (rows : List SaRow) (spi i : ℕ) (row : SaRow) (f : SaRow → Option SaRefusal) → place_of rows spi ≡ Some i
+    → row ≡ get_or rows i row → on_row (row_of rows spi) f ≡ f row
 on_place rows spi i row f place read =
     ap (λ (r : Option SaRow). on_row r f) (find_placed (λ (r : SaRow). nat_eq r.spi spi) rows i row place)
     ∙ ap f (sym read)
 
-pub on_nowhere : (rows : List SaRow) (spi : ℕ) (f : SaRow → Option SaRefusal) → place_of rows spi ≡ None → on_row (row_of rows spi) f ≡ Some UnknownSpi
-on_nowhere rows spi f nowhere = ap (λ (r : Option SaRow). on_row r f) (find_nowhere (λ (r : SaRow). nat_eq r.spi spi) rows nowhere)
+pub on_nowhere : (rows : List SaRow) (spi : ℕ) (f : SaRow → Option SaRefusal) → place_of rows spi ≡ None
+    → on_row (row_of rows spi) f ≡ Some UnknownSpi
+on_nowhere rows spi f nowhere =
+    ap (λ (r : Option SaRow). on_row r f) (find_nowhere (λ (r : SaRow). nat_eq r.spi spi) rows nowhere)
 
 pub nowhere_row : (rows : List SaRow) (spi : ℕ) → place_of rows spi ≡ None → row_of rows spi ≡ None
 nowhere_row rows spi nowhere = find_nowhere (λ (r : SaRow). nat_eq r.spi spi) rows nowhere
 
-pub row_of_placed : (rows : List SaRow) (spi i : ℕ) (row : SaRow) → place_of rows spi ≡ Some i → row ≡ get_or rows i row → row_of rows spi ≡ Some row
+pub row_of_placed : (rows : List SaRow) (spi i : ℕ) (row : SaRow) → place_of rows spi ≡ Some i → row ≡ get_or rows i row
+    → row_of rows spi ≡ Some row
 row_of_placed rows spi i row place read =
     find_placed (λ (r : SaRow). nat_eq r.spi spi) rows i row place ∙ ap (λ (r : SaRow). Some r) (sym read)
 
 pub within_place : (rows : List SaRow) (spi i : ℕ) (row : SaRow) → place_of rows spi ≡ Some i → i < length rows
 within_place rows spi i row place = (position-Some _ rows i row place).0
 
-pub named_place : (rows : List SaRow) (spi i : ℕ) (row : SaRow) → place_of rows spi ≡ Some i → row ≡ get_or rows i row → row.spi ≡ spi
+pub named_place : (rows : List SaRow) (spi i : ℕ) (row : SaRow) → place_of rows spi ≡ Some i → row ≡ get_or rows i row
+    → row.spi ≡ spi
 named_place rows spi i row place read =
     ap (λ (r : SaRow). r.spi) read ∙ same_number _ _ (position-Some _ rows i row place).1
 
@@ -57,7 +66,8 @@ row_at : (rows : List SaRow) (i : ℕ) (row d : SaRow) → i < length rows → r
 row_at rows i row d within read = get_or_default rows i d row within ∙ sym read
 
 -- two reads at one place
-pub same_read : (rows : List SaRow) (i : ℕ) (row other : SaRow) → i < length rows → row ≡ get_or rows i row → other ≡ get_or rows i other → row ≡ other
+pub same_read : (rows : List SaRow) (i : ℕ) (row other : SaRow) → i < length rows → row ≡ get_or rows i row
+    → other ≡ get_or rows i other → row ≡ other
 same_read rows i row other within read again = sym (row_at rows i row other within read) ∙ sym again
 
 there : (rows : List SaRow) (spi : ℕ) (o : Option ℕ) → place_of rows spi ≡ o → IsSome (row_of rows spi) → IsSome o
@@ -75,14 +85,16 @@ or_end p xs =
     grind (arith, nat_tests)
 
 -- a row elsewhere has another index
-other_index : (rows : List SaRow) (i k : ℕ) (d : SaRow) → IsSaBook rows → i < length rows → k < length rows → k ≢ i → (get_or rows k d).spi ≢ (get_or rows i d).spi
+other_index : (rows : List SaRow) (i k : ℕ) (d : SaRow) → IsSaBook rows → i < length rows → k < length rows → k ≢ i
+    → (get_or rows k d).spi ≢ (get_or rows i d).spi
 other_index rows i k d ok at_i at_k not_i =
     ⊎_elim (λ (less : k < i). let o = (ok.apart k i d less at_i).order in λ same. omega arith)
     (λ (more : i < k). let o = (ok.apart i k d more at_k).order in λ same. omega arith)
     (let apart : (k < i) ⊎ (i < k) = ⊎_elim (λ x. inl x) (λ x. inr (omega arith)) (cases_lt k i) in apart)
 
 -- a write of a changed row at its place changes that row alone
-pub set-changed : (rows : List SaRow) (spi i : ℕ) (f : SaRow → SaRow) (row : SaRow) → IsSaBook rows → place_of rows spi ≡ Some i → row ≡ get_or rows i row → set rows i (f row) ≡ changed rows spi f
+pub set-changed : (rows : List SaRow) (spi i : ℕ) (f : SaRow → SaRow) (row : SaRow) → IsSaBook rows
+    → place_of rows spi ≡ Some i → row ≡ get_or rows i row → set rows i (f row) ≡ changed rows spi f
 set-changed rows spi i f row ok place read =
     let g : SaRow → SaRow = λ old. cond (nat_eq old.spi spi) (f old) old in
     let found = position-Some (λ (r : SaRow). nat_eq r.spi spi) rows i row place in
@@ -109,7 +121,8 @@ set-changed rows spi i f row ok place read =
 
 -- The rules of two rows that do not speak of their order.
 pub record Agree (a b : SaRow) : Type 0 where
-  pub channels : a.state ≡ Operational → b.state ≡ Operational → a.direction ≡ b.direction → (channel : ℕ) → Contains a.channels channel → Contains b.channels channel → ⊥
+  pub channels : a.state ≡ Operational → b.state ≡ Operational → a.direction ≡ b.direction → (channel : ℕ)
+      → Contains a.channels channel → Contains b.channels channel → ⊥
   pub keys : a.direction ≡ Receive → b.direction ≡ Receive → (key : ℕ) → a.key ≡ Some key → b.key ≡ Some key → ⊥
 
 agree_before : (a b : SaRow) → RowsAreApart a b → Agree b a
@@ -123,7 +136,8 @@ agree_behind : (a b : SaRow) → RowsAreApart a b → Agree a b
 agree_behind a b ok = record { channels = ok.channels; keys = ok.keys }
 
 -- a row agrees with every other
-pub agree_elsewhere : (rows : List SaRow) (i k : ℕ) (d : SaRow) → IsSaBook rows → i < length rows → k < length rows → k ≢ i → Agree (get_or rows i d) (get_or rows k d)
+pub agree_elsewhere : (rows : List SaRow) (i k : ℕ) (d : SaRow) → IsSaBook rows → i < length rows → k < length rows
+    → k ≢ i → Agree (get_or rows i d) (get_or rows k d)
 agree_elsewhere rows i k d ok at_i at_k not_i =
     ⊎_elim (λ (less : k < i). agree_before (get_or rows k d) (get_or rows i d) (ok.apart k i d less at_i))
     (λ (more : i < k). agree_behind (get_or rows i d) (get_or rows k d) (ok.apart i k d more at_k))
@@ -141,11 +155,16 @@ apart_behind : (new other : SaRow) → new.spi < other.spi → Agree new other �
 apart_behind new other order ok = record { order = order; channels = ok.channels; keys = ok.keys }
 
 -- a write of a row that keeps its index and agrees with every other keeps the rules
-pub IsSaBook-set : (rows : List SaRow) (i : ℕ) (row new : SaRow) → IsSaBook rows → i < length rows → row ≡ get_or rows i row → IsSaRow new → new.spi ≡ row.spi → ((k : ℕ) (d : SaRow) → k < length rows → k ≢ i → Agree row (get_or rows k d) → Agree new (get_or rows k d)) → IsSaBook (set rows i new)
+pub IsSaBook-set : (rows : List SaRow) (i : ℕ) (row new : SaRow) → IsSaBook rows → i < length rows
+    → row ≡ get_or rows i row → IsSaRow new → new.spi ≡ row.spi
+    → ((k : ℕ) (d : SaRow) → k < length rows → k ≢ i → Agree row (get_or rows k d) → Agree new (get_or rows k d))
+    → IsSaBook (set rows i new)
 IsSaBook-set rows i row new ok within read rules same_spi agrees =
     let at_i : (d : SaRow) → get_or rows i d ≡ row = λ d. row_at rows i row d within read in
     let agree : (k : ℕ) (d : SaRow) → k < length rows → k ≢ i → Agree new (get_or rows k d) =
-    λ k d low not_i. agrees k d low not_i (subst (λ (r : SaRow). Agree r (get_or rows k d)) (at_i d) (agree_elsewhere rows i k d ok within low not_i)) in
+    λ k d low not_i.
+    agrees k d low not_i (subst (λ (r : SaRow). Agree r (get_or rows k d)) (at_i d)
+    (agree_elsewhere rows i k d ok within low not_i)) in
     record {
       most = subst (λ n. n ≤ MOST_ASSOCIATIONS) (sym (length-set rows i new)) ok.most;
       each = All-set IsSaRow rows i new rules ok.each;
@@ -164,24 +183,28 @@ IsSaBook-set rows i row new ok within read rules same_spi agrees =
     }
 
 -- the rules of the row at a place
-pub rules_at : (rows : List SaRow) (i : ℕ) (row : SaRow) → IsSaBook rows → i < length rows → row ≡ get_or rows i row → IsSaRow row
+pub rules_at : (rows : List SaRow) (i : ℕ) (row : SaRow) → IsSaBook rows → i < length rows → row ≡ get_or rows i row
+    → IsSaRow row
 rules_at rows i row ok within read = subst IsSaRow (sym read) (ok.each i row within)
 
 -- removal
 
-filter_all : {X : Type 0} (q : X → Bool) (xs : List X) → ((k : ℕ) (d : X) → k < length xs → q (get_or xs k d) ≡ true) → filter q xs ≡ xs
+filter_all : {X : Type 0} (q : X → Bool) (xs : List X) → ((k : ℕ) (d : X) → k < length xs → q (get_or xs k d) ≡ true)
+    → filter q xs ≡ xs
 filter_all q [] h = refl
 filter_all q (x ∷ xs) h =
     chosen (q x) (x ∷ filter q xs) (filter q xs) (h zero x (omega arith))
     ∙ ap (λ ys. x ∷ ys) (filter_all q xs (λ k d low. h (suc k) d (omega arith)))
 
-removed_one : {X : Type 0} (q : X → Bool) (xs : List X) (i : ℕ) → i < length xs → ((d : X) → q (get_or xs i d) ≡ false) → ((k : ℕ) (d : X) → k < length xs → k ≢ i → q (get_or xs k d) ≡ true) → remove xs i ≡ filter q xs
+removed_one : {X : Type 0} (q : X → Bool) (xs : List X) (i : ℕ) → i < length xs → ((d : X) → q (get_or xs i d) ≡ false)
+    → ((k : ℕ) (d : X) → k < length xs → k ≢ i → q (get_or xs k d) ≡ true) → remove xs i ≡ filter q xs
 removed_one q [] i within here others = absurd (omega arith)
 removed_one q (x ∷ xs) zero within here others =
     sym (filter_all q xs (λ k d low. others (suc k) d (omega arith) (omega arith)))
     ∙ sym (left_out (q x) (x ∷ filter q xs) (filter q xs) (here x))
 removed_one q (x ∷ xs) (suc i) within here others =
-    ap (λ ys. x ∷ ys) (removed_one q xs i (omega arith) here (λ k d low not_i. others (suc k) d (omega arith) (omega arith)))
+    ap (λ ys. x ∷ ys)
+    (removed_one q xs i (omega arith) here (λ k d low not_i. others (suc k) d (omega arith) (omega arith)))
     ∙ sym (chosen (q x) (x ∷ filter q xs) (filter q xs) (others zero x (omega arith) (omega arith)))
 
 not-true : (b : Bool) → b ≡ true → not b ≡ false
@@ -191,20 +214,24 @@ not-false : (b : Bool) → b ≡ false → not b ≡ true
 not-false b h = ap not h
 
 -- a removal at the place of an association leaves the rows without its own
-pub remove-without : (rows : List SaRow) (spi i : ℕ) (row : SaRow) → IsSaBook rows → place_of rows spi ≡ Some i → row ≡ get_or rows i row → remove rows i ≡ without rows spi
+pub remove-without : (rows : List SaRow) (spi i : ℕ) (row : SaRow) → IsSaBook rows → place_of rows spi ≡ Some i
+    → row ≡ get_or rows i row → remove rows i ≡ without rows spi
 remove-without rows spi i row ok place read =
     let found = position-Some (λ (r : SaRow). nat_eq r.spi spi) rows i row place in
-    let named : (d : SaRow) → (get_or rows i d).spi ≡ spi = λ d. ap (λ (r : SaRow). r.spi) (get_or_default rows i d row found.0) ∙ same_number _ _ found.1 in
+    let named : (d : SaRow) → (get_or rows i d).spi ≡ spi =
+    λ d. ap (λ (r : SaRow). r.spi) (get_or_default rows i d row found.0) ∙ same_number _ _ found.1 in
     removed_one (λ (r : SaRow). not (nat_eq r.spi spi)) rows i found.0
     (λ d. not-true _ (equal_number _ _ (named d)))
-    (λ k d low not_i. not-false _ (other_number _ _ (λ same. other_index rows i k d ok found.0 low not_i (same ∙ sym (named d)))))
+    (λ k d low not_i.
+    not-false _ (other_number _ _ (λ same. other_index rows i k d ok found.0 low not_i (same ∙ sym (named d)))))
 
 pub IsSaBook-remove : (rows : List SaRow) (i : ℕ) → IsSaBook rows → i < length rows → IsSaBook (remove rows i)
 IsSaBook-remove rows i ok within =
     let most = ok.most in
     record {
       most = omega (arith, length-remove rows i within);
-      each = All-append IsSaRow (take i rows) (drop (suc i) rows) (All-take IsSaRow i rows ok.each) (All-drop IsSaRow (suc i) rows ok.each);
+      each = All-append IsSaRow (take i rows) (drop (suc i) rows) (All-take IsSaRow i rows ok.each)
+          (All-drop IsSaRow (suc i) rows ok.each);
       apart = all_pairs_remove RowsAreApart rows i within ok.apart;
     }
 
@@ -222,41 +249,52 @@ not_less a b h less = grind (arith, nat_tests)
 lower_of : (a b : ℕ) → (a < b → ⊥) → b ≢ a → b < a
 lower_of a b not_above other = omega arith
 
-inserted_above : {X : Type 0} (xs : List X) (n : ℕ) (y d : X) (k : ℕ) → n < k → n ≤ length xs → get_or (insert xs n y) k d ≡ get_or xs (k - 1) d
+inserted_above : {X : Type 0} (xs : List X) (n : ℕ) (y d : X) (k : ℕ) → n < k → n ≤ length xs
+    → get_or (insert xs n y) k d ≡ get_or xs (k - 1) d
 inserted_above xs n y d k above fits =
     let back : k - 1 + 1 ≡ k = omega arith in
-    subst (λ m. get_or (insert xs n y) m d ≡ get_or xs (k - 1) d) back (get_or-insert_above xs n y d (k - 1) (omega arith) fits)
+    subst (λ m. get_or (insert xs n y) m d ≡ get_or xs (k - 1) d) back
+    (get_or-insert_above xs n y d (k - 1) (omega arith) fits)
 
 -- an insertion in order
-pairs_insert : {X : Type 0} (R : X → X → Type 0) (xs : List X) (n : ℕ) (y : X) → n ≤ length xs → ((k : ℕ) (d : X) → k < n → R (get_or xs k d) y) → ((k : ℕ) (d : X) → n ≤ k → k < length xs → R y (get_or xs k d)) → AllPairs R xs → AllPairs R (insert xs n y)
+pairs_insert : {X : Type 0} (R : X → X → Type 0) (xs : List X) (n : ℕ) (y : X) → n ≤ length xs
+    → ((k : ℕ) (d : X) → k < n → R (get_or xs k d) y) → ((k : ℕ) (d : X) → n ≤ k → k < length xs → R y (get_or xs k d))
+    → AllPairs R xs → AllPairs R (insert xs n y)
 pairs_insert R xs n y fits before behind pairs i j d less end =
     let size = length-insert xs n y fits in
     ⊎_elim
     (λ (i_low : i < n). ⊎_elim
-    (λ (j_low : j < n). rw (get_or-insert_below xs n y d i i_low fits, get_or-insert_below xs n y d j j_low fits) (pairs i j d less (omega arith)))
+    (λ (j_low : j < n). rw (get_or-insert_below xs n y d i i_low fits, get_or-insert_below xs n y d j j_low fits)
+    (pairs i j d less (omega arith)))
     (λ (j_high : n ≤ j). ⊎_elim
     (λ (j_here : j ≡ n).
     subst (λ m. R (get_or (insert xs n y) i d) (get_or (insert xs n y) m d)) (sym j_here)
     (rw (get_or-insert_below xs n y d i i_low fits, get_or-insert_at xs n y d fits) (before i d i_low)))
     (λ (j_other : j ≢ n).
-    rw (get_or-insert_below xs n y d i i_low fits, inserted_above xs n y d j (omega arith) fits) (pairs i (j - 1) d (omega arith) (omega (arith, size))))
+    rw (get_or-insert_below xs n y d i i_low fits, inserted_above xs n y d j (omega arith) fits)
+    (pairs i (j - 1) d (omega arith) (omega (arith, size))))
     (cases_eq j n))
     (cases_lt j n))
     (λ (i_high : n ≤ i). ⊎_elim
     (λ (i_here : i ≡ n).
     subst (λ m. R (get_or (insert xs n y) m d) (get_or (insert xs n y) j d)) (sym i_here)
-    (rw (get_or-insert_at xs n y d fits, inserted_above xs n y d j (omega arith) fits) (behind (j - 1) d (omega arith) (omega (arith, size)))))
+    (rw (get_or-insert_at xs n y d fits, inserted_above xs n y d j (omega arith) fits)
+    (behind (j - 1) d (omega arith) (omega (arith, size)))))
     (λ (i_other : i ≢ n).
-    rw (inserted_above xs n y d i (omega arith) fits, inserted_above xs n y d j (omega arith) fits) (pairs (i - 1) (j - 1) d (omega arith) (omega (arith, size))))
+    rw (inserted_above xs n y d i (omega arith) fits, inserted_above xs n y d j (omega arith) fits)
+    (pairs (i - 1) (j - 1) d (omega arith) (omega (arith, size))))
     (cases_eq i n))
     (cases_lt i n)
 
 -- the place for a row is one of the book
-pub fits_place : (rows : List SaRow) (spi : ℕ) → position_or_len (λ (other : SaRow). nat_lt spi other.spi) rows ≤ length rows
+pub fits_place : (rows : List SaRow) (spi : ℕ) → position_or_len (λ (other : SaRow). nat_lt spi other.spi) rows
+    ≤ length rows
 fits_place rows spi = position_or_len-bound (λ (other : SaRow). nat_lt spi other.spi) rows
 
 -- a row of another index than those there, in its place, keeps the rules
-pub IsSaBook-insert : (rows : List SaRow) (row : SaRow) → IsSaBook rows → length rows + 1 ≤ MOST_ASSOCIATIONS → IsSaRow row → ((k : ℕ) (d : SaRow) → k < length rows → (get_or rows k d).spi ≢ row.spi) → ((other : SaRow) → Agree row other) → IsSaBook (with_row rows row)
+pub IsSaBook-insert : (rows : List SaRow) (row : SaRow) → IsSaBook rows → length rows + 1 ≤ MOST_ASSOCIATIONS
+    → IsSaRow row → ((k : ℕ) (d : SaRow) → k < length rows → (get_or rows k d).spi ≢ row.spi)
+    → ((other : SaRow) → Agree row other) → IsSaBook (with_row rows row)
 IsSaBook-insert rows row ok room rules others agrees =
     let p : SaRow → Bool = λ other. nat_lt row.spi other.spi in
     let n : ℕ = position_or_len p rows in
@@ -293,7 +331,8 @@ there_and (Some x) P h = refl
 there_and None P h = absurd h
 
 -- each row may follow those before it
-pub may_follow : (rows : List SaRow) (i : ℕ) (d : SaRow) → IsSaBook rows → i < length rows → MayFollow (take i rows) (get_or rows i d)
+pub may_follow : (rows : List SaRow) (i : ℕ) (d : SaRow) → IsSaBook rows → i < length rows
+    → MayFollow (take i rows) (get_or rows i d)
 may_follow rows i d ok within =
     let front : length (take i rows) ≡ i = omega (arith, length-take i rows) in
     let most = ok.most in
@@ -303,5 +342,6 @@ may_follow rows i d ok within =
       apart = λ k e low.
           let less : k < i = subst (λ n. k < n) front low in
           subst (λ (row : SaRow). RowsAreApart (get_or (take i rows) k e) row) (sym (get_or_default rows i d e within))
-          (subst (λ (other : SaRow). RowsAreApart other (get_or rows i e)) (sym (get_or-take i rows k e less)) (ok.apart k i e less within));
+          (subst (λ (other : SaRow). RowsAreApart other (get_or rows i e)) (sym (get_or-take i rows k e less))
+          (ok.apart k i e less within));
     }

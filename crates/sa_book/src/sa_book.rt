@@ -1,4 +1,5 @@
-ghost use Rattle.std.specs.Prelude.{◌≡◌, ℕ, ◌+◌, ◌<◌, ◌≤◌, List, length, take, slice_index_or, slice_set, [], ◌∷◌, ◌++◌, All};
+ghost use Rattle.std.specs.Prelude.{◌≡◌, ℕ, ◌+◌, ◌<◌, ◌≤◌, List, length, take, slice_index_or, slice_set, [], ◌∷◌};
+ghost use Rattle.std.specs.Prelude.{◌++◌, All};
 ghost use Rattle.std.specs.Prelude.{Some, IfOk, IfErr, OnOk, OnErr, IsSomeAnd};
 ghost use Rattle.std.specs.Option.{option_map, ForSome};
 ghost use Rattle.std.specs.Result.{result_err};

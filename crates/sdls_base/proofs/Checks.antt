@@ -5,17 +5,20 @@ use Rattle.std.proofs.Common.{arith}
 use Rattle.std.specs.Prelude.{Option, Some, None, not, ◌==◌, if◌then◌else◌}
 
 -- no fault is found where this check does not fail and no later one does
-pub passes : {A : Type 0} (fails : Bool) (fault : A) (later : Option A) → fails ≡ false → later ≡ None → (if fails then Some fault else later) ≡ None
+pub passes : {A : Type 0} (fails : Bool) (fault : A) (later : Option A) → fails ≡ false → later ≡ None
+    → (if fails then Some fault else later) ≡ None
 passes true fault later e f = absurd (cc)
 passes false fault later e f = f
 
 -- where no fault is found, this check does not fail
-pub passed : {A : Type 0} (fails : Bool) (fault : A) (later : Option A) → (if fails then Some fault else later) ≡ None → fails ≡ false
+pub passed : {A : Type 0} (fails : Bool) (fault : A) (later : Option A) → (if fails then Some fault else later) ≡ None
+    → fails ≡ false
 passed true fault later e = absurd (cc)
 passed false fault later e = refl
 
 -- and no later one does
-pub passed_later : {A : Type 0} (fails : Bool) (fault : A) (later : Option A) → (if fails then Some fault else later) ≡ None → later ≡ None
+pub passed_later : {A : Type 0} (fails : Bool) (fault : A) (later : Option A)
+    → (if fails then Some fault else later) ≡ None → later ≡ None
 passed_later true fault later e = absurd (cc)
 passed_later false fault later e = e
 

@@ -1,4 +1,5 @@
--- The number of a state, a direction or a suite stands for it. For the crates above, whose laws of reading again cite these.
+-- The number of a state, a direction or a suite stands for it. For the crates above, whose laws of reading again cite
+-- these.
 use Rattle.std.specs.Prelude.{◌≡◌, Option, Some, None}
 use Rattle.std.proofs.Common.{refl}
 use Rattle.sdls_base.specs.declared.states.Direction.{Direction}
@@ -9,7 +10,8 @@ use Rattle.sdls_base.specs.declared.states.KeyState.{KeyState}
 use Rattle.sdls_base.specs.declared.states.KeyState.TheVariants.{PreActive, Active, Deactivated, Destroyed}
 use Rattle.sdls_base.specs.declared.states.SaState.{SaState}
 use Rattle.sdls_base.specs.declared.states.SaState.TheVariants.{Unkeyed, Keyed, Operational}
-use Rattle.sdls_base.specs.Code.{key_state_code, sa_state_code, new_state_code, direction_code, suite_code, key_state_of, sa_state_of, new_state_of, direction_of, suite_of}
+use Rattle.sdls_base.specs.Code.{key_state_code, sa_state_code, new_state_code, direction_code, suite_code}
+use Rattle.sdls_base.specs.Code.{key_state_of, sa_state_of, new_state_of, direction_of, suite_of}
 
 pub key_state_again : (state : KeyState) → key_state_of (key_state_code state) ≡ state
 key_state_again PreActive = refl

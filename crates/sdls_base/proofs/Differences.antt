@@ -1,5 +1,6 @@
 -- Octets that do not differ are the same: for `same_octets`.
-use Rattle.std.proofs.Common.{◌≡◌, ℕ, ◌<◌, ◌↔◌, List, length, false, sym, ap, ◌∙◌, subst, arith, get_or, ⊎_elim, ◌≢◌, ◌+◌}
+use Rattle.std.proofs.Common.{◌≡◌, ℕ, ◌<◌, ◌↔◌, List, length, false, sym, ap, ◌∙◌, subst, arith, get_or, ⊎_elim, ◌≢◌}
+use Rattle.std.proofs.Common.{◌+◌}
 use Rattle.std.specs.Prelude.{bit_or, bit_xor, ◌==◌}
 use Rattle.std.specs.Str.{bytes_eq}
 use Rattle.std.specs.Bool.{Decides}
@@ -10,12 +11,15 @@ use Rattle.std.proofs.lemmas.Slice.Eq.{bytes_eq-Decides}
 use lib.Bits.{or_add_and, and_le_l, and_le_r, xor_assoc, xor_self, xor_zero_l, xor_zero_r, or_zero_l}
 
 or_none : (a b : ℕ) → bit_or a b ≡ 0 → (a ≡ 0) × (b ≡ 0)
-or_none a b none =
-    (omega (arith, none, or_add_and a b, and_le_l a b, and_le_r a b), omega (arith, none, or_add_and a b, and_le_l a b, and_le_r a b))
+or_none a b none = (
+  omega (arith, none, or_add_and a b, and_le_l a b, and_le_r a b),
+  omega (arith, none, or_add_and a b, and_le_l a b, and_le_r a b),
+)
 
 xor_none : (a b : ℕ) → bit_xor a b ≡ 0 → a ≡ b
 xor_none a b none =
-    sym (xor_zero_r a) ∙ ap (bit_xor a) (sym (xor_self b)) ∙ sym (xor_assoc a b b) ∙ ap (λ (x : ℕ). bit_xor x b) none ∙ xor_zero_l b
+    sym (xor_zero_r a) ∙ ap (bit_xor a) (sym (xor_self b)) ∙ sym (xor_assoc a b b) ∙ ap (λ (x : ℕ). bit_xor x b) none
+    ∙ xor_zero_l b
 
 same_xor : (a b : ℕ) → a ≡ b → bit_xor a b ≡ 0
 same_xor a b same = ap (λ (x : ℕ). bit_xor x b) same ∙ xor_self b
@@ -28,7 +32,8 @@ one_more found a b = (
 )
 
 -- no difference is found exactly where the octets are the same
-pub told-bytes_eq : (found : ℕ) (left right : List ℕ) → (found ≡ 0) ↔ (left ≡ right) → (found == 0) ≡ bytes_eq left right
+pub told-bytes_eq : (found : ℕ) (left right : List ℕ) → (found ≡ 0) ↔ (left ≡ right)
+    → (found == 0) ≡ bytes_eq left right
 told-bytes_eq found left right told =
     same_from_decides (found == 0) (bytes_eq left right)
     ((λ e. told.0 ((Decides-eqb found 0).0 e)), (λ e. (Decides-eqb found 0).1 (told.1 e)))
@@ -41,7 +46,8 @@ nothing_decides P never = ((λ e. absurd (false≢true e)), (λ p. absurd (never
 pub other_length : (left right : List ℕ) → (length left == length right) ≡ false → false ≡ bytes_eq left right
 other_length left right other =
     same_from_decides false (bytes_eq left right)
-    (nothing_decides (left ≡ right) (λ same. absurd (grind (arith, nat_tests, other, ap (λ (xs : List ℕ). length xs) same))))
+    (nothing_decides (left ≡ right)
+    (λ same. absurd (grind (arith, nat_tests, other, ap (λ (xs : List ℕ). length xs) same))))
     (bytes_eq-Decides left right)
 
 -- the octets are the same exactly where each is

@@ -14,7 +14,8 @@ zeros_joined all [] none = refl
 zeros_joined all (octet ∷ octets) none =
     let below : bit_or all octet ≤ fold bit_or (bit_or all octet) octets = first_below (bit_or all octet) octets in
     let is : octet ≡ 0 = omega (arith, none, below, le_or_r all octet) in
-    ap (λ (first : ℕ). first ∷ octets) is ∙ ap (λ (rest : List ℕ). 0 ∷ rest) (zeros_joined (bit_or all octet) octets none)
+    ap (λ (first : ℕ). first ∷ octets) is ∙ ap (λ (rest : List ℕ). 0 ∷ rest)
+    (zeros_joined (bit_or all octet) octets none)
 
 joined_replicate : (n : ℕ) → fold bit_or 0 (replicate n 0) ≡ 0
 joined_replicate zero = refl

@@ -1,16 +1,19 @@
 -- An octet more in the register by one look-up, in the table of the 256 registers after an octet, from zeros; and
 -- four or eight octets more by as many, in that and the tables of those after an octet and octets of zeros.
-use Rattle.std.proofs.Common.{◌≡◌, ℕ, ◌+◌, ◌*◌, ◌/◌, ◌%◌, ◌^◌, ◌<◌, List, [], ◌∷◌, map, slice_index, sym, ◌∙◌, ap, subst, arith, add-zero, lit<}
+use Rattle.std.proofs.Common.{◌≡◌, ℕ, ◌+◌, ◌*◌, ◌/◌, ◌%◌, ◌^◌, ◌<◌, List, [], ◌∷◌, map, slice_index, sym, ◌∙◌, ap}
+use Rattle.std.proofs.Common.{subst, arith, add-zero, lit<}
 use Rattle.std.specs.Prelude.{bit_xor, fold}
 use Rattle.std.specs.List.{range_with_len}
 use Rattle.std.proofs.lemmas.List.FromFn.{get_or-map-range_with_len}
 use Rattle.std.proofs.lemmas.Nat.{xor_lt, xor_block}
 use lib.Bits.{xor_zero_r, xor_zero_l, xor_shifted}
 use Rattle.sdls_base.specs.ErrorControl.{IsRemainder, times_generator, after_octet}
-use Rattle.sdls_base.proofs.Remainders.{shift_sum, sum_four, times_generator_sum, remainder_octet, remainder_sum, one_remainder}
+use Rattle.sdls_base.proofs.Remainders.{shift_sum, sum_four, times_generator_sum, remainder_octet, remainder_sum}
+use Rattle.sdls_base.proofs.Remainders.{one_remainder}
 
 -- a list of the values at 0 to n - 1 has the value at x in place x
-pub value_at : (f : ℕ → ℕ) (n x : ℕ) (values : List ℕ) → values ≡ map f (range_with_len 0 n) → x < n → slice_index values x ≡ f x
+pub value_at : (f : ℕ → ℕ) (n x : ℕ) (values : List ℕ) → values ≡ map f (range_with_len 0 n) → x < n
+    → slice_index values x ≡ f x
 value_at f n x values same lt =
     ap (λ (v : List ℕ). slice_index v x) same ∙ get_or-map-range_with_len f 0 n x x 0 lt (omega arith)
 
@@ -19,7 +22,8 @@ own_remainder : (r : ℕ) → r < 2 ^ 16 → IsRemainder r r
 own_remainder r small = record { degree = small; quotient = (0, sym (xor_zero_l r)) }
 
 -- the register and an octet: the upper octets add, the lower one stays
-upper_octets : (u l octet : ℕ) → l < 2 ^ 8 → bit_xor (u * 2 ^ 8 + l) (octet * 2 ^ 8) ≡ bit_xor (bit_xor u octet * 2 ^ 8) l
+upper_octets : (u l octet : ℕ) → l < 2 ^ 8 → bit_xor (u * 2 ^ 8 + l) (octet * 2 ^ 8)
+    ≡ bit_xor (bit_xor u octet * 2 ^ 8) l
 upper_octets u l octet small =
     ap (λ n. bit_xor (u * 2 ^ 8 + l) n) (sym (add-zero (octet * 2 ^ 8)))
     ∙ xor_block 8 u octet l 0 small (lit< tt)
@@ -34,7 +38,8 @@ by_upper u l octet su sl so =
     let small : x < 256 = xor_lt 8 u octet su so in
     let from_zeros : IsRemainder (bit_xor 0 (x * 2 ^ 8) * 2 ^ 8) (after_octet 0 x) =
     remainder_octet 0 0 x small (own_remainder 0 (lit< tt)) in
-    let both : IsRemainder (bit_xor (bit_xor 0 (x * 2 ^ 8) * 2 ^ 8) (l * 2 ^ 8)) (bit_xor (after_octet 0 x) (l * 2 ^ 8)) =
+    let both : IsRemainder (bit_xor (bit_xor 0 (x * 2 ^ 8) * 2 ^ 8) (l * 2 ^ 8))
+    (bit_xor (after_octet 0 x) (l * 2 ^ 8)) =
     remainder_sum (bit_xor 0 (x * 2 ^ 8) * 2 ^ 8) (after_octet 0 x) (l * 2 ^ 8) (omega arith) from_zeros in
     let whole : IsRemainder (bit_xor (u * 2 ^ 8 + l) (octet * 2 ^ 8) * 2 ^ 8) (after_octet (u * 2 ^ 8 + l) octet) =
     remainder_octet (u * 2 ^ 8 + l) (u * 2 ^ 8 + l) octet so (own_remainder (u * 2 ^ 8 + l) (omega arith)) in
@@ -42,7 +47,8 @@ by_upper u l octet su sl so =
     ap (λ n. bit_xor (n * 2 ^ 8) (l * 2 ^ 8)) (xor_zero_l (x * 2 ^ 8))
     ∙ sym (shift_sum (x * 2 ^ 8) l 8)
     ∙ ap (λ n. n * 2 ^ 8) (sym (upper_octets u l octet sl)) in
-    one_remainder (bit_xor (u * 2 ^ 8 + l) (octet * 2 ^ 8) * 2 ^ 8) (bit_xor (after_octet 0 x) (l * 2 ^ 8)) (after_octet (u * 2 ^ 8 + l) octet)
+    one_remainder (bit_xor (u * 2 ^ 8 + l) (octet * 2 ^ 8) * 2 ^ 8) (bit_xor (after_octet 0 x) (l * 2 ^ 8))
+    (after_octet (u * 2 ^ 8 + l) octet)
     (subst (λ n. IsRemainder n (bit_xor (after_octet 0 x) (l * 2 ^ 8))) same both) whole
 
 -- the one step that the code makes
@@ -81,10 +87,13 @@ after_sum r s a b hr hs ha hb =
     let one = remainder_octet r r a ha (own_remainder r hr) in
     let other = remainder_octet s s b hb (own_remainder s hs) in
     let both = remainder_add _ _ _ _ one other in
-    let sum = remainder_octet (bit_xor r s) (bit_xor r s) (bit_xor a b) (xor_lt 8 a b ha hb) (own_remainder (bit_xor r s) (xor_lt 16 r s hr hs)) in
-    let same : bit_xor (bit_xor r (a * 2 ^ 8) * 2 ^ 8) (bit_xor s (b * 2 ^ 8) * 2 ^ 8) ≡ bit_xor (bit_xor r s) (bit_xor a b * 2 ^ 8) * 2 ^ 8 =
+    let sum = remainder_octet (bit_xor r s) (bit_xor r s) (bit_xor a b) (xor_lt 8 a b ha hb)
+    (own_remainder (bit_xor r s) (xor_lt 16 r s hr hs)) in
+    let same : bit_xor (bit_xor r (a * 2 ^ 8) * 2 ^ 8) (bit_xor s (b * 2 ^ 8) * 2 ^ 8)
+    ≡ bit_xor (bit_xor r s) (bit_xor a b * 2 ^ 8) * 2 ^ 8 =
     sym (shift_sum (bit_xor r (a * 2 ^ 8)) (bit_xor s (b * 2 ^ 8)) 8)
-    ∙ ap (λ n. n * 2 ^ 8) (sum_four r (a * 2 ^ 8) s (b * 2 ^ 8) ∙ ap (λ n. bit_xor (bit_xor r s) n) (sym (shift_sum a b 8))) in
+    ∙ ap (λ n. n * 2 ^ 8) (sum_four r (a * 2 ^ 8) s (b * 2 ^ 8) ∙ ap (λ n. bit_xor (bit_xor r s) n)
+    (sym (shift_sum a b 8))) in
     one_remainder (bit_xor (bit_xor r s) (bit_xor a b * 2 ^ 8) * 2 ^ 8) _ _ sum
     (subst (λ n. IsRemainder n (bit_xor (after_octet r a) (after_octet s b))) same both)
 
@@ -96,7 +105,8 @@ apart r d hr hd =
 
 -- the upper octet of the register leaves it with the first octet, the lower one with the second
 pair_by_octets : (u l a b : ℕ) → u < 256 → l < 256 → a < 256 → b < 256
-    → after_octet (after_octet (u * 2 ^ 8 + l) a) b ≡ bit_xor (after_octet (after_octet 0 (bit_xor u a)) 0) (after_octet 0 (bit_xor l b))
+    → after_octet (after_octet (u * 2 ^ 8 + l) a) b ≡ bit_xor (after_octet (after_octet 0 (bit_xor u a)) 0)
+    (after_octet 0 (bit_xor l b))
 pair_by_octets u l a b su sl sa sb =
     let x : ℕ = bit_xor u a in
     let first : after_octet 0 x < 2 ^ 16 = after_small 0 x (lit< tt) (xor_lt 8 u a su sa) in
@@ -109,7 +119,9 @@ pair_by_octets u l a b su sl sa sb =
     ∙ ap (λ n. bit_xor (after_octet (after_octet 0 x) 0) n) lower
 
 four_by_octets : (u l a b c d : ℕ) → u < 256 → l < 256 → a < 256 → b < 256 → c < 256 → d < 256
-    → bit_xor (bit_xor (bit_xor (fold after_octet 0 (bit_xor u a ∷ 0 ∷ 0 ∷ 0 ∷ [])) (fold after_octet 0 (bit_xor l b ∷ 0 ∷ 0 ∷ [])))
+    → bit_xor
+    (bit_xor (bit_xor (fold after_octet 0 (bit_xor u a ∷ 0 ∷ 0 ∷ 0 ∷ []))
+    (fold after_octet 0 (bit_xor l b ∷ 0 ∷ 0 ∷ [])))
     (fold after_octet 0 (c ∷ 0 ∷ []))) (after_octet 0 d)
     ≡ fold after_octet (u * 2 ^ 8 + l) (a ∷ b ∷ c ∷ d ∷ [])
 four_by_octets u l a b c d su sl sa sb sc sd =
@@ -126,7 +138,8 @@ four_by_octets u l a b c d su sl sa sb sc sd =
     let hy1 : y1 < 2 ^ 16 = after_small y0 0 hy0 none in
     let xy : bit_xor x2 y1 < 2 ^ 16 = xor_lt 16 x2 y1 hx2 hy1 in
     let third : after_octet (after_octet (after_octet (u * 2 ^ 8 + l) a) b) c ≡ bit_xor (bit_xor x2 y1) z0 =
-    ap (λ n. after_octet n c) (pair_by_octets u l a b su sl sa sb) ∙ apart (bit_xor x1 y0) c (xor_lt 16 x1 y0 hx1 hy0) sc
+    ap (λ n. after_octet n c) (pair_by_octets u l a b su sl sa sb) ∙ apart (bit_xor x1 y0) c (xor_lt 16 x1 y0 hx1 hy0)
+    sc
     ∙ ap (λ n. bit_xor n z0) (after_sum x1 y0 0 0 hx1 hy0 none none) in
     let fourth : after_octet (after_octet (after_octet (after_octet (u * 2 ^ 8 + l) a) b) c) d
     ≡ bit_xor (bit_xor (bit_xor (after_octet x2 0) (after_octet y1 0)) (after_octet z0 0)) (after_octet 0 d) =
@@ -137,7 +150,9 @@ four_by_octets u l a b c d su sl sa sb sc sd =
 
 -- the step that the code makes over four octets
 pub by_four_look_ups : (r a b c d : ℕ) → r < 2 ^ 16 → a < 256 → b < 256 → c < 256 → d < 256
-    → bit_xor (bit_xor (bit_xor (fold after_octet 0 (bit_xor (r / 256 % 256) a ∷ 0 ∷ 0 ∷ 0 ∷ [])) (fold after_octet 0 (bit_xor (r % 256) b ∷ 0 ∷ 0 ∷ [])))
+    → bit_xor
+    (bit_xor (bit_xor (fold after_octet 0 (bit_xor (r / 256 % 256) a ∷ 0 ∷ 0 ∷ 0 ∷ []))
+    (fold after_octet 0 (bit_xor (r % 256) b ∷ 0 ∷ 0 ∷ [])))
     (fold after_octet 0 (c ∷ 0 ∷ []))) (after_octet 0 d)
     ≡ fold after_octet r (a ∷ b ∷ c ∷ d ∷ [])
 by_four_look_ups r a b c d small sa sb sc sd =
@@ -173,7 +188,8 @@ sum_of_four r s a a2 b b2 c c2 d d2 hr hs ha ha2 hb hb2 hc hc2 hd hd2 =
 zeros_sum : (r s : ℕ) → r < 2 ^ 16 → s < 2 ^ 16
     → fold after_octet (bit_xor r s) (0 ∷ 0 ∷ 0 ∷ 0 ∷ [])
     ≡ bit_xor (fold after_octet r (0 ∷ 0 ∷ 0 ∷ 0 ∷ [])) (fold after_octet s (0 ∷ 0 ∷ 0 ∷ 0 ∷ []))
-zeros_sum r s hr hs = sum_of_four r s 0 0 0 0 0 0 0 0 hr hs (lit< tt) (lit< tt) (lit< tt) (lit< tt) (lit< tt) (lit< tt) (lit< tt) (lit< tt)
+zeros_sum r s hr hs = sum_of_four r s 0 0 0 0 0 0 0 0 hr hs (lit< tt) (lit< tt) (lit< tt) (lit< tt) (lit< tt) (lit< tt)
+    (lit< tt) (lit< tt)
 
 -- what the register leaves after four octets, and what these leave
 four_apart : (r a b c d : ℕ) → r < 2 ^ 16 → a < 256 → b < 256 → c < 256 → d < 256
@@ -188,7 +204,8 @@ pub by_eight_look_ups : (r a b c d e f g h : ℕ) → r < 2 ^ 16 → a < 256 →
     → g < 256 → h < 256
     → bit_xor
     (bit_xor (bit_xor (bit_xor (fold after_octet 0 (bit_xor (r / 256 % 256) a ∷ 0 ∷ 0 ∷ 0 ∷ 0 ∷ 0 ∷ 0 ∷ 0 ∷ []))
-    (fold after_octet 0 (bit_xor (r % 256) b ∷ 0 ∷ 0 ∷ 0 ∷ 0 ∷ 0 ∷ 0 ∷ []))) (fold after_octet 0 (c ∷ 0 ∷ 0 ∷ 0 ∷ 0 ∷ 0 ∷ [])))
+    (fold after_octet 0 (bit_xor (r % 256) b ∷ 0 ∷ 0 ∷ 0 ∷ 0 ∷ 0 ∷ 0 ∷ [])))
+    (fold after_octet 0 (c ∷ 0 ∷ 0 ∷ 0 ∷ 0 ∷ 0 ∷ [])))
     (fold after_octet 0 (d ∷ 0 ∷ 0 ∷ 0 ∷ 0 ∷ [])))
     (bit_xor (bit_xor (bit_xor (fold after_octet 0 (e ∷ 0 ∷ 0 ∷ 0 ∷ [])) (fold after_octet 0 (f ∷ 0 ∷ 0 ∷ [])))
     (fold after_octet 0 (g ∷ 0 ∷ []))) (after_octet 0 h))
@@ -203,7 +220,8 @@ by_eight_look_ups r a b c d e f g h small sa sb sc sd se sf sg sh =
     let q : ℕ = fold after_octet 0 (y ∷ 0 ∷ 0 ∷ []) in
     let s : ℕ = fold after_octet 0 (c ∷ 0 ∷ []) in
     let t : ℕ = after_octet 0 d in
-    let hp : p < 2 ^ 16 = after_small _ 0 (after_small _ 0 (after_small _ 0 (after_small 0 x (lit< tt) sx) none) none) none in
+    let hp : p < 2 ^ 16 = after_small _ 0 (after_small _ 0 (after_small _ 0 (after_small 0 x (lit< tt) sx) none) none)
+    none in
     let hq : q < 2 ^ 16 = after_small _ 0 (after_small _ 0 (after_small 0 y (lit< tt) sy) none) none in
     let hs : s < 2 ^ 16 = after_small _ 0 (after_small 0 c (lit< tt) sc) none in
     let ht : t < 2 ^ 16 = after_small 0 d (lit< tt) sd in
@@ -221,6 +239,7 @@ by_eight_look_ups r a b c d e f g h small sa sb sc sd se sf sg sh =
     (ap (λ n. fold after_octet n (e ∷ f ∷ g ∷ h ∷ [])) (sym first)
     ∙ four_apart four e f g h (xor_lt 16 (bit_xor (bit_xor p q) s) t hpqs ht) se sf sg sh
     ∙ ap (λ n. bit_xor n (fold after_octet 0 (e ∷ f ∷ g ∷ h ∷ []))) spread
-    ∙ ap (bit_xor (bit_xor (bit_xor (bit_xor (fold after_octet p (0 ∷ 0 ∷ 0 ∷ 0 ∷ [])) (fold after_octet q (0 ∷ 0 ∷ 0 ∷ 0 ∷ [])))
+    ∙ ap (bit_xor
+    (bit_xor (bit_xor (bit_xor (fold after_octet p (0 ∷ 0 ∷ 0 ∷ 0 ∷ [])) (fold after_octet q (0 ∷ 0 ∷ 0 ∷ 0 ∷ [])))
     (fold after_octet s (0 ∷ 0 ∷ 0 ∷ 0 ∷ []))) (fold after_octet t (0 ∷ 0 ∷ 0 ∷ 0 ∷ []))))
     (sym (by_four_look_ups 0 e f g h (lit< tt) se sf sg sh)))

@@ -1,5 +1,6 @@
 -- Octets cut into pieces, and pieces written one after the other.
-use Rattle.std.proofs.Common.{◌≡◌, ℕ, zero, suc, ◌+◌, ◌≤◌, ◌<◌, Bool, List, [], ◌∷◌, ◌++◌, length, take, drop, get_or, refl, sym, ◌∙◌, ap, arith, append_assoc}
+use Rattle.std.proofs.Common.{◌≡◌, ℕ, zero, suc, ◌+◌, ◌≤◌, ◌<◌, Bool, List, [], ◌∷◌, ◌++◌, length, take, drop, get_or}
+use Rattle.std.proofs.Common.{refl, sym, ◌∙◌, ap, arith, append_assoc}
 use Rattle.std.proofs.lemmas.List.{take-append-drop, drop-drop, take-take, append_cancel_left}
 use Rattle.std.proofs.lemmas.Grind.{common_steps}
 use Rattle.sdls_base.specs.ErrorControl.{with_error_control, error_control_length}
@@ -31,22 +32,28 @@ pub written_none : (start : List ℕ) → Written start start 0 []
 written_none start = record { front = grind (arith, common_steps); rest = refl }
 
 pub written_more : (start out : List ℕ) (at : ℕ) (text : List ℕ) → Written start out at text
-    → (octets after : List ℕ) (next : ℕ) → next ≡ at + length octets → take next after ≡ take at out ++ octets → drop next after ≡ drop next out
+    → (octets after : List ℕ) (next : ℕ) → next ≡ at + length octets → take next after ≡ take at out ++ octets
+    → drop next after ≡ drop next out
     → Written start after next (text ++ octets)
 written_more start out at text w octets after next n front rest = record {
   front = front ∙ ap (λ l. l ++ octets) w.front;
-  rest = rest ∙ ap (λ k. drop k out) n ∙ sym (drop-drop (length octets) at out) ∙ ap (λ l. drop (length octets) l) w.rest ∙ drop-drop (length octets) at start ∙ ap (λ k. drop k start) (sym n);
+  rest = rest ∙ ap (λ k. drop k out) n ∙ sym (drop-drop (length octets) at out) ∙ ap (λ l. drop (length octets) l)
+      w.rest ∙ drop-drop (length octets) at start ∙ ap (λ k. drop k start) (sym n);
 }
 
 pub written_error_control : (start out : List ℕ) (at : ℕ) (text : List ℕ) → Written start out at text
-    → (fecf : Bool) (after : List ℕ) (next : ℕ) → next ≡ at + error_control_length fecf → take next after ≡ with_error_control fecf (take at out) → drop next after ≡ drop next out
+    → (fecf : Bool) (after : List ℕ) (next : ℕ) → next ≡ at + error_control_length fecf
+    → take next after ≡ with_error_control fecf (take at out) → drop next after ≡ drop next out
     → Written start after next (with_error_control fecf text)
 written_error_control start out at text w fecf after next n front rest = record {
   front = front ∙ ap (λ l. with_error_control fecf l) w.front;
-  rest = rest ∙ ap (λ k. drop k out) n ∙ sym (drop-drop (error_control_length fecf) at out) ∙ ap (λ l. drop (error_control_length fecf) l) w.rest ∙ drop-drop (error_control_length fecf) at start ∙ ap (λ k. drop k start) (sym n);
+  rest = rest ∙ ap (λ k. drop k out) n ∙ sym (drop-drop (error_control_length fecf) at out)
+      ∙ ap (λ l. drop (error_control_length fecf) l) w.rest ∙ drop-drop (error_control_length fecf) at start
+      ∙ ap (λ k. drop k start) (sym n);
 }
 
-pub written_whole : (start out : List ℕ) (at : ℕ) (text : List ℕ) → Written start out at text → out ≡ text ++ drop at start
+pub written_whole : (start out : List ℕ) (at : ℕ) (text : List ℕ) → Written start out at text
+    → out ≡ text ++ drop at start
 written_whole start out at text w =
     sym (take-append-drop at out) ∙ ap (λ l. l ++ drop at out) w.front ∙ ap (λ l. text ++ l) w.rest
 

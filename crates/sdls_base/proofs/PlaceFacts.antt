@@ -1,5 +1,6 @@
 -- The numbers at a place of octets are what stands there, below the ends of their widths. For the crates above.
-use Rattle.std.proofs.Common.{◌≡◌, ℕ, zero, suc, ◌+◌, ◌^◌, ◌<◌, ◌≤◌, List, [], ◌∷◌, ◌++◌, length, get_or, drop, refl, sym, ap, ◌∙◌, arith}
+use Rattle.std.proofs.Common.{◌≡◌, ℕ, zero, suc, ◌+◌, ◌^◌, ◌<◌, ◌≤◌, List, [], ◌∷◌, ◌++◌, length, get_or, drop, refl}
+use Rattle.std.proofs.Common.{sym, ap, ◌∙◌, arith}
 use Rattle.std.specs.Int.{w16, w32, w64, from_be_bytes, to_be_bytes}
 use Rattle.std.proofs.lemmas.List.{drop_more, get_or-drop}
 use Rattle.std.proofs.lemmas.Nat.{be_bytes_2, be_bytes_4, be_bytes_8}
@@ -11,12 +12,14 @@ AreOctets octets = (i : ℕ) → get_or octets i 0 < 256
 
 -- ---- what stands from a place on
 
-next : (octets : List ℕ) (at k j : ℕ) → j ≡ k + 1 → at + k < length octets → drop (at + k) octets ≡ get_or octets (at + k) 0 ∷ drop (at + j) octets
+next : (octets : List ℕ) (at k j : ℕ) → j ≡ k + 1 → at + k < length octets
+    → drop (at + k) octets ≡ get_or octets (at + k) 0 ∷ drop (at + j) octets
 next octets at k j e h =
     let same : at + k + 1 ≡ at + j = omega arith in
     drop_more octets (at + k) 0 h ∙ ap (λ (i : ℕ). get_or octets (at + k) 0 ∷ drop i octets) same
 
-pub octet_field : (at : ℕ) (octets : List ℕ) → at < length octets → drop at octets ≡ octet_at at octets ∷ drop (at + 1) octets
+pub octet_field : (at : ℕ) (octets : List ℕ) → at < length octets
+    → drop at octets ≡ octet_at at octets ∷ drop (at + 1) octets
 octet_field at octets h = drop_more octets at 0 h
 
 two_octets : (a b : ℕ) → a < 256 → b < 256 → (i : ℕ) → get_or (a ∷ b ∷ []) i 0 < 256
@@ -33,7 +36,8 @@ word_field at octets are h =
     let first = drop_more octets at 0 (omega arith) in
     let second = next octets at 1 2 refl (omega arith) in
     let cells : drop at octets ≡ (get_or octets at 0 ∷ get_or octets (at + 1) 0 ∷ []) ++ drop (at + 2) octets = cc in
-    cells ∙ ap (λ (s : List ℕ). s ++ drop (at + 2) octets) (sym (word_spelled (get_or octets at 0) (get_or octets (at + 1) 0) (are at) (are (at + 1))))
+    cells ∙ ap (λ (s : List ℕ). s ++ drop (at + 2) octets)
+    (sym (word_spelled (get_or octets at 0) (get_or octets (at + 1) 0) (are at) (are (at + 1))))
 
 four_octets : (a b c d : ℕ) → a < 256 → b < 256 → c < 256 → d < 256 → (i : ℕ) → get_or (a ∷ b ∷ c ∷ d ∷ []) i 0 < 256
 four_octets a b c d p q r s zero = p
@@ -55,7 +59,8 @@ double_word_field at octets are h =
     let d = get_or octets (at + 3) 0 in
     let cells : drop at octets ≡ (a ∷ b ∷ c ∷ d ∷ []) ++ drop (at + 4) octets = cc in
     let spelled : to_be_bytes w32 (from_be_bytes w32 (a ∷ b ∷ c ∷ d ∷ [])) ≡ a ∷ b ∷ c ∷ d ∷ [] =
-    be_bytes_4 (a ∷ b ∷ c ∷ d ∷ []) _ refl (four_octets a b c d (are at) (are (at + 1)) (are (at + 2)) (are (at + 3))) refl in
+    be_bytes_4 (a ∷ b ∷ c ∷ d ∷ []) _ refl (four_octets a b c d (are at) (are (at + 1)) (are (at + 2)) (are (at + 3)))
+    refl in
     cells ∙ ap (λ (s : List ℕ). s ++ drop (at + 4) octets) (sym spelled)
 
 eight_octets : (a b c d e f g h : ℕ) → a < 256 → b < 256 → c < 256 → d < 256 → e < 256 → f < 256 → g < 256 → h < 256
@@ -86,9 +91,11 @@ number_field at octets are room =
     let g = get_or octets (at + 6) 0 in
     let h = get_or octets (at + 7) 0 in
     let cells : drop at octets ≡ (a ∷ b ∷ c ∷ d ∷ e ∷ f ∷ g ∷ h ∷ []) ++ drop (at + 8) octets = cc in
-    let spelled : to_be_bytes w64 (from_be_bytes w64 (a ∷ b ∷ c ∷ d ∷ e ∷ f ∷ g ∷ h ∷ [])) ≡ a ∷ b ∷ c ∷ d ∷ e ∷ f ∷ g ∷ h ∷ [] =
+    let spelled : to_be_bytes w64 (from_be_bytes w64 (a ∷ b ∷ c ∷ d ∷ e ∷ f ∷ g ∷ h ∷ []))
+    ≡ a ∷ b ∷ c ∷ d ∷ e ∷ f ∷ g ∷ h ∷ [] =
     be_bytes_8 (a ∷ b ∷ c ∷ d ∷ e ∷ f ∷ g ∷ h ∷ []) _ refl
-    (eight_octets a b c d e f g h (are at) (are (at + 1)) (are (at + 2)) (are (at + 3)) (are (at + 4)) (are (at + 5)) (are (at + 6)) (are (at + 7))) refl in
+    (eight_octets a b c d e f g h (are at) (are (at + 1)) (are (at + 2)) (are (at + 3)) (are (at + 4)) (are (at + 5))
+    (are (at + 6)) (are (at + 7))) refl in
     cells ∙ ap (λ (s : List ℕ). s ++ drop (at + 8) octets) (sym spelled)
 
 -- ---- a field is below the end of its width
@@ -101,7 +108,17 @@ double_word_small at octets are = omega (arith, are at, are (at + 1), are (at + 
 
 pub number_small : (at : ℕ) (octets : List ℕ) → AreOctets octets → number_at at octets < 2 ^ 64
 number_small at octets are =
-    omega (arith, are at, are (at + 1), are (at + 2), are (at + 3), are (at + 4), are (at + 5), are (at + 6), are (at + 7))
+    omega (
+      arith,
+      are at,
+      are (at + 1),
+      are (at + 2),
+      are (at + 3),
+      are (at + 4),
+      are (at + 5),
+      are (at + 6),
+      are (at + 7),
+    )
 
 pub octets_drop : (n : ℕ) (octets : List ℕ) → AreOctets octets → AreOctets (drop n octets)
 octets_drop zero octets are = are
@@ -114,7 +131,8 @@ stands : (at : ℕ) (octets rest : List ℕ) → drop at octets ≡ rest → (i 
 stands at octets rest e i = sym (get_or-drop at octets i 0) ∙ ap (λ (s : List ℕ). get_or s i 0) e
 
 first : (at : ℕ) (octets rest : List ℕ) → drop at octets ≡ rest → get_or octets at 0 ≡ get_or rest 0 0
-first at octets rest e = let same : at ≡ at + 0 = omega arith in ap (λ (i : ℕ). get_or octets i 0) same ∙ stands at octets rest e 0
+first at octets rest e = let same : at ≡ at + 0 = omega arith in
+    ap (λ (i : ℕ). get_or octets i 0) same ∙ stands at octets rest e 0
 
 pub word_in_front : (at : ℕ) (octets rest : List ℕ) → drop at octets ≡ rest → word_at at octets ≡ word_at 0 rest
 word_in_front at octets rest e =

@@ -1,5 +1,6 @@
 -- What a search, a write and a map do to lists.
-use Rattle.std.proofs.Common.{◌≡◌, ◌≢◌, ℕ, zero, suc, ◌<◌, ◌≤◌, Bool, true, false, cond, List, [], ◌∷◌, length, get_or, set, map, Option, Some, None, is_some, sym, refl, ap, ◌∙◌, subst, ⊎_elim, arith}
+use Rattle.std.proofs.Common.{◌≡◌, ◌≢◌, ℕ, zero, suc, ◌<◌, ◌≤◌, Bool, true, false, cond, List, [], ◌∷◌, length, get_or}
+use Rattle.std.proofs.Common.{set, map, Option, Some, None, is_some, sym, refl, ap, ◌∙◌, subst, ⊎_elim, arith}
 use Rattle.std.specs.List.{find, position, position_or_len, slice_get, All, AllPairs}
 use Rattle.std.specs.Option.{option_map}
 use Rattle.std.proofs.lemmas.Bool.{cases_eq, false≢true}
@@ -10,14 +11,16 @@ use Rattle.std.proofs.lemmas.List.Folds.{find_at}
 use Rattle.std.proofs.lemmas.List.Quantifiers.{position-Some}
 use Rattle.std.proofs.lemmas.Option.{slice_get-get_or}
 
-position_or_len-Some : {X : Type 0} (p : X → Bool) (xs : List X) (i : ℕ) → position p xs ≡ Some i → position_or_len p xs ≡ i
+position_or_len-Some : {X : Type 0} (p : X → Bool) (xs : List X) (i : ℕ) → position p xs ≡ Some i
+    → position_or_len p xs ≡ i
 position_or_len-Some p xs i h = grind (arith, nat_tests)
 
 -- the element that a search finds stands at the place that it finds
 pub find_place : {X : Type 0} (p : X → Bool) (xs : List X) (i : ℕ) → position p xs ≡ Some i → find p xs ≡ slice_get xs i
 find_place p xs i h = find_at p xs ∙ ap (slice_get xs) (position_or_len-Some p xs i h)
 
-pub find_placed : {X : Type 0} (p : X → Bool) (xs : List X) (i : ℕ) (d : X) → position p xs ≡ Some i → find p xs ≡ Some (get_or xs i d)
+pub find_placed : {X : Type 0} (p : X → Bool) (xs : List X) (i : ℕ) (d : X) → position p xs ≡ Some i
+    → find p xs ≡ Some (get_or xs i d)
 find_placed p xs i d h = find_place p xs i h ∙ slice_get-get_or xs i d (position-Some p xs i d h).0
 
 slice_get_past : {X : Type 0} (xs : List X) (i : ℕ) → length xs ≤ i → slice_get xs i ≡ None
@@ -32,7 +35,8 @@ pub find_nowhere : {X : Type 0} (p : X → Bool) (xs : List X) → position p xs
 find_nowhere p xs h = find_at p xs ∙ slice_get_past xs _ (past_all p xs h)
 
 -- a relation that a change of each element keeps
-pub pairs_map : {X : Type 0} (R : X → X → Type 0) (g : X → X) (xs : List X) → ((x y : X) → R x y → R (g x) (g y)) → AllPairs R xs → AllPairs R (map g xs)
+pub pairs_map : {X : Type 0} (R : X → X → Type 0) (g : X → X) (xs : List X) → ((x y : X) → R x y → R (g x) (g y))
+    → AllPairs R xs → AllPairs R (map g xs)
 pairs_map R g xs keeps pairs i j d less within =
     let low : j < length xs = omega (arith, length-map xs g) in
     let first : i < length xs = omega arith in
@@ -40,7 +44,9 @@ pairs_map R g xs keeps pairs i j d less within =
     rw (get_or-map g xs i d d first, get_or-map g xs j d d low) there
 
 -- a write that every other element bears
-pub pairs_set : {X : Type 0} (R : X → X → Type 0) (xs : List X) (i : ℕ) (y : X) → i < length xs → ((k : ℕ) (d : X) → k < i → R (get_or xs k d) y) → ((k : ℕ) (d : X) → i < k → k < length xs → R y (get_or xs k d)) → AllPairs R xs → AllPairs R (set xs i y)
+pub pairs_set : {X : Type 0} (R : X → X → Type 0) (xs : List X) (i : ℕ) (y : X) → i < length xs
+    → ((k : ℕ) (d : X) → k < i → R (get_or xs k d) y) → ((k : ℕ) (d : X) → i < k → k < length xs → R y (get_or xs k d))
+    → AllPairs R xs → AllPairs R (set xs i y)
 pairs_set R xs i y within before behind pairs j k d less end =
     let end : k < length xs = omega (arith, length-set xs i y) in
     ⊎_elim
@@ -50,7 +56,8 @@ pairs_set R xs i y within before behind pairs j k d less end =
     (λ (not_j : j ≢ i). ⊎_elim
     (λ (at_k : k ≡ i). subst (λ n. R (get_or (set xs i y) j d) (get_or (set xs i y) n d)) (sym at_k)
     (rw (get_or-set_same xs i y d within, get_or-set_other xs i j y d not_j) (before j d (omega arith))))
-    (λ (not_k : k ≢ i). rw (get_or-set_other xs i j y d not_j, get_or-set_other xs i k y d not_k) (pairs j k d less end))
+    (λ (not_k : k ≢ i). rw (get_or-set_other xs i j y d not_j, get_or-set_other xs i k y d not_k)
+    (pairs j k d less end))
     (cases_eq k i))
     (cases_eq j i)
 
@@ -62,7 +69,8 @@ slice_get_within (x ∷ xs) (suc i) h = slice_get_within xs i (omega arith)
 placed_within : {X : Type 0} (p : X → Bool) (xs : List X) (i : ℕ) → position p xs ≡ Some i → i < length xs
 placed_within p xs i h = grind (arith, nat_tests)
 
-find_any : {X : Type 0} (p : X → Bool) (xs : List X) (o : Option ℕ) → position p xs ≡ o → is_some (find p xs) ≡ is_some o
+find_any : {X : Type 0} (p : X → Bool) (xs : List X) (o : Option ℕ) → position p xs ≡ o
+    → is_some (find p xs) ≡ is_some o
 find_any p xs None h = ap is_some (find_nowhere p xs h)
 find_any p xs (Some i) h = ap is_some (find_place p xs i h) ∙ slice_get_within xs i (placed_within p xs i h)
 
@@ -78,7 +86,8 @@ pub left_out : {X : Type 0} (b : Bool) (x y : X) → b ≡ false → cond b x y 
 left_out false x y h = refl
 left_out true x y h = absurd (false≢true (sym h))
 
-passes_none : {X : Type 0} (p : X → Bool) (x : X) (xs : List X) (b : Bool) → p x ≡ b → cond b (Some x) (find p xs) ≡ None → (p x ≡ false) × (find p xs ≡ None)
+passes_none : {X : Type 0} (p : X → Bool) (x : X) (xs : List X) (b : Bool) → p x ≡ b
+    → cond b (Some x) (find p xs) ≡ None → (p x ≡ false) × (find p xs ≡ None)
 passes_none p x xs true e h = absurd (cc)
 passes_none p x xs false e h = (e, h)
 
@@ -90,7 +99,8 @@ find_none p (x ∷ xs) h =
     All-cons (λ x. p x ≡ false) x xs fails.0 (find_none p xs fails.1)
 
 -- a search after a change of each element that keeps what it tests
-pub find-map : {X : Type 0} (p : X → Bool) (g : X → X) (xs : List X) → ((x : X) → p (g x) ≡ p x) → find p (map g xs) ≡ option_map g (find p xs)
+pub find-map : {X : Type 0} (p : X → Bool) (g : X → X) (xs : List X) → ((x : X) → p (g x) ≡ p x)
+    → find p (map g xs) ≡ option_map g (find p xs)
 find-map p g [] keeps = refl
 find-map p g (x ∷ xs) keeps =
     ap (λ b. cond b (Some (g x)) (find p (map g xs))) (keeps x)

@@ -9,7 +9,8 @@ same_cells p q = cc
 
 -- octets that are those under the mask at each place are the masked octets
 pub masked_from_places : (prefix mask out : List ℕ) → length out ≡ length prefix
-    → ((k : ℕ) → k < length prefix → get_or out k 0 ≡ bit_and (get_or prefix k 0) (get_or mask k 0)) → out ≡ masked_octets prefix mask
+    → ((k : ℕ) → k < length prefix → get_or out k 0 ≡ bit_and (get_or prefix k 0) (get_or mask k 0))
+    → out ≡ masked_octets prefix mask
 masked_from_places [] mask [] n places = refl
 masked_from_places [] mask (o ∷ out) n places = absurd (omega arith)
 masked_from_places (x ∷ prefix) mask [] n places = absurd (omega arith)

@@ -13,8 +13,10 @@ take-put_mid_more filled count room buffer piece here within =
     let past : take (length front + count) (front ++ (piece ++ post_of filled room buffer))
     ≡ front ++ take count (piece ++ post_of filled room buffer)
     = take-append-add front (piece ++ post_of filled room buffer) count in
-    let seen : take (filled + count) (put_mid filled room buffer piece) ≡ front ++ take count (piece ++ post_of filled room buffer)
-    = subst (λ (n : ℕ). take (n + count) (put_mid filled room buffer piece) ≡ front ++ take count (piece ++ post_of filled room buffer)) sized past in
+    let seen : take (filled + count) (put_mid filled room buffer piece)
+    ≡ front ++ take count (piece ++ post_of filled room buffer)
+    = subst (λ (n : ℕ). take (n + count) (put_mid filled room buffer piece)
+    ≡ front ++ take count (piece ++ post_of filled room buffer)) sized past in
     seen ∙ ap (λ (rest : List ℕ). front ++ rest) (take-append-le count piece (post_of filled room buffer) within)
 
 -- what was taken so far grows by what one call moved

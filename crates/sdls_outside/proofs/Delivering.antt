@@ -1,5 +1,6 @@
 -- What puts deliver, one after the other. For the crates above, whose texts are put in pieces.
-use Rattle.std.proofs.Common.{◌≡◌, ℕ, ◌+◌, ◌-◌, List, [], ◌∷◌, ◌++◌, length, take, drop, Result, Ok, Err, inl, inr, refl, ap, sym, ◌∙◌, subst, arith, append_assoc, append-nil}
+use Rattle.std.proofs.Common.{◌≡◌, ℕ, ◌+◌, ◌-◌, List, [], ◌∷◌, ◌++◌, length, take, drop, Result, Ok, Err, inl, inr}
+use Rattle.std.proofs.Common.{refl, ap, sym, ◌∙◌, subst, arith, append_assoc, append-nil}
 use Rattle.std.proofs.Math.Seq.{take-append-add}
 use Rattle.std.proofs.lemmas.List.{take-append-drop}
 use Rattle.sdls_outside.specs.Disk.{Disk}
@@ -33,13 +34,19 @@ sinks_trans a b c ab bc = record {
   stands = same_trans a.now b.now c.now ab.stands bc.stands;
   more = ab.more ++ bc.more;
   goes_on = bc.goes_on ∙ ap (λ (s : List Disk). s ++ bc.more) ab.goes_on ∙ append_assoc (states a) ab.more bc.more;
-  same_disk = all_same_append a.now ab.more bc.more ab.same_disk (all_same_on a.now b.now bc.more ab.stands bc.same_disk);
+  same_disk = all_same_append a.now ab.more bc.more ab.same_disk
+      (all_same_on a.now b.now bc.more ab.stands bc.same_disk);
 }
 
 sinks_from_sank : (octets : List ℕ) (old new : Trace) → Sank octets old new → OnlySinks old new
 sinks_from_sank octets old new sank =
     let stands : SameDisk old.now new.now = record { image = sank.image; synced = sank.synced; ranges = sank.ranges } in
-    record { stands = stands; more = new.now ∷ []; goes_on = ap (λ (p : List Disk). p ++ new.now ∷ []) sank.passes; same_disk = (stands, tt) }
+    record {
+      stands = stands;
+      more = new.now ∷ [];
+      goes_on = ap (λ (p : List Disk). p ++ new.now ∷ []) sank.passes;
+      same_disk = (stands, tt);
+    }
 
 front_from_between : (octets : List ℕ) (old new : Trace) → OnlySinks old new
     → Between old.now.sunk (old.now.sunk ++ octets) new.now.sunk → SinksFront octets old new
@@ -51,7 +58,8 @@ front_from_between octets old new only between =
       front = take count octets;
       rest = drop count octets;
       is_front = sym (take-append-drop count octets);
-      sunk = between.prefix ∙ ap (λ (n : ℕ). take n (old.now.sunk ++ octets)) sized ∙ take-append-add old.now.sunk octets count;
+      sunk = between.prefix ∙ ap (λ (n : ℕ). take n (old.now.sunk ++ octets)) sized
+          ∙ take-append-add old.now.sunk octets count;
     }
 
 front_none : (octets : List ℕ) (t : Trace) → SinksFront octets t t
@@ -72,7 +80,8 @@ pub sinks_none : (t : Trace) → Sinks [] t t
 sinks_none t = record { only_sinks = sinks_refl t; sunk = sym (append-nil t.now.sunk) }
 
 -- one text after another
-pub sinks_then : (first second : List ℕ) (a b c : Trace) → Sinks first a b → Sinks second b c → Sinks (first ++ second) a c
+pub sinks_then : (first second : List ℕ) (a b c : Trace) → Sinks first a b → Sinks second b c
+    → Sinks (first ++ second) a c
 sinks_then first second a b c ab bc = record {
   only_sinks = sinks_trans a b c ab.only_sinks bc.only_sinks;
   sunk = bc.sunk ∙ ap (λ (s : List ℕ). s ++ second) ab.sunk ∙ append_assoc a.now.sunk first second;
@@ -102,7 +111,8 @@ front_cut first second a b ab = record {
 -- a front of the second text, after the whole first one, before a third
 pub front_middle : (first second third : List ℕ) (a b c : Trace) → Sinks first a b → SinksFront second b c
     → SinksFront (first ++ (second ++ third)) a c
-front_middle first second third a b c ab bc = front_then first (second ++ third) a b c ab (front_cut second third b c bc)
+front_middle first second third a b c ab bc =
+    front_then first (second ++ third) a b c ab (front_cut second third b c bc)
 
 -- a text, and what a call delivers of the next
 pub delivers_then : {T E : Type 0} (first second : List ℕ) (r : Result T E) (a b c : Trace) → Sinks first a b

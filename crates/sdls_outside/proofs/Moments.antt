@@ -1,6 +1,8 @@
 -- Moments of a run that goes on, for this crate's laws and the crates above.
-use Rattle.std.proofs.Common.{◌≡◌, ℕ, suc, zero, ◌<◌, ◌+◌, ◌-◌, ◌≤◌, ◌⊎◌, List, [], ◌∷◌, ◌++◌, length, get_or, min, take, drop, refl, sym, ◌∙◌, ap, subst, inl, inr, arith, Result, Ok, Err, length-append}
-use Rattle.std.proofs.lemmas.List.{drop-append-le, drop_at, drop-drop, drop_all, take_all, take_at, take-take, length-take, ext_get_or}
+use Rattle.std.proofs.Common.{◌≡◌, ℕ, suc, zero, ◌<◌, ◌+◌, ◌-◌, ◌≤◌, ◌⊎◌, List, [], ◌∷◌, ◌++◌, length, get_or, min}
+use Rattle.std.proofs.Common.{take, drop, refl, sym, ◌∙◌, ap, subst, inl, inr, arith, Result, Ok, Err, length-append}
+use Rattle.std.proofs.lemmas.List.{drop-append-le, drop_at, drop-drop, drop_all, take_all, take_at, take-take}
+use Rattle.std.proofs.lemmas.List.{length-take, ext_get_or}
 use Rattle.sdls_outside.specs.Disk.{Disk, Leaves, IsSynced, Outside}
 use Rattle.sdls_outside.specs.Moments.{Trace, clock, Between, sunk_next, Moments, MomentSince, EachMoment, Continues}
 use Rattle.sdls_outside.specs.Site.{Passes, Wrote, Writes, Syncs, Sank, Puts}
@@ -20,7 +22,8 @@ next_same [] disk since now = refl
 next_same (other ∷ first) disk since now = refl
 
 split : (first : List Disk) (disk : Disk) (since : List Disk) (now : Disk) (image sunk : List ℕ)
-    → Moments (first ++ disk ∷ since) now image sunk → Moments first disk image sunk ⊎ Moments (disk ∷ since) now image sunk
+    → Moments (first ++ disk ∷ since) now image sunk → Moments first disk image sunk
+    ⊎ Moments (disk ∷ since) now image sunk
 split [] disk since now image sunk moment = inr moment
 split (other ∷ first) disk since now image sunk (inl here) =
     inl (inl (here.0, subst (λ (next : List ℕ). Between other.sunk next sunk) (next_same first disk since now) here.1))
@@ -48,7 +51,8 @@ pub moment_earlier : (trace : Trace) (early late : ℕ) (image sunk : List ℕ) 
     → MomentSince late trace image sunk → MomentSince early trace image sunk
 moment_earlier trace early late image sunk later moment =
     let same : drop (late - early) (drop early trace.past) ≡ drop late trace.past =
-    drop-drop (late - early) early trace.past ∙ ap (λ (n : ℕ). drop n trace.past) (let sum : early + (late - early) ≡ late = omega arith in sum) in
+    drop-drop (late - early) early trace.past ∙ ap (λ (n : ℕ). drop n trace.past)
+    (let sum : early + (late - early) ≡ late = omega arith in sum) in
     dropped (late - early) (drop early trace.past) trace.now image sunk
     (subst (λ (past : List Disk). Moments past trace.now image sunk) (sym same) moment)
 
@@ -100,7 +104,8 @@ each_same trace P now = record {
   later = omega arith;
   each = λ image sunk moment.
       let here : Moments [] trace.now image sunk =
-      subst (λ (past : List Disk). Moments past trace.now image sunk) (drop_all (clock trace) trace.past (omega arith)) moment in
+      subst (λ (past : List Disk). Moments past trace.now image sunk) (drop_all (clock trace) trace.past (omega arith))
+      moment in
       subst (λ (octets : List ℕ). P image octets) (sym here.1) (now image here.0);
   before = λ time image sunk early moment. inl moment;
 }
@@ -119,7 +124,8 @@ each_passes old new P passes during after =
       | inr here ↦ subst (λ (octets : List ℕ). P image octets) (sym here.1) (after image here.0)
     ] in
     record {
-      later = let longer : clock new ≡ clock old + 1 = ap (λ (past : List Disk). length past) passes ∙ length-append old.past (old.now ∷ []) in omega arith;
+      later = let longer : clock new ≡ clock old + 1 =
+          ap (λ (past : List Disk). length past) passes ∙ length-append old.past (old.now ∷ []) in omega arith;
       each = each;
       before = λ time image sunk early moment.
           elim (moment_split old new time image sunk (passes_continues old new passes) early moment) [
@@ -171,13 +177,15 @@ each_wrote : (at count : ℕ) (old new : Trace) (P : List ℕ → List ℕ → T
     → ((image : List ℕ) → Leaves old.now image → P image old.now.sunk)
     → ((image : List ℕ) → Leaves new.now image → P image old.now.sunk) → EachMoment old new P
 each_wrote at count old new P wrote before after = each_passes old new P wrote.passes
-    (λ image sunk leaves between. stays old.now.sunk new.now.sunk (λ octets. P image octets) wrote.sunk (before image leaves) sunk between)
+    (λ image sunk leaves between. stays old.now.sunk new.now.sunk (λ octets. P image octets) wrote.sunk
+    (before image leaves) sunk between)
     (λ image leaves. subst (λ (octets : List ℕ). P image octets) (sym wrote.sunk) (after image leaves))
 
 -- where nothing has changed
 each_unchanged : (old new : Trace) (P : List ℕ → List ℕ → Type 0) → new ≡ old
     → ((image : List ℕ) → Leaves old.now image → P image old.now.sunk) → EachMoment old new P
-each_unchanged old new P same before = subst (λ (trace : Trace). EachMoment old trace P) (sym same) (each_same old P before)
+each_unchanged old new P same before =
+    subst (λ (trace : Trace). EachMoment old trace P) (sym same) (each_same old P before)
 
 -- the moments of a write: those of the disk before it, and those of the disk with its range pending
 pub each_writes : {T E : Type 0} → (at : ℕ) (octets : List ℕ) (result : Result T E) (old new : Trace)
@@ -196,7 +204,8 @@ pub each_syncs : {T E : Type 0} → (result : Result T E) (old new : Trace) (P :
     → Syncs result old new → ((image : List ℕ) → Leaves old.now image → P image old.now.sunk)
     → P old.now.image old.now.sunk → EachMoment old new P
 each_syncs (Ok value) old new P synced before after = each_passes old new P synced.passes
-    (λ image sunk leaves between. stays old.now.sunk new.now.sunk (λ octets. P image octets) synced.sunk (before image leaves) sunk between)
+    (λ image sunk leaves between. stays old.now.sunk new.now.sunk (λ octets. P image octets) synced.sunk
+    (before image leaves) sunk between)
     (λ image leaves.
     let reads : image ≡ old.now.image = synced_leaves new.now image synced.is_synced leaves ∙ synced.image in
     subst (λ (octets : List ℕ). P image octets) (sym synced.sunk)
@@ -254,5 +263,6 @@ sank_synced octets old new sank synced =
 pub puts_synced : {T E : Type 0} → (octets : List ℕ) (result : Result T E) (old new : Trace)
     → Puts octets result old new → IsSynced old.now → IsSynced new.now
 puts_synced octets (Ok value) old new puts synced = sank_synced octets old new puts.0 synced
-puts_synced octets (Err error) old new (inl same) synced = subst (λ (trace : Trace). IsSynced trace.now) (sym same) synced
+puts_synced octets (Err error) old new (inl same) synced =
+    subst (λ (trace : Trace). IsSynced trace.now) (sym same) synced
 puts_synced octets (Err error) old new (inr sank) synced = sank_synced octets old new sank synced

@@ -1,5 +1,7 @@
 -- Octets in the written ranges, and a fill of them that has come so far.
-use Rattle.std.proofs.Common.{◌≡◌, ◌≢◌, ℕ, ◌+◌, ◌-◌, ◌<◌, ◌≤◌, ◌⊎◌, ◌||◌, ◌&&◌, nat_le, nat_lt, Bool, true, false, List, [], ◌∷◌, length, get_or, arith, refl, subst, inl, inr, get_or-set_other, get_or-set_same, slice_set}
+use Rattle.std.proofs.Common.{◌≡◌, ◌≢◌, ℕ, ◌+◌, ◌-◌, ◌<◌, ◌≤◌, ◌⊎◌, ◌||◌, ◌&&◌, nat_le, nat_lt, Bool, true, false, List}
+use Rattle.std.proofs.Common.{[], ◌∷◌, length, get_or, arith, refl, subst, inl, inr, get_or-set_other, get_or-set_same}
+use Rattle.std.proofs.Common.{slice_set}
 use Rattle.std.specs.List.{list_any}
 use Rattle.std.specs.Bool.{MatchBool}
 use Rattle.std.proofs.lemmas.Bool.Decides.{nat_tests}
@@ -25,10 +27,12 @@ either P Q R S false true q r = inr r
 either P Q R S false false q s = (q, s)
 
 -- the test of all ranges tells on which side an octet lies
-pub sides : (ranges : List (ℕ × ℕ)) (i : ℕ) → MatchBool (list_any (covers i) ranges) (Inside ranges i) (Outside ranges i)
+pub sides : (ranges : List (ℕ × ℕ)) (i : ℕ)
+    → MatchBool (list_any (covers i) ranges) (Inside ranges i) (Outside ranges i)
 sides [] i = tt
 sides (range ∷ ranges) i =
-    either _ _ _ _ (covers i range) (list_any (covers i) ranges) (one_by range.0 range.1 i _ _ refl refl) (sides ranges i)
+    either _ _ _ _ (covers i range) (list_any (covers i) ranges) (one_by range.0 range.1 i _ _ refl refl)
+    (sides ranges i)
 
 -- no octet lies on both sides
 apart : (ranges : List (ℕ × ℕ)) (i : ℕ) → Inside ranges i → Outside ranges i → ⊥
@@ -54,7 +58,8 @@ fills n octet ranges old new so_far within here = record {
     | inl same ↦ absurd (apart ranges n here (subst (λ (k : ℕ). Outside ranges k) same outside))
     | inr other ↦ rw get_or-set_other (so_far.outside i outside)
   ];
-  behind = λ i high. let other : i ≢ n = omega arith in let from : n ≤ i = omega arith in rw get_or-set_other (so_far.behind i from);
+  behind = λ i high. let other : i ≢ n = omega arith in let from : n ≤ i = omega arith in
+      rw get_or-set_other (so_far.behind i from);
 }
 
 -- it lies in none

@@ -1,10 +1,12 @@
 -- A write that is undone leaves what stood before it: for `Undo::of` and `Undo::restore`.
-use Rattle.std.proofs.Common.{◌≡◌, ℕ, ◌+◌, ◌-◌, ◌≤◌, List, ◌++◌, length, take, drop, min, ◌∙◌, sym, ap, refl, append_assoc}
+use Rattle.std.proofs.Common.{◌≡◌, ℕ, ◌+◌, ◌-◌, ◌≤◌, List, ◌++◌, length, take, drop, min, ◌∙◌, sym, ap, refl}
+use Rattle.std.proofs.Common.{append_assoc}
 use Rattle.std.proofs.lemmas.List.{take-append-drop, drop-drop, length-take-le, length-append, length-drop, take_min}
 use Rattle.std.proofs.Math.Seq.{take-append_seam, drop-append_seam, take-length}
 use Rattle.sdls_outside.specs.Site.{overwritten}
 
-front_stays : (image octets : List ℕ) (at : ℕ) → at ≤ length image → take at (overwritten image at octets) ≡ take at image
+front_stays : (image octets : List ℕ) (at : ℕ) → at ≤ length image
+    → take at (overwritten image at octets) ≡ take at image
 front_stays image octets at within =
     let rest = drop (at + length octets) image in
     let long : length (take at image) ≡ at = length-take-le at image within in
@@ -16,7 +18,8 @@ rest_stays : (image octets : List ℕ) (at : ℕ) → at ≤ length image
     → drop (at + length octets) (overwritten image at octets) ≡ drop (at + length octets) image
 rest_stays image octets at within =
     let rest = drop (at + length octets) image in
-    let long : length (take at image ++ octets) ≡ at + length octets = rw length-append (ap (λ n. n + length octets) (length-take-le at image within)) in
+    let long : length (take at image ++ octets) ≡ at + length octets =
+    rw length-append (ap (λ n. n + length octets) (length-take-le at image within)) in
     ap (λ n. drop n (take at image ++ octets ++ rest)) (sym long) ∙ drop-append_seam (take at image ++ octets) rest
 
 -- what the write wrote over stands in its place again

@@ -1,5 +1,6 @@
 -- Where nothing was done but to put octets, a crash leaves what one before may have left, for `run_stat`.
-use Rattle.std.proofs.Common.{◌≡◌, ◌≢◌, ◌⊎◌, inl, inr, Some, None, ℕ, ◌<◌, ◌≤◌, List, [], ◌∷◌, ◌++◌, length, drop, get_or, refl, sym, ◌∙◌, ap, subst, arith, append_assoc, append-nil}
+use Rattle.std.proofs.Common.{◌≡◌, ◌≢◌, ◌⊎◌, inl, inr, Some, None, ℕ, ◌<◌, ◌≤◌, List, [], ◌∷◌, ◌++◌, length, drop}
+use Rattle.std.proofs.Common.{get_or, refl, sym, ◌∙◌, ap, subst, arith, append_assoc, append-nil}
 use Rattle.std.proofs.lemmas.List.{drop_at, drop_all, length-append}
 use Rattle.sdls_outside.specs.Disk.{Disk, Leaves, Outside}
 use Rattle.sdls_outside.specs.Moments.{Trace, clock, Moments, MomentSince, EachMoment, Continues}
@@ -19,11 +20,13 @@ leaves_back old new same image leaves = record {
       ∙ ap (λ (synced : List ℕ). get_or synced i 0) same.synced;
 }
 
-moments_back : (base : Disk) (past : List Disk) (now : Disk) (image sunk : List ℕ) → AllSameDisk base past → SameDisk base now
+moments_back : (base : Disk) (past : List Disk) (now : Disk) (image sunk : List ℕ) → AllSameDisk base past
+    → SameDisk base now
     → Moments past now image sunk → Leaves base image
 moments_back base [] now image sunk all same moment = leaves_back base now same image moment.0
 moments_back base (disk ∷ past) now image sunk all same (inl call) = leaves_back base disk all.0 image call.0
-moments_back base (disk ∷ past) now image sunk all same (inr rest) = moments_back base past now image sunk all.1 same rest
+moments_back base (disk ∷ past) now image sunk all same (inr rest) =
+    moments_back base past now image sunk all.1 same rest
 
 snoc_same : (xs ys : List Disk) (x y : Disk) → xs ++ x ∷ [] ≡ ys ++ y ∷ [] → (xs ≡ ys) × (x ≡ y)
 snoc_same [] [] x y is = (refl, cc)
@@ -52,18 +55,21 @@ itself disk = record { image = refl; synced = refl; ranges = refl }
 
 -- how the trace goes on, and that all that stood since is the disk as it was
 abbrev Goes : Trace → Trace → Type 0
-Goes old new = (new ≡ old) ⊎ ((since : List Disk) × (new.past ≡ old.past ++ old.now ∷ since) × AllSameDisk old.now since)
+Goes old new =
+    (new ≡ old) ⊎ ((since : List Disk) × (new.past ≡ old.past ++ old.now ∷ since) × AllSameDisk old.now since)
 
 goes : (old new : Trace) → OnlySinks old new → Goes old new
 goes old new sinks = elim (last_of sinks.more) [
   | inl none ↦
-      let same : states new ≡ states old = sinks.goes_on ∙ ap (λ (l : List Disk). states old ++ l) none ∙ append-nil (states old) in
+      let same : states new ≡ states old = sinks.goes_on ∙ ap (λ (l : List Disk). states old ++ l) none
+      ∙ append-nil (states old) in
       let both = snoc_same new.past old.past new.now old.now same in
       inl (ap (λ (past : List Disk). record { now = new.now; past = past }) both.0
       ∙ ap (λ (now : Disk). record { now = now; past = old.past }) both.1)
   | inr some ↦
       let same : states new ≡ (states old ++ some.0) ++ some.1 ∷ [] =
-      sinks.goes_on ∙ ap (λ (l : List Disk). states old ++ l) some.2 ∙ sym (append_assoc (states old) some.0 (some.1 ∷ [])) in
+      sinks.goes_on ∙ ap (λ (l : List Disk). states old ++ l) some.2
+      ∙ sym (append_assoc (states old) some.0 (some.1 ∷ [])) in
       let both = snoc_same new.past (states old ++ some.0) new.now some.1 same in
       inr (
         some.0,
@@ -76,14 +82,17 @@ continues : (old new : Trace) → Goes old new → Continues old new
 continues old new (inl same) = inl same
 continues old new (inr more) = inr (more.0, more.1)
 
-each_back : (old new : Trace) → OnlySinks old new → Goes old new → (image sunk : List ℕ) → MomentSince (clock old) new image sunk
+each_back : (old new : Trace) → OnlySinks old new → Goes old new → (image sunk : List ℕ)
+    → MomentSince (clock old) new image sunk
     → Leaves old.now image
 each_back old new sinks (inl same) image sunk moment =
-    let here : Moments [] old.now image sunk = subst (λ (past : List Disk). Moments past old.now image sunk) (drop_all (clock old) old.past (omega arith))
+    let here : Moments [] old.now image sunk =
+    subst (λ (past : List Disk). Moments past old.now image sunk) (drop_all (clock old) old.past (omega arith))
     (subst (λ (trace : Trace). MomentSince (clock old) trace image sunk) same moment) in
     here.0
 each_back old new sinks (inr more) image sunk moment =
-    let since : drop (clock old) new.past ≡ old.now ∷ more.0 = ap (drop (clock old)) more.1 ∙ drop_at old.past (old.now ∷ more.0) (clock old) refl in
+    let since : drop (clock old) new.past ≡ old.now ∷ more.0 =
+    ap (drop (clock old)) more.1 ∙ drop_at old.past (old.now ∷ more.0) (clock old) refl in
     moments_back old.now (old.now ∷ more.0) new.now image sunk (itself old.now, more.2) sinks.stands
     (subst (λ (past : List Disk). Moments past new.now image sunk) since moment)
 
@@ -99,10 +108,11 @@ sinks_leave old new sinks =
     record {
       later = later old new on;
       each = each_back old new sinks on;
-      before = λ time image sunk early moment. elim (moment_split old new time image sunk (continues old new on) early moment) [
-        | inl first ↦ inl first
-        | inr rest ↦ inr (each_back old new sinks on image sunk rest)
-      ];
+      before = λ time image sunk early moment.
+          elim (moment_split old new time image sunk (continues old new on) early moment) [
+            | inl first ↦ inl first
+            | inr rest ↦ inr (each_back old new sinks on image sunk rest)
+          ];
     }
 
 some_none : (offset : ℕ) → None ≡ Some offset → ⊥

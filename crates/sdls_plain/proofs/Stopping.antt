@@ -1,5 +1,6 @@
 -- What a crash leaves of `init`, for its clauses `moments`.
-use Rattle.std.proofs.Common.{◌≡◌, ◌⊎◌, inl, inr, ℕ, ◌<◌, ◌≤◌, Bool, true, false, IsTrue, List, [], length, take, Some, refl, sym, ap, subst, arith}
+use Rattle.std.proofs.Common.{◌≡◌, ◌⊎◌, inl, inr, ℕ, ◌<◌, ◌≤◌, Bool, true, false, IsTrue, List, [], length, take, Some}
+use Rattle.std.proofs.Common.{refl, sym, ap, subst, arith}
 use Rattle.std.proofs.lemmas.Bool.{false≢true}
 use Rattle.sdls_outside.specs.Disk.{Leaves}
 use Rattle.sdls_outside.specs.Intake.{Collects}
@@ -51,7 +52,8 @@ whole cut text plan first says image change = elim (cut (bare_of text) plan.slot
 ]
 
 -- the image of the plan is written
-pub while_writing : CutsOff → (text : List ℕ) (plan : PlanLines) (first : State) (old mid new : Trace) → SaysPlan text plan first
+pub while_writing : CutsOff → (text : List ℕ) (plan : PlanLines) (first : State) (old mid new : Trace)
+    → SaysPlan text plan first
     → IsLaid New (bare_of text) plan.slots (content_of Two first) old mid new → EachMoment old new (AtMoment text)
 while_writing cut text plan first old mid new says laid =
     let early : EachMoment old mid (AtMoment text) =
@@ -65,11 +67,13 @@ while_writing cut text plan first old mid new says laid =
     ]
 
 -- a text that says a plan is the input
-input_of : (left_old left_new buffer : List ℕ) (count : ℕ) → length buffer ≡ 65537 → Collects left_old left_new buffer count
+input_of : (left_old left_new buffer : List ℕ) (count : ℕ) → length buffer ≡ 65537
+    → Collects left_old left_new buffer count
     → (image : List ℕ) → IsNoneOrInitial (take count buffer) image → IsNoneOrInitial left_old image
 input_of left_old left_new buffer count sized collects image (inl none) = inl none
 input_of left_old left_new buffer count sized collects image (inr made) =
-    let same : take count buffer ≡ left_old = said_whole left_old left_new buffer count made.0 sized collects made.2.read in
+    let same : take count buffer ≡ left_old =
+    said_whole left_old left_new buffer count made.0 sized collects made.2.read in
     subst (λ (input : List ℕ). IsNoneOrInitial input image) same (inr made)
 
 -- what holds for the text that was collected holds for the input
@@ -93,5 +97,6 @@ and_puts IsInput old mid new leaves sinks = (
   leaves.1,
   each_then old mid new (AtMoment leaves.0) leaves.2
       (each_weaker mid new (λ image sunk. Leaves mid.now image) (AtMoment leaves.0)
-      (λ image sunk left. leaves.2.each image mid.now.sunk (moment_now mid (clock old) image left)) (sinks_leave mid new sinks)),
+      (λ image sunk left. leaves.2.each image mid.now.sunk (moment_now mid (clock old) image left))
+      (sinks_leave mid new sinks)),
 )

@@ -29,8 +29,8 @@ use std::alloc::Global;
 /// `check KEY` reads one AOS transfer frame from the source and writes `ok` with its data field in hexadecimal digits,
 /// or `refused` with the first check that fails. It takes no memory.
 ///
-/// `init` reads a plan from the source and makes the image of it, if there is none, and writes nothing; or it writes why
-/// not, and the image is as it was, except after a fault of the site.
+/// `init` reads a plan from the source and makes the image of it, if there is none, and writes nothing; or it writes
+/// why not, and the image is as it was, except after a fault of the site.
 ///
 /// `stat` writes the state that the image shows as text, or why there is none. It brings the image to rest as each
 /// opening does, and changes nothing else.

@@ -16,23 +16,29 @@ use Rattle.audit_run.specs.Text.{audit_status, audit_text, clean_text}
 
 -- an audit of these runs says that all is well, with these counts
 abbrev pub IsClean : List (List ℕ) → AuditEnd → Type 0
-IsClean sunk end = (answers : List Answer) × RunsCount sunk answers × (end ≡ Clean (length sunk) (uses_in answers) (acceptances_in answers))
+IsClean sunk end = (answers : List Answer) × RunsCount sunk answers
+    × (end ≡ Clean (length sunk) (uses_in answers) (acceptances_in answers))
 
 abbrev Passes : List (List ℕ) → Bool → Trace → Trace → ℕ → Type 0
 Passes sunk told old new status = ((answers : List Answer) × RunsCount sunk answers × (status ≡ DONE)
-    × (IsTrue told → Sinks (clean_text (length sunk) (uses_in answers) (acceptances_in answers)) old new)) ⊎ (status ≡ NO_MEMORY)
+    × (IsTrue told → Sinks (clean_text (length sunk) (uses_in answers) (acceptances_in answers)) old new))
+    ⊎ (status ≡ NO_MEMORY)
 
 ends_due : (told : Bool) (old new : Trace) (text : List ℕ) (due status : ℕ) → Ends told old new ⊥ text due status
     → (status ≡ due) × (IsTrue told → Sinks text old new)
 ends_due told old new text due status (inl ends) = ends
 ends_due told old new text due status (inr failed) = absurd failed.1
 
-pub passes_audit : (sunk : List (List ℕ)) (told : Bool) (old new : Trace) (status : ℕ) → length (recording sunk) ≤ MOST_OCTETS
+pub passes_audit : (sunk : List (List ℕ)) (told : Bool) (old new : Trace) (status : ℕ)
+    → length (recording sunk) ≤ MOST_OCTETS
     → ((end : AuditEnd) → AuditSays (recording sunk) end → IsClean sunk end)
-    → EndsAudit (λ input. input ≡ take MOST_OCTETS (recording sunk)) ⊥ told old new ⊥ status → Passes sunk told old new status
-passes_audit sunk told old new status few clean (text, due, is_due, ends) = by_due is_due (ends_due told old new text due status ends)
+    → EndsAudit (λ input. input ≡ take MOST_OCTETS (recording sunk)) ⊥ told old new ⊥ status
+    → Passes sunk told old new status
+passes_audit sunk told old new status few clean (text, due, is_due, ends) =
+    by_due is_due (ends_due told old new text due status ends)
   where
-    by_due : AuditDue (λ input. input ≡ take MOST_OCTETS (recording sunk)) ⊥ text due → (status ≡ due) × (IsTrue told → Sinks text old new)
+    by_due : AuditDue (λ input. input ≡ take MOST_OCTETS (recording sunk)) ⊥ text due
+        → (status ≡ due) × (IsTrue told → Sinks text old new)
         → Passes sunk told old new status
     by_due (inl (end, (input, is_input, says), text_is, due_is)) (status_is, sinks) =
         let whole : input ≡ recording sunk = is_input ∙ take_all MOST_OCTETS (recording sunk) few in

@@ -1,5 +1,6 @@
 -- Calls one after the other are a life: for `calls_are_a_life`.
-use Rattle.std.proofs.Common.{◌≡◌, ◌⊎◌, ℕ, IsTrue, List, [], ◌∷◌, ◌++◌, length, take, inl, inr, refl, sym, ◌∙◌, ap, subst}
+use Rattle.std.proofs.Common.{◌≡◌, ◌⊎◌, ℕ, IsTrue, List, [], ◌∷◌, ◌++◌, length, take, inl, inr, refl, sym, ◌∙◌, ap}
+use Rattle.std.proofs.Common.{subst}
 use Rattle.sdls_outside.specs.Disk.{Leaves}
 use Rattle.sdls_outside.specs.Moments.{clock, MomentSince}
 use Rattle.unit_plan.specs.PlanLines.{PlanLines}
@@ -21,17 +22,20 @@ AreOnce = (image : List ℕ) (runs : List LifeRun) → IsLife image runs → Onc
 -- what the last call adds to the life of those before it, at one of its moments
 abbrev AddsLast : PastCall → List ℕ → List ℕ → List LifeRun → Type 0
 AddsLast last first image runs = IsBeforeAnswers last image
-    ⊎ ((plan : PlanLines) × (state : State) × ShowsAtEntry last.call plan state × LivesOn first runs (as_run last plan state image))
+    ⊎ ((plan : PlanLines) × (state : State) × ShowsAtEntry last.call plan state
+    × LivesOn first runs (as_run last plan state image))
 
 module _ (last : PastCall) (first image : List ℕ) (runs : List LifeRun) (plan : PlanLines) (state : State)
-    (account : Account) (ends put : List ℕ) (account_is : last.account ≡ account) (ends_are : last.ends ≡ ends) (put_is : last.put ≡ put) where
+    (account : Account) (ends put : List ℕ) (account_is : last.account ≡ account) (ends_are : last.ends ≡ ends)
+    (put_is : last.put ≡ put) where
   -- the run with what the call did is that of the call
   same_run : run_of last.call account plan state ends image put ≡ as_run last plan state image
   same_run = sym (ap (λ (a : Account). run_of last.call a plan state last.ends image last.put) account_is
       ∙ ap (λ (e : List ℕ). run_of last.call account plan state e image last.put) ends_are
       ∙ ap (λ (p : List ℕ). run_of last.call account plan state ends image p) put_is)
 
-  lives_same : LivesOn first runs (run_of last.call account plan state ends image put) → LivesOn first runs (as_run last plan state image)
+  lives_same : LivesOn first runs (run_of last.call account plan state ends image put)
+      → LivesOn first runs (as_run last plan state image)
   lives_same lives = subst (LivesOn first runs) same_run lives
 
 by_run : (last : PastCall) (first image : List ℕ) (runs : List LifeRun) → IsRunCall last → IsTrue last.call.told
@@ -43,19 +47,24 @@ by_run last first image runs run told moment life left =
   where
     by : (plan : PlanLines) (state : State) → ShowsAtEntry last.call plan state
         → IsEarly last.call run.promised.ends.account.told image last.sunk
-        ⊎ LivesOn first runs (run_of last.call run.promised.ends.account plan state (end_octets last.call run.promised.ends.account.told) image
+        ⊎ LivesOn first runs (run_of last.call run.promised.ends.account plan state
+        (end_octets last.call run.promised.ends.account.told) image
         (sunk_since last.call last.sunk))
         → AddsLast last first image runs
     by plan state shows (inl early) = inl (record {
       leaves = early.leaves;
-      only_end = run.put_is ∙ early.only_end ∙ ap (λ (p : List ℕ). take (length p) (end_octets last.call run.promised.ends.account.told)) (sym run.put_is)
+      only_end =
+          run.put_is ∙ early.only_end
+          ∙ ap (λ (p : List ℕ). take (length p) (end_octets last.call run.promised.ends.account.told))
+          (sym run.put_is)
           ∙ ap (λ (e : List ℕ). take (length last.put) e) (sym run.ends_are);
     })
     by plan state shows (inr lives) = inr (
       plan,
       state,
       shows,
-      lives_same last first image runs plan state run.promised.ends.account (end_octets last.call run.promised.ends.account.told)
+      lives_same last first image runs plan state run.promised.ends.account
+          (end_octets last.call run.promised.ends.account.told)
           (sunk_since last.call last.sunk) run.account_is run.ends_are run.put_is lives,
     )
 
@@ -67,7 +76,8 @@ by_other last first image runs other told moment life left =
     by adds.plan adds.state adds.shows (adds.moments.each image last.sunk moment)
   where
     by : (plan : PlanLines) (state : State) → ShowsAtEntry last.call plan state
-        → Leaves last.call.site.trace.now image ⊎ LivesOn first runs (run_of last.call (no_account last.call) plan state [] image [])
+        → Leaves last.call.site.trace.now image
+        ⊎ LivesOn first runs (run_of last.call (no_account last.call) plan state [] image [])
         → AddsLast last first image runs
     by plan state shows (inl leaves) = inl (record {
       leaves = leaves;
@@ -77,17 +87,20 @@ by_other last first image runs other told moment life left =
       plan,
       state,
       shows,
-      lives_same last first image runs plan state (no_account last.call) [] [] other.account_is other.ends_are other.put_is lives,
+      lives_same last first image runs plan state (no_account last.call) [] [] other.account_is other.ends_are
+          other.put_is lives,
     )
 
-adds_last : (last : PastCall) (first image : List ℕ) (runs : List LifeRun) → IsRunCall last ⊎ IsOtherCall last → IsTrue last.call.told
+adds_last : (last : PastCall) (first image : List ℕ) (runs : List LifeRun) → IsRunCall last ⊎ IsOtherCall last
+    → IsTrue last.call.told
     → MomentSince (clock last.call.site.trace) last.call.site_after.trace image last.sunk → IsLife first runs
     → left_by first runs ≡ image_at_entry last.call → AddsLast last first image runs
 adds_last last first image runs (inl run) = by_run last first image runs run
 adds_last last first image runs (inr other) = by_other last first image runs other
 
 -- the life of the calls with the last one, by that of those before it
-with_last : (first : List ℕ) (last : PastCall) (before : List PastCall) (image : List ℕ) (here : AreLife first before (image_at_entry last.call))
+with_last : (first : List ℕ) (last : PastCall) (before : List PastCall) (image : List ℕ)
+    (here : AreLife first before (image_at_entry last.call))
     → ((other : List ℕ) → Leaves last.call.site.trace.now other → AreLife first before other)
     → AddsLast last first image here.runs → AreLife first (last ∷ before) image
 with_last first last before image here others (inl early) =

@@ -12,7 +12,8 @@ use Rattle.run_promise.specs.Life.{no_account}
 use Rattle.run_promise.specs.Sound.{SoundMoment}
 use Rattle.law_runs.specs.Reads.{IsRead, ReadsAlone, ReadsSoundly}
 use Rattle.command_words.specs.declared.command.Command.{Command}
-use Rattle.command_words.specs.declared.command.Command.TheVariants.{Check, Init, Stat, Run, Audit, Drill, LinkDrill, Usage}
+use Rattle.command_words.specs.declared.command.Command.TheVariants.{Check, Init, Stat, Run, Audit, Drill, LinkDrill}
+use Rattle.command_words.specs.declared.command.Command.TheVariants.{Usage}
 use Rattle.sdls_plain.proofs.Sinking.{is_there, sinks_leave}
 use Rattle.sdls_plain.specs.Stat.{EndsStat, StatMoment}
 
@@ -22,9 +23,11 @@ is_read call image (inr (inl settles)) = inr (inl settles)
 is_read call image (inr (inr shown)) = inr (inr (shown.0, shown.1, shown.2.shows, shown.2.no_form))
 
 pub reads_alone : (call : CallSeen)
-    → EndsStat call.told call.site.trace call.site_after.trace (Rose call.site.faults call.site_after.faults) call.status → ReadsAlone call
+    → EndsStat call.told call.site.trace call.site_after.trace (Rose call.site.faults call.site_after.faults)
+    call.status → ReadsAlone call
 reads_alone call ends is_told =
-    each_weaker call.site.trace call.site_after.trace (λ image sunk. StatMoment call.site.trace image) (λ image sunk. IsRead call image)
+    each_weaker call.site.trace call.site_after.trace (λ image sunk. StatMoment call.site.trace image)
+    (λ image sunk. IsRead call image)
     (λ image sunk moment. is_read call image moment) (ends.moments is_told)
 
 -- if nothing was done but to write output, a crash leaves what one at the entry may leave

@@ -32,7 +32,8 @@ pub record IsOtherCall (last : PastCall) : Type 0 where
   pub ends_are : last.ends ≡ []
   pub put_is : last.put ≡ []
 
--- After these calls, the last one first, a crash may leave this image, if the unit began with the first image. Each call
+-- After these calls, the last one first, a crash may leave this image, if the unit began with the first image. Each
+-- call
 -- was entered with an image that those before it may leave. So is each that a crash at its entry may leave. It ended at
 -- one of its moments, at which a crash may leave the image.
 abbrev pub MayLeave : List ℕ → List PastCall → List ℕ → Type 0

@@ -2,9 +2,9 @@
 //! writes the recorded input that they say; `sdls_text show` prints the lines of recorded input; `sdls_text answers`
 //! reads answers and prints their lines, and behind `--json` each as a JSON object. `text_streams` decides what is
 //! written. `sdls_text state` reads what `sdls stat` prints, and prints a JSON object for each line. `text_streams`
-//! decides that too. `sdls_text plan` reads a plan and prints its lines at fault, or the state that it makes, as `plan_text`
-//! says. `sdls_text recording FILE..` reads the files that it names, and writes them as a recording, as `text_streams`
-//! says too.
+//! decides that too. `sdls_text plan` reads a plan and prints its lines at fault, or the state that it makes, as
+//! `plan_text` says. `sdls_text recording FILE..` reads the files that it names, and writes them as a recording, as
+//! `text_streams` says too.
 #![tactic(auto)]
 
 mod recording;

@@ -1,5 +1,7 @@
 -- The words of the rows, raised one after the other, and what the first worker knows.
-use Rattle.std.proofs.Common.{◌≡◌, ◌≢◌, ◌⊎◌, inl, inr, ℕ, zero, suc, ◌+◌, ◌-◌, ◌<◌, ◌≤◌, max, nat_lt, Bool, true, false, List, [], ◌∷◌, ◌++◌, length, refl, sym, ap, subst, ◌∙◌, append-nil, eq-eqb, ◌==◌, if◌then◌else◌, arith}
+use Rattle.std.proofs.Common.{◌≡◌, ◌≢◌, ◌⊎◌, inl, inr, ℕ, zero, suc, ◌+◌, ◌-◌, ◌<◌, ◌≤◌, max, nat_lt, Bool, true, false}
+use Rattle.std.proofs.Common.{List, [], ◌∷◌, ◌++◌, length, refl, sym, ap, subst, ◌∙◌, append-nil, eq-eqb, ◌==◌}
+use Rattle.std.proofs.Common.{if◌then◌else◌, arith}
 use Rattle.std.proofs.lemmas.Bool.Decides.{nat_tests}
 use mathlib.Core.Logic.{dite}
 use native.Mathlib.Decide.{ℕ_discrete}
@@ -17,7 +19,8 @@ use Rattle.counter_table.specs.declared.view.View.{View}
 use Rattle.counter_table.specs.declared.counters.Counters.{Counters}
 use Rattle.counter_table.specs.declared.counters.Worker.{Worker}
 use Rattle.counter_table.specs.Known.{known_mark, pieces}
-use Rattle.counter_table.specs.Numbers.{amount, count_of, top, raising, lifting, joined, keeper, newcomer, first_numbers, ALL_SHARES}
+use Rattle.counter_table.specs.Numbers.{amount, count_of, top, raising, lifting, joined, keeper, newcomer}
+use Rattle.counter_table.specs.Numbers.{first_numbers, ALL_SHARES}
 use Rattle.counter_table.specs.Turn.{stands, places, no_turn, filling, learning, merged, beginner}
 use Rattle.counter_table.specs.Play.{IsAsKnown}
 use Rattle.counter_table.specs.Whole.{IsWhole}
@@ -37,7 +40,8 @@ raised_none book v known = record {
   holds = record {
     marks = book.marks;
     below = λ row. omega arith;
-    is = ap (λ (k : Known). record v.turn { known = record v.turn.known { marks = k.marks; changes = k.changes } }) known;
+    is = ap (λ (k : Known). record v.turn { known = record v.turn.known { marks = k.marks; changes = k.changes } })
+        known;
   };
   drawn = refl;
   spent = refl;
@@ -52,7 +56,8 @@ top_raised row m mark ps = rw (top-append row ps ((row, m) ∷ (row, max m mark)
 top_kept : (row : ℕ) (ps qs : List (ℕ × ℕ)) → top row ps ≤ top row (ps ++ qs)
 top_kept row ps qs = let h = top-append row ps qs in omega arith
 
-low_numbers : (row n mark : ℕ) (ps : List (ℕ × ℕ)) → top row (ps ++ (n, mark) ∷ []) ≡ max (top row ps) (max (if n == row then mark else 0) 0)
+low_numbers : (row n mark : ℕ) (ps : List (ℕ × ℕ)) → top row (ps ++ (n, mark) ∷ [])
+    ≡ max (top row ps) (max (if n == row then mark else 0) 0)
 low_numbers row n mark ps = top-append row ps ((n, mark) ∷ [])
 
 none_else : (n row mark : ℕ) → (row ≡ n → ⊥) → max (if n == row then mark else 0) 0 ≡ 0
@@ -70,7 +75,8 @@ none_counted row [] e = refl
 none_counted row (p ∷ ps) e = absurd cc
 
 pub raised_more : (book : Known) (n m mark lifted : ℕ) (v u x w : View) → IsRaised book n v u → mark ≡ known_mark book n
-    → x.numbers ≡ raising n mark m u.numbers → x.turn ≡ u.turn → w.numbers ≡ lifting n lifted x.numbers → w.turn ≡ learning book.marks x.turn
+    → x.numbers ≡ raising n mark m u.numbers → x.turn ≡ u.turn → w.numbers ≡ lifting n lifted x.numbers
+    → w.turn ≡ learning book.marks x.turn
     → IsRaised book (n + 1) v w
 raised_more book n m mark lifted v u x w r is one same two learned =
     record {
@@ -93,7 +99,8 @@ raised_more book n m mark lifted v u x w r is one same two learned =
 
       here : (row : ℕ) → row ≡ n → known_mark book row ≤ top row w.numbers.nexts
       here row e =
-          let a : mark ≤ top n w.numbers.nexts = subst (λ (ps : List (ℕ × ℕ)). mark ≤ top n ps) (sym nexts) (top_raised n m mark u.numbers.nexts) in
+          let a : mark ≤ top n w.numbers.nexts =
+          subst (λ (ps : List (ℕ × ℕ)). mark ≤ top n ps) (sym nexts) (top_raised n m mark u.numbers.nexts) in
           let b : known_mark book n ≤ top n w.numbers.nexts = omega arith in
           subst (λ (q : ℕ). known_mark book q ≤ top q w.numbers.nexts) (sym e) b
 
@@ -146,19 +153,23 @@ first_none start (suc n) = refl
 -- what a worker knows that gave a share away and took it back
 module _ (k : Known) (t u : Turn) (is : u ≡ taking_once k k t) where
   pub back_log : (merged u (beginner u)).known.log ≡ k.log
-  back_log = ap (λ (v : Turn). (merged v (beginner v)).known.log) is ∙ same_if (nat_lt (length k.log) (length k.log)) k.log
+  back_log = ap (λ (v : Turn). (merged v (beginner v)).known.log) is ∙ same_if (nat_lt (length k.log) (length k.log))
+      k.log
 
   pub back_opening : (merged u (beginner u)).known.opening ≡ k.opening
   back_opening = ap (λ (v : Turn). (merged v (beginner v)).known.opening) is ∙ same_if t.filled k.opening
 
   pub back_puts : (merged u (beginner u)).known.put_faults ≡ k.put_faults
-  back_puts = ap (λ (v : Turn). (merged v (beginner v)).known.put_faults) is ∙ (let p : max k.put_faults k.put_faults ≡ k.put_faults = omega arith in p)
+  back_puts = ap (λ (v : Turn). (merged v (beginner v)).known.put_faults) is
+      ∙ (let p : max k.put_faults k.put_faults ≡ k.put_faults = omega arith in p)
 
   pub back_faults : (merged u (beginner u)).known.faults ≡ k.faults
-  back_faults = ap (λ (v : Turn). (merged v (beginner v)).known.faults) is ∙ (let p : max k.faults k.faults ≡ k.faults = omega arith in p)
+  back_faults = ap (λ (v : Turn). (merged v (beginner v)).known.faults) is ∙ (let p : max k.faults k.faults ≡ k.faults =
+      omega arith in p)
 
   pub back_standing : (merged u (beginner u)).known.standing ≡ k.standing
-  back_standing = ap (λ (v : Turn). (merged v (beginner v)).known.standing) is ∙ (let p : max k.standing k.standing ≡ k.standing = omega arith in p)
+  back_standing = ap (λ (v : Turn). (merged v (beginner v)).known.standing) is
+      ∙ (let p : max k.standing k.standing ≡ k.standing = omega arith in p)
 
   pub back_made : t.made ≡ [] → (merged u (beginner u)).made ≡ []
   back_made none = append-nil u.made ∙ ap (λ (v : Turn). v.made) is
@@ -167,24 +178,32 @@ module _ (k : Known) (t u : Turn) (is : u ≡ taking_once k k t) where
 
 module _ {B : Type 0} (told : Bool) (book found : BookView) where
   pub begins : (counters : Counters B) (plan : PlanLines) (worker : Worker B) (t : Turn) (v w u : View)
-      → t ≡ filling (known_of_book book) no_turn → book.log ≡ [] → TakesOnce (known_of_book found) (known_of_book found) t u.turn
-      → IsAsKnown t (known_of_book found) → IsKept told book → IsKept told found → v.numbers ≡ first_numbers → IsRaised (known_of_book found) MOST_KEYS v w → u.numbers ≡ w.numbers
-      → view worker ≡ record { numbers = joined (keeper u.numbers) (newcomer u.numbers); turn = merged u.turn (beginner u.turn) }
+      → t ≡ filling (known_of_book book) no_turn → book.log ≡ []
+      → TakesOnce (known_of_book found) (known_of_book found) t u.turn
+      → IsAsKnown t (known_of_book found) → IsKept told book → IsKept told found → v.numbers ≡ first_numbers
+      → IsRaised (known_of_book found) MOST_KEYS v w → u.numbers ≡ w.numbers
+      → view worker ≡ record {
+        numbers = joined (keeper u.numbers) (newcomer u.numbers);
+        turn = merged u.turn (beginner u.turn);
+      }
       → IsReady counters plan worker → ((view worker).numbers.shares ≡ ALL_SHARES → IsWhole MOST_KEYS (view worker))
       → Begins book counters plan worker
   begins counters plan worker t v w u filled first takes known_as begun kept numbers raised later is ready whole =
       record {
         ready = ready;
         shares = shares;
-        drawn = ap (λ (x : View). x.numbers.drawn) is ∙ append-nil u.numbers.drawn ∙ ap (λ (n : Numbers). n.drawn) later ∙ raised.drawn
+        drawn = ap (λ (x : View). x.numbers.drawn) is ∙ append-nil u.numbers.drawn ∙ ap (λ (n : Numbers). n.drawn) later
+            ∙ raised.drawn
             ∙ ap (λ (n : Numbers). n.drawn) numbers;
-        spent = ap (λ (x : View). x.numbers.spent) is ∙ append-nil u.numbers.spent ∙ ap (λ (n : Numbers). n.spent) later ∙ raised.spent
+        spent = ap (λ (x : View). x.numbers.spent) is ∙ append-nil u.numbers.spent ∙ ap (λ (n : Numbers). n.spent) later
+            ∙ raised.spent
             ∙ ap (λ (n : Numbers). n.spent) numbers;
         made = made;
         log = log;
         opening = opening;
         whole = whole shares;
-        standing = ap (λ (x : View). x.turn.known.standing) is ∙ back_standing k t u.turn takes.turn ∙ none_stand found kept log_found
+        standing = ap (λ (x : View). x.turn.known.standing) is ∙ back_standing k t u.turn takes.turn
+            ∙ none_stand found kept log_found
             ∙ sym (none_stand book begun first);
         put_faults = put_faults;
         faults_same = faults_same;
@@ -216,7 +235,8 @@ module _ {B : Type 0} (told : Bool) (book found : BookView) where
             ∙ takes.follows.opening ∙ ap (λ (x : Turn). x.known.opening) filled
 
         log_found : found.log ≡ []
-        log_found = sym (ap (λ (x : View). x.turn.known.log) is ∙ back_log (known_of_book found) t u.turn takes.turn) ∙ log
+        log_found = sym (ap (λ (x : View). x.turn.known.log) is ∙ back_log (known_of_book found) t u.turn takes.turn)
+            ∙ log
 
         start : found.start ≡ book.start
         start = ap (λ (o : Opening). o.start) (takes.follows.opening ∙ ap (λ (x : Turn). x.known.opening) filled)
@@ -262,7 +282,8 @@ module _ {B : Type 0} (told : Bool) (book found : BookView) where
 
         none_drawn : (row : ℕ) → count_of row (view worker).numbers.drawn ≡ 0
         none_drawn row = none_counted row (view worker).numbers.drawn
-            (ap (λ (x : View). x.numbers.drawn) is ∙ append-nil u.numbers.drawn ∙ ap (λ (n : Numbers). n.drawn) later ∙ raised.drawn
+            (ap (λ (x : View). x.numbers.drawn) is ∙ append-nil u.numbers.drawn ∙ ap (λ (n : Numbers). n.drawn) later
+            ∙ raised.drawn
             ∙ ap (λ (n : Numbers). n.drawn) numbers)
 
         words : (row : ℕ) → row < MOST_KEYS → mark_at book.start row ≤ top row (view worker).numbers.nexts

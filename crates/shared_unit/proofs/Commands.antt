@@ -1,5 +1,6 @@
 -- The parts of a command, put together.
-use Rattle.std.proofs.Common.{◌≡◌, ◌⊎◌, inl, inr, ℕ, ◌+◌, ◌<◌, Bool, true, false, if◌then◌else◌, List, ◌++◌, length, append-nil, Option, Some, None, IsSome, IsSomeAnd, Ok, refl, sym, ap, subst, ◌∙◌, arith}
+use Rattle.std.proofs.Common.{◌≡◌, ◌⊎◌, inl, inr, ℕ, ◌+◌, ◌<◌, Bool, true, false, if◌then◌else◌, List, ◌++◌, length}
+use Rattle.std.proofs.Common.{append-nil, Option, Some, None, IsSome, IsSomeAnd, Ok, refl, sym, ap, subst, ◌∙◌, arith}
 use Rattle.std.specs.Option.{option_map_or}
 use Rattle.sdls_base.specs.declared.entry.Entry.{Entry}
 use Rattle.sdls_base.specs.declared.entry.Seen.{Seen}
@@ -41,7 +42,8 @@ use Rattle.shared_unit.proofs.Reserved.{reserves_place}
 use Rattle.shared_unit.proofs.Steps.{continues, goes_opening}
 use Rattle.shared_unit.proofs.Passing.{reserves_changes}
 
-above_held : (o : Option KeyRow) (n : ℕ) → IsSome o → n < option_map_or (λ (held : KeyRow). held.mark) o 1 → IsSomeAnd o (λ held. n < held.mark)
+above_held : (o : Option KeyRow) (n : ℕ) → IsSome o → n < option_map_or (λ (held : KeyRow). held.mark) o 1
+    → IsSomeAnd o (λ held. n < held.mark)
 above_held (Some held) n there h = h
 above_held None n there h = absurd (cc)
 
@@ -58,17 +60,20 @@ goes_up_then a b c one two = record {
       let none = two.goes.stopped mid in
       let stood = two.goes.stood mid in
       let log : entries_of c.log ≡ entries_of b.log =
-      ap entries_of two.goes.log ∙ entries_of-append b.log two.goes.added ∙ ap (λ (es : List Entry). entries_of b.log ++ es) none ∙ append-nil (entries_of b.log) in
+      ap entries_of two.goes.log ∙ entries_of-append b.log two.goes.added
+      ∙ ap (λ (es : List Entry). entries_of b.log ++ es) none ∙ append-nil (entries_of b.log) in
       let size = ap length log in one.calm (omega arith) mid (omega arith);
 }
 
 -- what the words show turns no epoch
-pub satisfies_changes : (need : Need) (seen : Seen) (found middle : BookView) (v w : Numbers) → Satisfies need seen found middle v w
+pub satisfies_changes : (need : Need) (seen : Seen) (found middle : BookView) (v w : Numbers)
+    → Satisfies need seen found middle v w
     → middle.changes ≡ found.changes
 satisfies_changes needs.Nothing sights.Nothing found middle v w h = ap (λ (b : BookView). b.changes) h.0
 satisfies_changes (needs.Look key) (sights.Word n) found middle v w h = ap (λ (b : BookView). b.changes) h.0
 satisfies_changes (needs.Raise key number) (sights.Word n) found middle v w h = ap (λ (b : BookView). b.changes) h.0
-satisfies_changes (needs.Number key) (sights.Number n) found middle v w h = reserves_changes key n (Ok h.mark) found middle h.reserved
+satisfies_changes (needs.Number key) (sights.Number n) found middle v w h =
+    reserves_changes key n (Ok h.mark) found middle h.reserved
 satisfies_changes (needs.Number key) (sights.Exhausted n) found middle v w h = ap (λ (b : BookView). b.changes) h.0
 satisfies_changes need seen found middle v w h = absurd h
 
@@ -84,21 +89,24 @@ fits_need (needs.Number key) (sights.Number n) found middle v w h =
 fits_need (needs.Number key) (sights.Exhausted n) found middle v w h = h.1.out.0
 fits_need need seen found middle v w h = absurd h
 
-pub handles_changes : (index : ℕ) (pdu : List ℕ) (seen : Seen) (found given : BookView) (reply : Reply) (position before : ℕ)
+pub handles_changes : (index : ℕ) (pdu : List ℕ) (seen : Seen) (found given : BookView) (reply : Reply)
+    (position before : ℕ)
     → Handles index pdu seen found given reply position → before ≡ found.changes
     → (given.changes ≡ before) ⊎ (given.changes ≡ before + 1)
 handles_changes index pdu seen found given reply position before h is =
-    one_more (counts h.change) before found.changes given.changes is (ap (λ (b : BookView). b.changes) h.made.1.is) where
-      one_more : (b : Bool) (m n l : ℕ) → m ≡ n → l ≡ n + (if b then 1 else 0) → (l ≡ m) ⊎ (l ≡ m + 1)
-      one_more true m n l a e = inr (omega arith)
-      one_more false m n l a e = inl (omega arith)
+    one_more (counts h.change) before found.changes given.changes is (ap (λ (b : BookView). b.changes) h.made.1.is)
+  where
+    one_more : (b : Bool) (m n l : ℕ) → m ≡ n → l ≡ n + (if b then 1 else 0) → (l ≡ m) ⊎ (l ≡ m + 1)
+    one_more true m n l a e = inr (omega arith)
+    one_more false m n l a e = inl (omega arith)
 
 pub refuses_changes : (index : ℕ) (pdu : List ℕ) (seen : Seen) (found given : BookView) (fault : BookFault)
     → RefusesMessage index pdu seen found given fault → given.changes ≡ found.changes
 refuses_changes index pdu seen found given fault (inl h) = ap (λ (b : BookView). b.changes) h.1
 refuses_changes index pdu seen found given fault (inr (inl h)) = ap (λ (b : BookView). b.changes) h.1
 refuses_changes index pdu seen found given fault (inr (inr h)) = by_fault fault h.1.2 where
-  by_fault : (f : BookFault) → IsUnstored (record_entry index seen h.1.0.0) found given f → given.changes ≡ found.changes
+  by_fault : (f : BookFault) → IsUnstored (record_entry index seen h.1.0.0) found given f
+      → given.changes ≡ found.changes
   by_fault (SiteFault count) u = ap (λ (b : BookView). b.changes) u.3
   by_fault (Stopped count) u = absurd u
   by_fault SessionFull u = absurd u
@@ -141,11 +149,14 @@ module _ (told : Bool) where
           sparing = on.sparing;
           opening = on.opening;
           turn = gave ∙ ap (giving (known_of_book given)) holds.is
-              ∙ ap (λ (k : Turn). giving (known_of_book given) (record k { known = record k.known { marks = holds.marks; changes = given.changes } })) took;
+              ∙ ap (λ (k : Turn).
+              giving (known_of_book given)
+              (record k { known = record k.known { marks = holds.marks; changes = given.changes } })) took;
         };
       }
 
-pub holds_here : (given : BookView) (v w : Turn) → v.known ≡ known_of_book given → w ≡ v → KnowsHeld (known_of_book given) v w
+pub holds_here : (given : BookView) (v w : Turn) → v.known ≡ known_of_book given → w ≡ v
+    → KnowsHeld (known_of_book given) v w
 holds_here given v w known same = record {
   marks = marks_of given.state;
   below = λ row. omega arith;
@@ -153,7 +164,8 @@ holds_here given v w known same = record {
 }
 
 pub holds_of : (found middle given : BookView) (v u w : Turn) → v.known ≡ known_of_book found → GoesUp found middle
-    → KeepsMarks middle.state given.state → (u ≡ v) ⊎ (u ≡ learning (marks_of middle.state) v) → w ≡ knowing given.changes u
+    → KeepsMarks middle.state given.state → (u ≡ v) ⊎ (u ≡ learning (marks_of middle.state) v)
+    → w ≡ knowing given.changes u
     → KnowsHeld (known_of_book given) v w
 holds_of found middle given v u w known on keeps (inl same) is = record {
   marks = marks_of found.state;
@@ -169,8 +181,10 @@ holds_of found middle given v u w known on keeps (inr learned) is = record {
 
 pub changes_known : (found middle : BookView) (v u : Turn) → v.known ≡ known_of_book found
     → (u ≡ v) ⊎ (u ≡ learning (marks_of middle.state) v) → u.known.changes ≡ found.changes
-changes_known found middle v u known (inl same) = ap (λ (t : Turn). t.known.changes) same ∙ ap (λ (k : Known). k.changes) known
-changes_known found middle v u known (inr learned) = ap (λ (t : Turn). t.known.changes) learned ∙ ap (λ (k : Known). k.changes) known
+changes_known found middle v u known (inl same) =
+    ap (λ (t : Turn). t.known.changes) same ∙ ap (λ (k : Known). k.changes) known
+changes_known found middle v u known (inr learned) =
+    ap (λ (t : Turn). t.known.changes) learned ∙ ap (λ (k : Known). k.changes) known
 
 -- where the count of changes is as it was, the holder knows it
 pub holds_still : (found middle given : BookView) (v u : Turn) → v.known ≡ known_of_book found → GoesUp found middle
@@ -180,15 +194,25 @@ holds_still found middle given v u known on keeps same last turn =
     holds_of found middle given v u u known on keeps turn
     (ap (λ (n : ℕ). knowing n u) (changes_known found middle v u known turn ∙ sym same ∙ sym last))
 
-pub holds_gives : (found given : BookView) (t v w : Turn) → v ≡ taking (known_of_book found) t → KnowsHeld (known_of_book given) v w
+pub holds_gives : (found given : BookView) (t v w : Turn) → v ≡ taking (known_of_book found) t
+    → KnowsHeld (known_of_book given) v w
     → GoesUp found given → MayGive w.known (known_of_book given)
 holds_gives found given t v w took holds up =
     let on = continues found given up in
     let known : w.known ≡ record (known_of_book found) { marks = holds.marks; changes = given.changes } =
-    ap (λ (k : Turn). k.known) holds.is ∙ ap (λ (k : Turn). record k.known { marks = holds.marks; changes = given.changes }) took in
+    ap (λ (k : Turn). k.known) holds.is
+    ∙ ap (λ (k : Turn). record k.known { marks = holds.marks; changes = given.changes }) took in
     subst (λ (k : Known). MayGive k (known_of_book given)) (sym known) (record {
       marks = holds.below;
-      earlier = record { log = on.earlier.log; changes = omega arith; faults = on.earlier.faults; standing = on.earlier.standing; put_faults = on.earlier.put_faults; stopped = on.earlier.stopped; stood = on.earlier.stood };
+      earlier = record {
+        log = on.earlier.log;
+        changes = omega arith;
+        faults = on.earlier.faults;
+        standing = on.earlier.standing;
+        put_faults = on.earlier.put_faults;
+        stopped = on.earlier.stopped;
+        stood = on.earlier.stood;
+      };
       sparing = on.sparing;
       opening = on.opening;
       changes = refl;

@@ -1,4 +1,5 @@
--- The numbers spent before a take are below the marks of the book found, as it is seen from before what led to the take.
+-- The numbers spent before a take are below the marks of the book found, as it is seen from before what led to the
+-- take.
 use Rattle.std.proofs.Common.{◌≡◌, ◌⊎◌, inl, inr, ℕ, ◌≤◌, Bool, List, ap, subst, ◌∙◌, arith}
 use Rattle.sdls_base.specs.Numbers.{times, once_below}
 use Rattle.sdls_base.specs.declared.TheConstants.{MOST_KEYS}
@@ -19,7 +20,8 @@ pub back_spent : (row end n : ℕ) (v w : Numbers) → ComesBack row end n v w �
 back_spent row end n v w back = ap (λ (k : Numbers). k.spent) back.is ∙ ap (λ (k : Numbers). k.spent) back.draws.is
 
 -- what covers the numbers covers them where none was spent since
-covers_before : (v u : Numbers) (book : Known) → u.spent ≡ v.spent → IsCovered MOST_KEYS u book → IsCovered MOST_KEYS v book
+covers_before : (v u : Numbers) (book : Known) → u.spent ≡ v.spent → IsCovered MOST_KEYS u book
+    → IsCovered MOST_KEYS v book
 covers_before v u book same covered = λ row x there.
     subst (λ (spent : List (ℕ × ℕ)). times row x spent ≤ once_below x (known_mark book row)) same (covered row x there)
 
@@ -30,7 +32,8 @@ module _ (told : Bool) where
   pub covers_loads : (e : ℕ) (v w : View) → Loads e v.turn w.turn → CoversIfTaken told v w
   covers_loads e v w loads = inl (loads_looks e v.turn w.turn loads)
 
-  pub covers_after : (e : ℕ) (v u w : View) → Loads e v.turn u.turn → u.numbers.spent ≡ v.numbers.spent → FindsCovered told u w
+  pub covers_after : (e : ℕ) (v u w : View) → Loads e v.turn u.turn → u.numbers.spent ≡ v.numbers.spent
+      → FindsCovered told u w
       → CoversIfTaken told v w
   covers_after e v u w loads same finds = inr (
     e,
@@ -43,7 +46,8 @@ module _ (told : Bool) where
     },
   )
 
-  pub covers_on : (v u w : View) → u.numbers ≡ v.numbers → ((u.turn ≡ v.turn) ⊎ ((epoch : ℕ) × Loads epoch v.turn u.turn))
+  pub covers_on : (v u w : View) → u.numbers ≡ v.numbers
+      → ((u.turn ≡ v.turn) ⊎ ((epoch : ℕ) × Loads epoch v.turn u.turn))
       → FindsCovered told u w → CoversIfTaken told v w
   covers_on v u w numbers (inl same) finds = inr (
     v.turn.epoch,
@@ -52,7 +56,8 @@ module _ (told : Bool) where
       found = finds.found;
       given = finds.given;
       visits = subst (λ (t : Turn). Visits told finds.found finds.given t w.turn) same finds.visits;
-      covered = covers_before v.numbers u.numbers (known_of_book finds.found) (ap (λ (k : Numbers). k.spent) numbers) finds.covered;
+      covered = covers_before v.numbers u.numbers (known_of_book finds.found) (ap (λ (k : Numbers). k.spent) numbers)
+          finds.covered;
     },
   )
   covers_on v u w numbers (inr (epoch, loads)) finds =

@@ -1,5 +1,6 @@
 -- What was so at an epoch stays so, whatever is added to the log.
-use Rattle.std.proofs.Common.{◌≡◌, ℕ, zero, suc, ◌+◌, ◌≤◌, Bool, true, false, if◌then◌else◌, List, [], ◌∷◌, ◌++◌, length, Some, refl, ap, ◌∙◌, arith}
+use Rattle.std.proofs.Common.{◌≡◌, ℕ, zero, suc, ◌+◌, ◌≤◌, Bool, true, false, if◌then◌else◌, List, [], ◌∷◌, ◌++◌}
+use Rattle.std.proofs.Common.{length, Some, refl, ap, ◌∙◌, arith}
 use Rattle.sdls_base.specs.declared.entry.Entry.{Entry}
 use Rattle.sdls_base.specs.declared.entry.Logged.{Logged}
 use Rattle.sdls_base.specs.declared.entry.Logged.TheVariants as logged
@@ -28,7 +29,8 @@ entries_counted (logged.Entry e ∷ log) = let h = entries_counted log in omega 
 entries_counted (logged.Piece p ∷ log) = let h = entries_counted log in omega arith
 
 -- at each later epoch the key has its row too
-row_from : (s : State) (es : List Entry) (later key row : ℕ) → place_of s.keys key ≡ Some row → place_of (at_epoch s es later).keys key ≡ Some row
+row_from : (s : State) (es : List Entry) (later key row : ℕ) → place_of s.keys key ≡ Some row
+    → place_of (at_epoch s es later).keys key ≡ Some row
 row_from s es zero key row h = h
 row_from s [] (suc later) key row h = h
 row_from s (e ∷ es) (suc later) key row h = from (counts e.change)
@@ -40,7 +42,8 @@ row_from s (e ∷ es) (suc later) key row h = from (counts e.change)
       from true a b = a
       from false a b = b
 
-pub row_later : (s : State) (es : List Entry) (epoch later key row : ℕ) → epoch ≤ later → place_of (at_epoch s es epoch).keys key ≡ Some row
+pub row_later : (s : State) (es : List Entry) (epoch later key row : ℕ) → epoch ≤ later
+    → place_of (at_epoch s es epoch).keys key ≡ Some row
     → place_of (at_epoch s es later).keys key ≡ Some row
 row_later s es zero later key row h r = row_from s es later key row r
 row_later s [] (suc epoch) later key row h r = row_from s [] later key row r
@@ -49,8 +52,10 @@ row_later s (e ∷ es) (suc epoch) (suc later) key row h r = by_turn (counts e.c
     (row_later (applied s e.change) es epoch later key row (omega arith))
     (row_later (applied s e.change) es (suc epoch) (suc later) key row h) r where
       by_turn : (t : Bool)
-          → (place_of (at_epoch (applied s e.change) es epoch).keys key ≡ Some row → place_of (at_epoch (applied s e.change) es later).keys key ≡ Some row)
-          → (place_of (at_epoch (applied s e.change) es (suc epoch)).keys key ≡ Some row → place_of (at_epoch (applied s e.change) es (suc later)).keys key ≡ Some row)
+          → (place_of (at_epoch (applied s e.change) es epoch).keys key ≡ Some row
+          → place_of (at_epoch (applied s e.change) es later).keys key ≡ Some row)
+          → (place_of (at_epoch (applied s e.change) es (suc epoch)).keys key ≡ Some row
+          → place_of (at_epoch (applied s e.change) es (suc later)).keys key ≡ Some row)
           → place_of (at_epoch (applied s e.change) es (if t then epoch else suc epoch)).keys key ≡ Some row
           → place_of (at_epoch (applied s e.change) es (if t then later else suc later)).keys key ≡ Some row
       by_turn true a b g = a g
@@ -64,7 +69,8 @@ state_at_stays k l rest epoch opening log reached =
     ∙ ap (λ (es : List Entry). at_epoch k.opening.start es epoch) (entries_of-append k.log rest)
     ∙ at_epoch_more k.opening.start (entries_of k.log) (entries_of rest) epoch reached
 
-pub epochs_longer : (k l : Known) (rest : List Logged) → l.log ≡ k.log ++ rest → epoch_after (entries_of k.log) ≤ epoch_after (entries_of l.log)
+pub epochs_longer : (k l : Known) (rest : List Logged) → l.log ≡ k.log ++ rest
+    → epoch_after (entries_of k.log) ≤ epoch_after (entries_of l.log)
 epochs_longer k l rest log =
     let e : epoch_after (entries_of l.log) ≡ epoch_after (entries_of k.log) + epoch_after (entries_of rest) =
     ap (λ (ls : List Logged). epoch_after (entries_of ls)) log ∙ ap epoch_after (entries_of-append k.log rest)

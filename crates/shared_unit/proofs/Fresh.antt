@@ -16,5 +16,6 @@ pub may_fill : (told : Bool) (book : BookView) → IsKept told book → book.log
     → MayFill (known_of_book book)
 may_fill told book kept first = record {
   marks = λ row. (bounds_of book.state kept.rules).from_one row;
-  changes = kept.epoch ∙ ap (λ (log : List Logged). epoch_after (take book.standing (entries_of log))) first ∙ none_taken book.standing;
+  changes = kept.epoch ∙ ap (λ (log : List Logged). epoch_after (take book.standing (entries_of log))) first
+      ∙ none_taken book.standing;
 }

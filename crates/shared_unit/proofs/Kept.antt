@@ -13,7 +13,8 @@ use Rattle.unit_book.proofs.EpochStates.{alike_served}
 -- What binds frames, and where a key stands, is in the state now as it was when the epoch began.
 pub record IsLevel (book : BookView) : Type 0 where
   pub reached : book.changes ≤ epoch_after (entries_of book.log)
-  pub binds : (link : ℕ) (clear : List ℕ) → protect_check book.plan (epoch_state book) link clear ≡ protect_check book.plan book.state link clear
+  pub binds : (link : ℕ) (clear : List ℕ) → protect_check book.plan (epoch_state book) link clear
+      ≡ protect_check book.plan book.state link clear
   pub rows : (key : ℕ) → place_of (epoch_state book).keys key ≡ place_of book.state.keys key
   pub places : (key row : ℕ) → place_of book.state.keys key ≡ Some row → row < MOST_KEYS
 

@@ -1,5 +1,6 @@
 -- The parts of a call, put together: what became of the turn.
-use Rattle.std.proofs.Common.{◌≡◌, ◌⊎◌, inl, inr, ℕ, ◌<◌, ◌≤◌, Bool, [], Option, Some, None, Result, Ok, Err, refl, sym, ap, subst, ◌∙◌, append-nil, arith}
+use Rattle.std.proofs.Common.{◌≡◌, ◌⊎◌, inl, inr, ℕ, ◌<◌, ◌≤◌, Bool, [], Option, Some, None, Result, Ok, Err, refl, sym}
+use Rattle.std.proofs.Common.{ap, subst, ◌∙◌, append-nil, arith}
 use Rattle.unit_plan.specs.PlanLines.{PlanLines}
 use Rattle.counter_table.specs.declared.view.Opening.{Opening}
 use Rattle.counter_table.specs.declared.view.Turn.{Turn}
@@ -24,19 +25,22 @@ pub reserves_changes : (key n : ℕ) (result : Result ℕ BookFault) (found give
     → Reserves key n result found given → given.changes ≡ found.changes
 reserves_changes key n (Ok mark) found given h = by_case h.2 where
   by_case : ((n < mark_of found.state key) × (given ≡ found))
-      ⊎ ((mark_of found.state key ≤ n) × ((position : ℕ) × Made (reserve_of found.plan found.state key n) found given position))
+      ⊎ ((mark_of found.state key ≤ n)
+      × ((position : ℕ) × Made (reserve_of found.plan found.state key n) found given position))
       → given.changes ≡ found.changes
   by_case (inl p) = ap (λ (b : BookView). b.changes) p.1
   by_case (inr p) = let e = ap (λ (b : BookView). b.changes) p.1.1.1.is in omega arith
 reserves_changes key n (Err fault) found given h = by_case h.1 where
-  by_fault : (f : BookFault) → IsUnstored (reserve_of found.plan found.state key n) found given f → given.changes ≡ found.changes
+  by_fault : (f : BookFault) → IsUnstored (reserve_of found.plan found.state key n) found given f
+      → given.changes ≡ found.changes
   by_fault (SiteFault count) u = ap (λ (b : BookView). b.changes) u.3
   by_fault (Stopped count) u = absurd u
   by_fault SessionFull u = absurd u
   by_fault NoMemory u = absurd u
 
   by_case : (IsBarred found fault × (given ≡ found))
-      ⊎ (CanEnter found × IsUnstored (reserve_of found.plan found.state key n) found given fault) → given.changes ≡ found.changes
+      ⊎ (CanEnter found × IsUnstored (reserve_of found.plan found.state key n) found given fault)
+      → given.changes ≡ found.changes
   by_case (inl p) = ap (λ (b : BookView). b.changes) p.1
   by_case (inr p) = by_fault fault p.1
 
@@ -47,7 +51,8 @@ pub loads_from : (e : ℕ) (v u w : Turn) → u ≡ v → epoch_seen u ≤ e →
 loads_from e v u w same later is =
     record { later = subst (λ (t : Turn). epoch_seen t ≤ e) same later; is = is ∙ ap (seeing e) same }
 
-pub ready_loaded : {B : Type 0} (counters : Counters B) (plan : PlanLines) (one other : Worker B) (e : ℕ) → IsReady counters plan one → IsSame one other
+pub ready_loaded : {B : Type 0} (counters : Counters B) (plan : PlanLines) (one other : Worker B) (e : ℕ)
+    → IsReady counters plan one → IsSame one other
     → (view other).turn ≡ seeing e (view one).turn → IsReady counters plan other
 ready_loaded counters plan one other e ready same is = record {
   own = same.0 ∙ ready.own;
@@ -56,7 +61,8 @@ ready_loaded counters plan one other e ready same is = record {
   planned = ap (λ (t : Turn). t.known.opening.plan) is ∙ ready.planned;
 }
 
-pub ready_kept : {B : Type 0} (counters : Counters B) (plan : PlanLines) (one other : Worker B) → IsReady counters plan one → IsSame one other
+pub ready_kept : {B : Type 0} (counters : Counters B) (plan : PlanLines) (one other : Worker B)
+    → IsReady counters plan one → IsSame one other
     → (view other).turn ≡ (view one).turn → IsReady counters plan other
 ready_kept counters plan one other ready same is = record {
   own = same.0 ∙ ready.own;
@@ -72,7 +78,8 @@ pub none_looks : (v w : Turn) → w ≡ v → Looks v w
 none_looks v w is = record { epoch = v.epoch; later = omega arith; is = is }
 
 module _ (told : Bool) where
-  pub ready_after : {B : Type 0} (counters : Counters B) (plan : PlanLines) (one other : Worker B) (found given : BookView)
+  pub ready_after : {B : Type 0} (counters : Counters B) (plan : PlanLines) (one other : Worker B)
+      (found given : BookView)
       → IsReady counters plan one → IsSame one other → Visits told found given (view one).turn (view other).turn
       → IsReady counters plan other
   ready_after counters plan one other found given ready same v =
@@ -81,10 +88,12 @@ module _ (told : Bool) where
         own = same.0 ∙ ready.own;
         free = ap (λ (t : Turn). t.holds) is;
         filled = ap (λ (t : Turn). t.filled) is ∙ ready.filled;
-        planned = ap (λ (t : Turn). t.known.opening.plan) is ∙ ap (λ (o : Opening). o.plan) (v.takes.opening ∙ v.takes.follows.opening) ∙ ready.planned;
+        planned = ap (λ (t : Turn). t.known.opening.plan) is ∙ ap (λ (o : Opening). o.plan)
+            (v.takes.opening ∙ v.takes.follows.opening) ∙ ready.planned;
       }
 
-  pub visit_takes : (done : BookView → BookView → Type 0) (found given : BookView) (v w : Turn) → Visits told found given v w → done found given
+  pub visit_takes : (done : BookView → BookView → Type 0) (found given : BookView) (v w : Turn)
+      → Visits told found given v w → done found given
       → TakesTurn told done v w
   visit_takes done found given v w visits does =
       record { epoch = v.epoch; later = omega arith; found = found; given = given; visits = visits; does = does }
@@ -102,7 +111,8 @@ module _ (told : Bool) where
         does = q.does;
       }
 
-  pub takes_on : (done : BookView → BookView → Type 0) (v u w : Turn) → ((u ≡ v) ⊎ ((epoch : ℕ) × Loads epoch v u)) → TakesTurn told done u w
+  pub takes_on : (done : BookView → BookView → Type 0) (v u w : Turn) → ((u ≡ v) ⊎ ((epoch : ℕ) × Loads epoch v u))
+      → TakesTurn told done u w
       → TakesTurn told done v w
   takes_on done v u w (inl same) t = subst (λ (k : Turn). TakesTurn told done k w) same t
   takes_on done v u w (inr l) t = takes_after done l.0 v u w l.1 t
@@ -114,7 +124,8 @@ module _ (told : Bool) where
       inl (record { epoch = q.epoch; later = (let a = q.later in let b = l.later in omega arith); is = q.is })
   may_after done e v u w l (inr t) = inr (takes_after done e v u w l t)
 
-  pub may_on : (done : BookView → BookView → Type 0) (v u w : Turn) → ((u ≡ v) ⊎ ((epoch : ℕ) × Loads epoch v u)) → MayTakeTurn told done u w
+  pub may_on : (done : BookView → BookView → Type 0) (v u w : Turn) → ((u ≡ v) ⊎ ((epoch : ℕ) × Loads epoch v u))
+      → MayTakeTurn told done u w
       → MayTakeTurn told done v w
   may_on done v u w (inl same) t = subst (λ (k : Turn). MayTakeTurn told done k w) same t
   may_on done v u w (inr l) t = may_after done l.0 v u w l.1 t
@@ -143,7 +154,15 @@ module _ (told : Bool) where
 
   looks_grows : (v w : Turn) → Looks v w → KnowsMoreOfBook v w
   looks_grows v w l = subst (λ (t : Turn). KnowsMoreOfBook v t) (sym l.is) (record {
-    earlier = record { log = ([], sym (append-nil v.known.log)); changes = omega arith; faults = omega arith; standing = omega arith; put_faults = omega arith; stopped = λ _. refl; stood = λ _. refl };
+    earlier = record {
+      log = ([], sym (append-nil v.known.log));
+      changes = omega arith;
+      faults = omega arith;
+      standing = omega arith;
+      put_faults = omega arith;
+      stopped = λ _. refl;
+      stood = λ _. refl;
+    };
     sparing = (omega arith, λ rose low all. rose);
     opening = refl;
     epoch = l.later;
@@ -154,7 +173,15 @@ module _ (told : Bool) where
   passes_grows v w (inr t) =
       let g = takes_grows (known_of_book t.found) (known_of_book t.given) (seeing t.epoch v) w t.visits.takes in
       record {
-        earlier = record { log = g.earlier.log; changes = g.earlier.changes; faults = g.earlier.faults; standing = g.earlier.standing; put_faults = g.earlier.put_faults; stopped = g.earlier.stopped; stood = g.earlier.stood };
+        earlier = record {
+          log = g.earlier.log;
+          changes = g.earlier.changes;
+          faults = g.earlier.faults;
+          standing = g.earlier.standing;
+          put_faults = g.earlier.put_faults;
+          stopped = g.earlier.stopped;
+          stood = g.earlier.stood;
+        };
         sparing = g.sparing;
         opening = g.opening;
         epoch = (let a = t.later in let b = g.epoch in omega arith);

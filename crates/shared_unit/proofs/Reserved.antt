@@ -1,5 +1,6 @@
 -- A reserve that succeeds leaves the mark of the key's row above the number.
-use Rattle.std.proofs.Common.{◌≡◌, ◌⊎◌, inl, inr, ℕ, ◌<◌, ◌≤◌, nat_lt, Bool, true, false, if◌then◌else◌, Some, Ok, refl, ap, ◌∙◌, arith}
+use Rattle.std.proofs.Common.{◌≡◌, ◌⊎◌, inl, inr, ℕ, ◌<◌, ◌≤◌, nat_lt, Bool, true, false, if◌then◌else◌, Some, Ok, refl}
+use Rattle.std.proofs.Common.{ap, ◌∙◌, arith}
 use Rattle.std.proofs.lemmas.Bool.Decides.{nat_tests}
 use Rattle.key_book.specs.KeyBook.{place_of}
 use Rattle.unit_state.proofs.StateLaws.{places_kept}
@@ -17,7 +18,8 @@ pub reserves_place : (key n mark row : ℕ) (found given : BookView) → Reserve
     → place_of found.state.keys key ≡ Some row → place_of given.state.keys key ≡ Some row
 reserves_place key n mark row found given h place = by_case h.2 where
   by_case : ((n < held_mark found.state key) × (given ≡ found))
-      ⊎ ((held_mark found.state key ≤ n) × ((position : ℕ) × Made (reserve_of found.plan found.state key n) found given position))
+      ⊎ ((held_mark found.state key ≤ n)
+      × ((position : ℕ) × Made (reserve_of found.plan found.state key n) found given position))
       → place_of given.state.keys key ≡ Some row
   by_case (inl p) = ap (λ (b : BookView). place_of b.state.keys key) p.1 ∙ place
   by_case (inr p) = ap (λ (b : BookView). place_of b.state.keys key) p.1.1.1.is
@@ -33,10 +35,12 @@ reserved_mark key n mark row found given h place =
 pub not_both : (n limit : ℕ) → nat_lt n limit ≡ false → n < limit → ⊥
 not_both n limit e h = grind (arith, nat_tests)
 
-pub lifts : (row n mark limit r : ℕ) (v u w : Numbers) → r ≡ row → u ≡ lifting row mark v → w ≡ peeking r n limit u → n < limit → n < mark
+pub lifts : (row n mark limit r : ℕ) (v u w : Numbers) → r ≡ row → u ≡ lifting row mark v → w ≡ peeking r n limit u
+    → n < limit → n < mark
     → Lifts row n v w
 lifts row n mark limit r v u w same up is below above = by_test (nat_lt n limit) refl is where
-  by_test : (b : Bool) → nat_lt n limit ≡ b → w ≡ (if b then spending r n limit u else returning r limit u) → Lifts row n v w
+  by_test : (b : Bool) → nat_lt n limit ≡ b → w ≡ (if b then spending r n limit u else returning r limit u)
+      → Lifts row n v w
   by_test true e k = record {
     mark = mark;
     limit = limit;

@@ -43,15 +43,19 @@ module _ (told : Bool) where
   kept_shares p clear out (answers.Exhausted key n epoch) v w h = out_shares _ _ _ v.numbers w.numbers h.0.3
   kept_shares p clear out (answers.Fault fault position) v w h = either_shares _ _ _ v.numbers w.numbers h.3.2
 
-  pub step_shares : (plan : PlanLines) (link : ℕ) (clear out : List ℕ) (kept : Option Permit) (a : Protected) (v w : View)
+  pub step_shares : (plan : PlanLines) (link : ℕ) (clear out : List ℕ) (kept : Option Permit) (a : Protected)
+      (v w : View)
       → IsProtectStep told plan link clear out kept a v w → w.numbers.shares ≡ v.numbers.shares
   step_shares plan link clear out kept (answers.Done d) v w h = h.3.0.uses.shares
   step_shares plan link clear out kept answers.Clear v w h = ap (λ (k : Numbers). k.shares) h.1
   step_shares plan link clear out kept (answers.Refused fault epoch) v w h = ap (λ (k : Numbers). k.shares) h.1
-  step_shares plan link clear out kept (answers.Exhausted key n epoch) v w h = out_shares _ _ _ v.numbers w.numbers h.2.0.3
-  step_shares plan link clear out kept (answers.Fault fault position) v w h = either_shares _ _ _ v.numbers w.numbers h.2.3.2
+  step_shares plan link clear out kept (answers.Exhausted key n epoch) v w h =
+      out_shares _ _ _ v.numbers w.numbers h.2.0.3
+  step_shares plan link clear out kept (answers.Fault fault position) v w h =
+      either_shares _ _ _ v.numbers w.numbers h.2.3.2
 
-satisfied_shares : (need : Need) (seen : Seen) (found middle : BookView) (v w : Numbers) → Satisfies need seen found middle v w
+satisfied_shares : (need : Need) (seen : Seen) (found middle : BookView) (v w : Numbers)
+    → Satisfies need seen found middle v w
     → w.shares ≡ v.shares
 satisfied_shares needs.Nothing sights.Nothing found middle v w h = ap (λ (k : Numbers). k.shares) h.1
 satisfied_shares (needs.Look key) (sights.Word n) found middle v w h = ap (λ (k : Numbers). k.shares) h.1.is
@@ -60,9 +64,11 @@ satisfied_shares (needs.Number key) (sights.Number n) found middle v w h = h.use
 satisfied_shares (needs.Number key) (sights.Exhausted n) found middle v w h = out_shares _ _ _ v w h.1.out
 satisfied_shares need seen found middle v w h = absurd h
 
-pub commanded_shares : (index : ℕ) (pdu : List ℕ) (result : Result (Reply × ℕ) BookFault) (found given : BookView) (v w : Numbers)
+pub commanded_shares : (index : ℕ) (pdu : List ℕ) (result : Result (Reply × ℕ) BookFault) (found given : BookView)
+    (v w : Numbers)
     → IsCommanded index pdu result found given v w → w.shares ≡ v.shares
 commanded_shares index pdu (Ok answer) found given v w h = satisfied_shares h.0 h.1 found h.2 v w h.4
 commanded_shares index pdu (Err fault) found given v w (inl h) = ap (λ (k : Numbers). k.shares) h.2
 commanded_shares index pdu (Err fault) found given v w (inr (need, is, inl f)) = draws_shares _ _ _ v w f.draws
-commanded_shares index pdu (Err fault) found given v w (inr (need, is, inr (seen, middle, s, r))) = satisfied_shares need seen found middle v w s
+commanded_shares index pdu (Err fault) found given v w (inr (need, is, inr (seen, middle, s, r))) =
+    satisfied_shares need seen found middle v w s

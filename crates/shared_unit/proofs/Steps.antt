@@ -1,5 +1,6 @@
 -- A book that goes on may be given back, and the worker then took the turn once.
-use Rattle.std.proofs.Common.{◌≡◌, ℕ, ◌+◌, ◌≤◌, Bool, List, [], ◌∷◌, ◌++◌, length, Result, Ok, Err, sym, ap, subst, ◌∙◌, append-nil, append_assoc, arith}
+use Rattle.std.proofs.Common.{◌≡◌, ℕ, ◌+◌, ◌≤◌, Bool, List, [], ◌∷◌, ◌++◌, length, Result, Ok, Err, sym, ap, subst, ◌∙◌}
+use Rattle.std.proofs.Common.{append-nil, append_assoc, arith}
 use Rattle.std.specs.Prelude.{OnOk}
 use Rattle.sdls_base.specs.declared.entry.Entry.{Entry}
 use Rattle.sdls_base.specs.declared.entry.Logged.{Logged}
@@ -38,7 +39,11 @@ later_risen o a b h p = omega arith
 
 pub earlier_again : (a b c : Known) → Earlier a b → Earlier b c → c.opening ≡ b.opening → Earlier a c
 earlier_again a b c one two opening = record {
-  log = (one.log.0 ++ two.log.0, two.log.1 ∙ ap (λ (ls : List Logged). ls ++ two.log.0) one.log.1 ∙ append_assoc a.log one.log.0 two.log.0);
+  log = (
+    one.log.0 ++ two.log.0,
+    two.log.1 ∙ ap (λ (ls : List Logged). ls ++ two.log.0) one.log.1
+        ∙ append_assoc a.log one.log.0 two.log.0,
+  );
   changes = (let p = one.changes in let q = two.changes in omega arith);
   faults = (let p = one.faults in let q = two.faults in omega arith);
   standing = (let p = one.standing in let q = two.standing in omega arith);
@@ -49,7 +54,8 @@ earlier_again a b c one two opening = record {
       ∙ one.stood (subst (λ (o : Opening). Rose o.faults a.faults) opening r);
 }
 
-pub sparing_again : (a b c : Known) → Earlier a b → Earlier b c → c.opening ≡ b.opening → IsSparing a b → IsSparing b c → IsSparing a c
+pub sparing_again : (a b c : Known) → Earlier a b → Earlier b c → c.opening ≡ b.opening → IsSparing a b → IsSparing b c
+    → IsSparing a c
 sparing_again a b c first next same ab bc =
     let one = ab.0 in
     let two = bc.0 in
@@ -61,7 +67,8 @@ sparing_again a b c first next same ab bc =
           let mid : Rose c.opening.faults b.faults = bc.1 rose (omega arith) all in
           let log = next.stopped mid in
           let stood = next.stood mid in
-          subst (λ (z : ℕ). Rose z a.faults) (sym o) (ab.1 (subst (λ (z : ℕ). Rose z b.faults) o mid) (omega arith) (omega arith)),
+          subst (λ (z : ℕ). Rose z a.faults) (sym o)
+          (ab.1 (subst (λ (z : ℕ). Rose z b.faults) o mid) (omega arith) (omega arith)),
     )
 
 pub pieces-append : (xs ys : List Logged) → pieces (xs ++ ys) ≡ pieces xs + pieces ys
@@ -74,7 +81,8 @@ after_low (Ok done) n = (omega arith, omega arith)
 after_low (Err fault) n = (omega arith, omega arith)
 
 -- a call that puts nothing
-pub goes_up : (old new : BookView) → GoesOn old new → StateMarks old.state new.state → new.site.put_faults ≡ old.site.put_faults
+pub goes_up : (old new : BookView) → GoesOn old new → StateMarks old.state new.state
+    → new.site.put_faults ≡ old.site.put_faults
     → IsCalm old new → GoesUp old new
 goes_up old new goes marks same calm =
     let p = ap pieces goes.log in
@@ -82,7 +90,8 @@ goes_up old new goes marks same calm =
     record { goes = goes; marks = marks; puts_later = omega arith; sparing = omega arith; calm = λ low. calm }
 
 -- no fault came in a put that did not fail
-calm_put : (result : Result (Unit {0}) BookFault) (old new : BookView) → new.opened ≡ old.opened → new.site.put_faults ≡ after_put result old.site.put_faults
+calm_put : (result : Result (Unit {0}) BookFault) (old new : BookView) → new.opened ≡ old.opened
+    → new.site.put_faults ≡ after_put result old.site.put_faults
     → OnOk result (new.site.faults ≡ old.site.faults) → new.site.put_faults ≤ old.site.put_faults → IsCalm old new
 calm_put (Ok done) old new opened same still low = λ rose all.
     subst (λ (z : SiteSeen). Rose z.faults old.site.faults) opened (subst (Rose new.opened.faults) still rose)
@@ -90,16 +99,29 @@ calm_put (Err fault) old new opened same still low = absurd (omega arith)
 
 -- a put
 pub goes_up_put : (piece : List ℕ) (result : Result (Unit {0}) BookFault) (old new : BookView) → GoesOn old new
-    → StateMarks old.state new.state → new.log ≡ old.log ++ logged.Piece piece ∷ [] → new.site.put_faults ≡ after_put result old.site.put_faults
+    → StateMarks old.state new.state → new.log ≡ old.log ++ logged.Piece piece ∷ []
+    → new.site.put_faults ≡ after_put result old.site.put_faults
     → OnOk result (new.site.faults ≡ old.site.faults) → GoesUp old new
 goes_up_put piece result old new goes marks made same still =
     let p = ap pieces made in
     let q = pieces-append old.log (logged.Piece piece ∷ []) in
     let l = after_low result old.site.put_faults in
-    record { goes = goes; marks = marks; puts_later = omega arith; sparing = omega arith; calm = λ low. calm_put result old new goes.opened same still low }
+    record {
+      goes = goes;
+      marks = marks;
+      puts_later = omega arith;
+      sparing = omega arith;
+      calm = λ low. calm_put result old new goes.opened same still low;
+    }
 
 pub goes_itself : (book : BookView) → GoesUp book book
-goes_itself book = record { goes = goes_same book; marks = λ row. omega arith; puts_later = omega arith; sparing = omega arith; calm = λ low rose all. rose }
+goes_itself book = record {
+  goes = goes_same book;
+  marks = λ row. omega arith;
+  puts_later = omega arith;
+  sparing = omega arith;
+  calm = λ low rose all. rose;
+}
 
 pub goes_unchanged : (old new : BookView) → new ≡ old → GoesUp old new
 goes_unchanged old new same = subst (λ (book : BookView). GoesUp old book) (sym same) (goes_itself old)
@@ -107,10 +129,33 @@ goes_unchanged old new same = subst (λ (book : BookView). GoesUp old book) (sym
 pub goes_opening : (old new : BookView) → GoesUp old new → (known_of_book new).opening ≡ (known_of_book old).opening
 goes_opening old new up =
     let g = up.goes in
-    ap (λ (i : List ℕ). let o : Opening = record { image = i; plan = new.plan; start = new.start; trail = new.opened.trace; faults = new.opened.faults } in o) g.image
-    ∙ ap (λ (p : PlanLines). let o : Opening = record { image = old.image; plan = p; start = new.start; trail = new.opened.trace; faults = new.opened.faults } in o) g.plan
-    ∙ ap (λ (s : State). let o : Opening = record { image = old.image; plan = old.plan; start = s; trail = new.opened.trace; faults = new.opened.faults } in o) g.start
-    ∙ ap (λ (z : SiteSeen). let o : Opening = record { image = old.image; plan = old.plan; start = old.start; trail = z.trace; faults = z.faults } in o) g.opened
+    ap (λ (i : List ℕ). let o : Opening =
+    record {
+      image = i;
+      plan = new.plan;
+      start = new.start;
+      trail = new.opened.trace;
+      faults = new.opened.faults;
+    } in o) g.image
+    ∙ ap (λ (p : PlanLines). let o : Opening =
+    record {
+      image = old.image;
+      plan = p;
+      start = new.start;
+      trail = new.opened.trace;
+      faults = new.opened.faults;
+    } in o) g.plan
+    ∙ ap (λ (s : State). let o : Opening =
+    record {
+      image = old.image;
+      plan = old.plan;
+      start = s;
+      trail = new.opened.trace;
+      faults = new.opened.faults;
+    } in o) g.start
+    ∙ ap (λ (z : SiteSeen). let o : Opening =
+    record { image = old.image; plan = old.plan; start = old.start; trail = z.trace; faults = z.faults } in
+    o) g.opened
 
 pub continues : (old new : BookView) → GoesUp old new → Continues (known_of_book old) (known_of_book new)
 continues old new up =
@@ -128,7 +173,8 @@ continues old new up =
             let none : entries_of g.added ≡ [] =
             g.stopped (subst (λ (z : SiteSeen). Rose z.faults old.site.faults) g.opened risen) in
             entries_counted new.log
-            ∙ ap length (ap entries_of g.log ∙ entries_of-append old.log g.added ∙ ap (λ (es : List Entry). entries_of old.log ++ es) none
+            ∙ ap length (ap entries_of g.log ∙ entries_of-append old.log g.added
+            ∙ ap (λ (es : List Entry). entries_of old.log ++ es) none
             ∙ append-nil (entries_of old.log))
             ∙ sym (entries_counted old.log);
       };
@@ -150,13 +196,22 @@ may_give known found given same g changes =
     (record { marks = c.marks; earlier = c.earlier; sparing = c.sparing; opening = c.opening; changes = changes })
 
 -- after a lift the holder knows the held book's marks
-pub may_give_learned : (known : Known) (found given : BookView) → known ≡ record (known_of_book found) { marks = marks_of given.state }
+pub may_give_learned : (known : Known) (found given : BookView)
+    → known ≡ record (known_of_book found) { marks = marks_of given.state }
     → GoesUp found given → given.changes ≡ found.changes → MayGive known (known_of_book given)
 may_give_learned known found given same g changes =
     let c = continues found given g in
     subst (λ (k : Known). MayGive k (known_of_book given)) (sym same) (record {
       marks = λ row. omega arith;
-      earlier = record { log = c.earlier.log; changes = c.earlier.changes; faults = c.earlier.faults; standing = c.earlier.standing; put_faults = c.earlier.put_faults; stopped = c.earlier.stopped; stood = c.earlier.stood };
+      earlier = record {
+        log = c.earlier.log;
+        changes = c.earlier.changes;
+        faults = c.earlier.faults;
+        standing = c.earlier.standing;
+        put_faults = c.earlier.put_faults;
+        stopped = c.earlier.stopped;
+        stood = c.earlier.stood;
+      };
       sparing = c.sparing;
       opening = c.opening;
       changes = changes;
@@ -175,18 +230,31 @@ module _ (told : Bool) where
       record {
         found_kept = before;
         given_kept = after;
-        takes = record { follows = follows; earlier = c.earlier; sparing = c.sparing; opening = c.opening; turn = gave ∙ ap (giving (known_of_book given)) took };
+        takes = record {
+          follows = follows;
+          earlier = c.earlier;
+          sparing = c.sparing;
+          opening = c.opening;
+          turn = gave ∙ ap (giving (known_of_book given)) took;
+        };
       }
 
   pub visits_learned : (found given : BookView) (v m w : Turn) → IsKept told found → IsKept told given
-      → Follows v (known_of_book found) → GoesUp found given → m ≡ learning (marks_of given.state) (taking (known_of_book found) v)
+      → Follows v (known_of_book found) → GoesUp found given
+      → m ≡ learning (marks_of given.state) (taking (known_of_book found) v)
       → w ≡ giving (known_of_book given) m → Visits told found given v w
   visits_learned found given v m w before after follows g took gave =
       let c = continues found given g in
       record {
         found_kept = before;
         given_kept = after;
-        takes = record { follows = follows; earlier = c.earlier; sparing = c.sparing; opening = c.opening; turn = gave ∙ ap (giving (known_of_book given)) took };
+        takes = record {
+          follows = follows;
+          earlier = c.earlier;
+          sparing = c.sparing;
+          opening = c.opening;
+          turn = gave ∙ ap (giving (known_of_book given)) took;
+        };
       }
 
 -- what a worker knows grows when it takes the turn
@@ -197,5 +265,6 @@ takes_grows found given v w s =
       earlier = earlier_again v.known found given s.follows.earlier s.earlier s.opening;
       sparing = sparing_again v.known found given s.follows.earlier s.earlier s.opening s.follows.sparing s.sparing;
       opening = s.opening ∙ s.follows.opening;
-      epoch = (let a = s.follows.epoch in let b = s.follows.earlier.changes in let c = s.earlier.changes in omega arith);
+      epoch = (let a = s.follows.epoch in let b = s.follows.earlier.changes in let c = s.earlier.changes in
+          omega arith);
     })

@@ -1,5 +1,6 @@
 -- The greatest word of a row, one pair later; and what a draw says of it.
-use Rattle.std.proofs.Common.{◌≡◌, ℕ, ◌<◌, ◌≤◌, max, List, [], ◌∷◌, ◌++◌, refl, sym, ap, subst, ◌∙◌, arith, eq-eqb, Some, Ok}
+use Rattle.std.proofs.Common.{◌≡◌, ℕ, ◌<◌, ◌≤◌, max, List, [], ◌∷◌, ◌++◌, refl, sym, ap, subst, ◌∙◌, arith, eq-eqb}
+use Rattle.std.proofs.Common.{Some, Ok}
 use Rattle.counter_table.specs.declared.view.Numbers.{Numbers}
 use Rattle.counter_table.specs.Numbers.{top, arming, drawing, lifting}
 use Rattle.shared_unit.specs.Numbers.{Draws, IsDrawAnswer}
@@ -24,10 +25,12 @@ draws row end n m v u w found armed below later positive drawn =
       is = drawn ∙ ap (drawing row n) armed;
     }
 
-pub drawn_ok : (row end m r : ℕ) (t : ℕ × ℕ) (v u w : Numbers) → r ≡ row → top row v.nexts ≤ m → u ≡ arming row end m v → m < end
+pub drawn_ok : (row end m r : ℕ) (t : ℕ × ℕ) (v u w : Numbers) → r ≡ row → top row v.nexts ≤ m → u ≡ arming row end m v
+    → m < end
     → t.0 ≡ r → top r u.nexts ≤ t.1 → 0 < t.1 → w ≡ drawing r t.1 u → t.1 < end → IsDrawAnswer row end (Ok t) v w
 drawn_ok row end m r t v u w same found armed below own later positive drawn fits =
-    let last : w.last ≡ Some (t.0, t.1) = ap (λ (k : Numbers). k.last) drawn ∙ ap (λ (q : ℕ). Some (q, t.1)) (sym own) in (
+    let last : w.last ≡ Some (t.0, t.1) =
+    ap (λ (k : Numbers). k.last) drawn ∙ ap (λ (q : ℕ). Some (q, t.1)) (sym own) in (
       own ∙ same,
       fits,
       last,
@@ -36,7 +39,9 @@ drawn_ok row end m r t v u w same found armed below own later positive drawn fit
     )
 
 -- after a lift the limit is above each number below the mark
-pub funded_after_lift : (row n mark limit : ℕ) (v u : Numbers) → u ≡ lifting row mark v → top row u.limits ≤ limit → n < mark → n < limit
+pub funded_after_lift : (row n mark limit : ℕ) (v u : Numbers) → u ≡ lifting row mark v → top row u.limits ≤ limit
+    → n < mark → n < limit
 funded_after_lift row n mark limit v u lifted later below =
-    let seen : top row (v.limits ++ (row, mark) ∷ []) ≤ limit = subst (λ (k : Numbers). top row k.limits ≤ limit) lifted later in
+    let seen : top row (v.limits ++ (row, mark) ∷ []) ≤ limit =
+    subst (λ (k : Numbers). top row k.limits ≤ limit) lifted later in
     let h = top_here row mark v.limits in omega arith

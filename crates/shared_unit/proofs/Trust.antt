@@ -46,7 +46,8 @@ pub row_held : (p : Permit) (v : Turn) (book : BookView) → Follows v (known_of
 row_held p v book follows is level =
     let more = follows.earlier.log in
     let k : Known = known_of_book book in
-    let same : state_at k p.epoch ≡ state_at v.known p.epoch = state_at_stays v.known k more.0 p.epoch follows.opening more.1 is.reached in
+    let same : state_at k p.epoch ≡ state_at v.known p.epoch =
+    state_at_stays v.known k more.0 p.epoch follows.opening more.1 is.reached in
     sym (level.rows p.binding.key)
     ∙ row_later book.start (entries_of book.log) p.epoch book.changes p.binding.key p.row
     (let a = is.seen in let b = follows.epoch in let c = follows.earlier.changes in omega arith)
@@ -54,12 +55,14 @@ row_held p v book follows is level =
 
 -- what the book permits is true for the worker that found the book so
 pub permit_true : (link : ℕ) (clear : List ℕ) (p : Permit) (found : BookView) (given : Known) (v w : Turn)
-    → Permits link clear (replies.Permit p) found → IsLevel found → TakesOnce (known_of_book found) given v w → IsTrueFor p w
+    → Permits link clear (replies.Permit p) found → IsLevel found → TakesOnce (known_of_book found) given v w
+    → IsTrueFor p w
 permit_true link clear p found given v w h level s =
     let k : Known = known_of_book found in
     let here = h.0 in
     let epoch : p.epoch ≡ found.changes = h.2 in
-    let bound = check_bound found.plan (state_at k found.changes) link clear p.channel p.binding h.1 (level.binds link clear ∙ h.3) in
+    let bound = check_bound found.plan (state_at k found.changes) link clear p.channel p.binding h.1
+    (level.binds link clear ∙ h.3) in
     permit_stays p (taking k v) w (record {
       earlier = subst (λ (t : Turn). Earlier k t.known) (sym s.turn) s.earlier;
       sparing = subst (λ (t : Turn). IsSparing k t.known) (sym s.turn) s.sparing;
@@ -70,8 +73,10 @@ permit_true link clear p found given v w h level s =
       seen = (let e = epoch in omega arith);
       reached = (let b = level.reached in omega arith);
       line = ap (link_of found.plan.links) here ∙ bound.0;
-      sender = subst (λ (n : ℕ). binding_on found.plan (state_at k n) p.binding.link p.channel ≡ Some p.binding) (sym epoch) bound.1;
-      row = subst (λ (n : ℕ). place_of (state_at k n).keys p.binding.key ≡ Some p.row) (sym epoch) (level.rows p.binding.key ∙ h.4);
+      sender = subst (λ (n : ℕ). binding_on found.plan (state_at k n) p.binding.link p.channel ≡ Some p.binding)
+          (sym epoch) bound.1;
+      row = subst (λ (n : ℕ). place_of (state_at k n).keys p.binding.key ≡ Some p.row) (sym epoch)
+          (level.rows p.binding.key ∙ h.4);
       there = level.places p.binding.key p.row h.4;
       binding = h.5;
     })
@@ -80,9 +85,11 @@ permit_true link clear p found given v w h level s =
 pub of_permit : (link : ℕ) (clear : List ℕ) (p : Permit) (found : BookView) (plan : PlanLines)
     → Permits link clear (replies.Permit p) found → found.plan ≡ plan → IsOfPermit plan p clear
 of_permit link clear p found plan h same =
-    ap (λ (l : PlanLines). channel_check l p.link clear) (sym same) ∙ ap (λ (n : ℕ). channel_check found.plan n clear) h.0 ∙ h.1
+    ap (λ (l : PlanLines). channel_check l p.link clear) (sym same) ∙ ap (λ (n : ℕ). channel_check found.plan n clear)
+    h.0 ∙ h.1
 
-pub permitted : (plan : PlanLines) (link : ℕ) (clear : List ℕ) (reply : PermitReply) (found : BookView) (given : Known) (v w : Turn)
+pub permitted : (plan : PlanLines) (link : ℕ) (clear : List ℕ) (reply : PermitReply) (found : BookView) (given : Known)
+    (v w : Turn)
     → Permits link clear reply found → IsLevel found → TakesOnce (known_of_book found) given v w → found.plan ≡ plan
     → IfPermit reply (λ p. IsTrueFor p w × IsOfPermit plan p clear)
 permitted plan link clear (replies.Permit p) found given v w h level s same =

@@ -10,7 +10,8 @@ top_else row r n ps apart = rw (top-append r ps ((row, n) ∷ []), apart) (omega
 
 module _ (row end n next : ℕ) (v : Numbers) (found : top row v.nexts ≤ next) (follows : next ≤ n) where
   left_is : top row ((v.nexts ++ (row, next) ∷ []) ++ (row, n + 1) ∷ []) ≡ n + 1
-  left_is = let a = top_here row (n + 1) (v.nexts ++ (row, next) ∷ []) in let b = top_here row next v.nexts in omega arith
+  left_is = let a = top_here row (n + 1) (v.nexts ++ (row, next) ∷ []) in let b = top_here row next v.nexts in
+      omega arith
 
   others_are : (r : ℕ) → (row == r) ≡ false → top r ((v.nexts ++ (row, next) ∷ []) ++ (row, n + 1) ∷ []) ≡ top r v.nexts
   others_are r apart = top_else row r (n + 1) (v.nexts ++ (row, next) ∷ []) apart ∙ top_else row r next v.nexts apart
@@ -28,7 +29,8 @@ module _ (row end n next : ℕ) (v : Numbers) (found : top row v.nexts ≤ next)
     others = others_are;
   }
 
-  pub spent_lifted : (limit mark : ℕ) → UsesNumber row n 0 v (spending row n limit (lifting row mark (drawing row n (arming row end next v))))
+  pub spent_lifted : (limit mark : ℕ)
+      → UsesNumber row n 0 v (spending row n limit (lifting row mark (drawing row n (arming row end next v))))
   spent_lifted limit mark = record {
     drawn = refl;
     spent = refl;
@@ -42,7 +44,8 @@ module _ (row end n next : ℕ) (v : Numbers) (found : top row v.nexts ≤ next)
   }
 
   pub spent_later : (limit mark low : ℕ)
-      → UsesNumber row n 1 v (spending row n limit (lifting row mark (returning row low (drawing row n (arming row end next v)))))
+      → UsesNumber row n 1 v
+      (spending row n limit (lifting row mark (returning row low (drawing row n (arming row end next v)))))
   spent_later limit mark low = record {
     drawn = refl;
     spent = refl;
@@ -63,12 +66,14 @@ spends_uses row end n v w s =
 
 pub holder_uses : (row end n : ℕ) (v u w : Numbers) → Draws row end n v u → Lifts row n u w → UsesNumber row n 0 v w
 holder_uses row end n v u w d l =
-    subst (λ (k : Numbers). UsesNumber row n 0 v k) (sym (l.is ∙ ap (λ (k : Numbers). spending row n l.limit (lifting row l.mark k)) d.is))
+    subst (λ (k : Numbers). UsesNumber row n 0 v k)
+    (sym (l.is ∙ ap (λ (k : Numbers). spending row n l.limit (lifting row l.mark k)) d.is))
     (spent_lifted row end n d.next v d.found d.follows l.limit l.mark)
 
 pub funded_uses : (row end n : ℕ) (v u w : Numbers) → ComesBack row end n v u → Lifts row n u w → UsesNumber row n 1 v w
 funded_uses row end n v u w b l =
     let d = b.draws in
     subst (λ (k : Numbers). UsesNumber row n 1 v k)
-    (sym (l.is ∙ ap (λ (k : Numbers). spending row n l.limit (lifting row l.mark k)) (b.is ∙ ap (returning row b.limit) d.is)))
+    (sym (l.is ∙ ap (λ (k : Numbers). spending row n l.limit (lifting row l.mark k))
+    (b.is ∙ ap (returning row b.limit) d.is)))
     (spent_later row end n d.next v d.found d.follows l.limit l.mark b.limit)

@@ -5,7 +5,8 @@ use Rattle.unit_book.specs.Marks.{KeepsMarks}
 use Rattle.unit_book.specs.GoesOn.{GoesOn, IsCalm}
 use Rattle.unit_book.specs.Book.{BookView}
 
--- The book goes on, and no mark fell. No more puts failed than pieces were put, and no fault came where none did and all
+-- The book goes on, and no mark fell. No more puts failed than pieces were put, and no fault came where none did and
+-- all
 -- entries stand.
 pub record GoesUp (old new : BookView) : Type 0 where
   pub goes : GoesOn old new

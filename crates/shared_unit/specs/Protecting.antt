@@ -189,7 +189,8 @@ module _ (told : Bool) where
   IsByKept plan kept link clear out (Some answer) v w =
       (p : Permit) × (kept ≡ Some p) × IsUsed plan link clear p w.turn × IsKeptStep p clear out (Some answer) v w
 
--- What `protect` leaves, with this permit kept before and this one behind it. The worker can make further calls, has the
+-- What `protect` leaves, with this permit kept before and this one behind it. The worker can make further calls, has
+-- the
 -- shares that it had, and took the turn once at most.
 pub record ProtectsFrame {B : Type 0} (told : Bool) (counters : Counters B) (plan : PlanLines) (link : ℕ)
     (clear room out : List ℕ) (before after : Option Permit) (result : Protected) (old new : Worker B) : Type 0 where

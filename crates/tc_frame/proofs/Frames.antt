@@ -1,19 +1,25 @@
 -- A frame without fault has the parts at its places, and a frame with parts has no fault.
-use Rattle.std.proofs.Common.{◌≡◌, ℕ, ◌+◌, ◌-◌, ◌*◌, ◌/◌, ◌%◌, ◌^◌, ◌≤◌, ◌<◌, Bool, true, false, List, [], ◌∷◌, ◌++◌, length, take, drop, get_or, refl, sym, ◌∙◌, ap, arith, append_assoc, length-append, length-take-le, length-drop, drop-cons}
+use Rattle.std.proofs.Common.{◌≡◌, ℕ, ◌+◌, ◌-◌, ◌*◌, ◌/◌, ◌%◌, ◌^◌, ◌≤◌, ◌<◌, Bool, true, false, List, [], ◌∷◌, ◌++◌}
+use Rattle.std.proofs.Common.{length, take, drop, get_or, refl, sym, ◌∙◌, ap, arith, append_assoc, length-append}
+use Rattle.std.proofs.Common.{length-take-le, length-drop, drop-cons}
 use Rattle.std.proofs.lemmas.Bool.{le-ltb, ltb-false}
 use Rattle.std.specs.Prelude.{Option, Some, None, IfSome, is_some, not, ◌==◌, ◌||◌, nat_lt, if◌then◌else◌}
 use Rattle.std.specs.Option.{option_to_list}
 use Rattle.std.proofs.lemmas.List.{get_or-take}
 use Rattle.sdls_base.specs.declared.layout.TcLayout.{TcLayout}
 use Rattle.sdls_base.specs.declared.layout.FrameFault.TheVariants.{Short, Long, LengthField, Version, Spare, Fecf}
-use Rattle.sdls_base.specs.ErrorControl.{with_error_control, error_control_length, before_error_control, fails_error_control}
+use Rattle.sdls_base.specs.ErrorControl.{with_error_control, error_control_length, before_error_control}
+use Rattle.sdls_base.specs.ErrorControl.{fails_error_control}
 use Rattle.sdls_base.specs.Fields.{bit, packed}
 use Rattle.sdls_base.proofs.Checks.{passes, passed, passed_later, same_if_passed, passed_if_same}
-use Rattle.sdls_base.proofs.Endings.{length-with_error_control, before_error_control-with, fails_error_control-with, with-before_error_control, take_front, drop_front, get_or-with_error_control}
+use Rattle.sdls_base.proofs.Endings.{length-with_error_control, before_error_control-with, fails_error_control-with}
+use Rattle.sdls_base.proofs.Endings.{with-before_error_control, take_front, drop_front, get_or-with_error_control}
 use Rattle.sdls_base.proofs.FieldLemmas.{cells_five, front_five, bit_small, bit_of_digit, digit_of_bit}
 use Rattle.sdls_base.proofs.Pieces.{get_or-take_small}
-use Rattle.tc_frame.specs.TcFrame.{TcParts, TcFrame, FitsLayout, primary_header, prefix_of, body_of, frame_length, has_segment}
-use Rattle.tc_frame.specs.FirstFault.{first_fault, version_of, spare_of, control_of, segment_length, least, length_field}
+use Rattle.tc_frame.specs.TcFrame.{TcParts, TcFrame, FitsLayout, primary_header, prefix_of, body_of, frame_length}
+use Rattle.tc_frame.specs.TcFrame.{has_segment}
+use Rattle.tc_frame.specs.FirstFault.{first_fault, version_of, spare_of, control_of, segment_length, least}
+use Rattle.tc_frame.specs.FirstFault.{length_field}
 use Rattle.tc_frame.specs.Reading.{parts_in, parts_at}
 use Rattle.tc_frame.proofs.Words.{cells_of, header_cells, same_parts}
 
@@ -63,7 +69,8 @@ faultless layout frame e =
 
 pub first_fault-none : (layout : TcLayout) (frame : List ℕ) → Faultless layout frame → first_fault layout frame ≡ None
 first_fault-none layout frame f =
-    passes _ Short _ (both_false _ _ (le-ltb (length frame) 5 f.header) (le-ltb (length frame) (least layout frame) f.needed))
+    passes _ Short _ (both_false _ _ (le-ltb (length frame) 5 f.header)
+    (le-ltb (length frame) (least layout frame) f.needed))
     (passes _ Long _ (le-ltb layout.most (length frame) f.most)
     (passes _ LengthField _ (passed_if_same (length_field frame) (length frame - 1) f.field)
     (passes _ Version _ (passed_if_same (version_of frame) 0 f.version)
@@ -101,8 +108,10 @@ segment_back a b c d e None room = refl
 segment_back a b c d e (Some x) room = refl
 
 -- the primary header of the parts at their places is the first five octets
-header_at : (layout : TcLayout) (body : List ℕ) (n : ℕ) → ((i : ℕ) → get_or body i 0 < 256) → n ≤ 2 ^ 10 → length_field body ≡ n - 1 → version_of body ≡ 0 → spare_of body ≡ 0
-    → packed (primary_header (parts_in layout body) n) ≡ (get_or body 0 0 ∷ get_or body 1 0 ∷ get_or body 2 0 ∷ get_or body 3 0 ∷ get_or body 4 0 ∷ [])
+header_at : (layout : TcLayout) (body : List ℕ) (n : ℕ) → ((i : ℕ) → get_or body i 0 < 256) → n ≤ 2 ^ 10
+    → length_field body ≡ n - 1 → version_of body ≡ 0 → spare_of body ≡ 0
+    → packed (primary_header (parts_in layout body) n)
+    ≡ (get_or body 0 0 ∷ get_or body 1 0 ∷ get_or body 2 0 ∷ get_or body 3 0 ∷ get_or body 4 0 ∷ [])
 header_at layout body n octets most field version spare =
     let p : TcParts = parts_in layout body in
     let a : ℕ = get_or body 0 0 in
@@ -121,15 +130,18 @@ header_at layout body n octets most field version spare =
     ∙ cells_five (omega (arith, r, u)) (omega arith) (omega arith) (omega arith) refl
 
 -- the octets before the error control field are spelled by the parts at their places
-body_spelled : (layout : TcLayout) (body : List ℕ) (n : ℕ) → 5 + segment_length layout body ≤ length body → n ≡ length body + error_control_length layout.fecf
-    → ((i : ℕ) → get_or body i 0 < 256) → n ≤ 2 ^ 10 → length_field body ≡ n - 1 → version_of body ≡ 0 → spare_of body ≡ 0
+body_spelled : (layout : TcLayout) (body : List ℕ) (n : ℕ) → 5 + segment_length layout body ≤ length body
+    → n ≡ length body + error_control_length layout.fecf
+    → ((i : ℕ) → get_or body i 0 < 256) → n ≤ 2 ^ 10 → length_field body ≡ n - 1 → version_of body ≡ 0
+    → spare_of body ≡ 0
     → (frame_length layout (parts_in layout body) ≡ n) × (body_of layout (parts_in layout body) ≡ body)
 body_spelled layout body n enough whole octets most field version spare =
     let p : TcParts = parts_in layout body in
     let h : Bool = has_segment layout (control_of body) in
     let segment : List ℕ = option_to_list p.segment in
     let front : List ℕ = get_or body 0 0 ∷ get_or body 1 0 ∷ get_or body 2 0 ∷ get_or body 3 0 ∷ get_or body 4 0 ∷ [] in
-    let count : frame_length layout p ≡ n = omega (arith, segment_octets h (get_or body 5 0), length-drop (5 + one_if h) body) in (
+    let count : frame_length layout p ≡ n =
+    omega (arith, segment_octets h (get_or body 5 0), length-drop (5 + one_if h) body) in (
       count,
       ap (λ k. (packed (primary_header p k) ++ segment) ++ p.room) count
           ∙ ap (λ l. (l ++ segment) ++ p.room) (header_at layout body n octets most field version spare)
@@ -141,7 +153,8 @@ body_spelled layout body n enough whole octets most field version spare =
 field_bound : (w n : ℕ) → w % 2 ^ 10 ≡ n - 1 → n ≤ 2 ^ 10
 field_bound w n e = omega arith
 
-spacecraft_digits : (r u sc : ℕ) → sc < 2 ^ 10 → ((r * 2 ^ 5 + u * 2 ^ 4 + sc / 2 ^ 8) * 2 ^ 8 + sc % 2 ^ 8) % 2 ^ 10 ≡ sc
+spacecraft_digits : (r u sc : ℕ) → sc < 2 ^ 10 → ((r * 2 ^ 5 + u * 2 ^ 4 + sc / 2 ^ 8) * 2 ^ 8 + sc % 2 ^ 8) % 2 ^ 10
+    ≡ sc
 spacecraft_digits r u sc h = omega arith
 
 channel_digits : (ch m : ℕ) → m < 2 ^ 10 → (ch * 2 ^ 2 + m / 2 ^ 8) / 2 ^ 2 ≡ ch
@@ -157,7 +170,8 @@ spare_digits : (r u k : ℕ) → k < 4 → (r * 2 ^ 5 + u * 2 ^ 4 + k) / 4 % 4 �
 spare_digits r u k hk = omega arith
 
 -- what the checks leave has the parts at its places
-pub frame_at : (layout : TcLayout) (frame : List ℕ) → ((i : ℕ) → get_or frame i 0 < 256) → first_fault layout frame ≡ None
+pub frame_at : (layout : TcLayout) (frame : List ℕ) → ((i : ℕ) → get_or frame i 0 < 256)
+    → first_fault layout frame ≡ None
     → TcFrame layout (parts_at layout frame) frame
 frame_at layout frame octets none =
     let f : Faultless layout frame = faultless layout frame none in
@@ -170,11 +184,15 @@ frame_at layout frame octets none =
     let first : get_or body 0 0 ≡ get_or frame 0 0 = get_or-take n frame 0 0 (omega arith) in
     let third : get_or body 2 0 ≡ get_or frame 2 0 = get_or-take n frame 2 0 (omega arith) in
     let fourth : get_or body 3 0 ≡ get_or frame 3 0 = get_or-take n frame 3 0 (omega arith) in
-    let segment : segment_length layout body ≡ segment_length layout frame = ap (λ a. if has_segment layout (a / 2 ^ 4 % 2 == 1) then 1 else 0) first in
+    let segment : segment_length layout body ≡ segment_length layout frame =
+    ap (λ a. if has_segment layout (a / 2 ^ 4 % 2 == 1) then 1 else 0) first in
     let version : version_of body ≡ 0 = ap (λ k. k / 64) first ∙ f.version in
     let spare : spare_of body ≡ 0 = ap (λ k. k / 4 % 4) first ∙ f.spare in
-    let field : length_field body ≡ length frame - 1 = ap (λ k. (k * 2 ^ 8 + get_or body 3 0) % 2 ^ 10) third ∙ ap (λ k. (get_or frame 2 0 * 2 ^ 8 + k) % 2 ^ 10) fourth ∙ f.field in
-    let most : length frame ≤ 2 ^ 10 = field_bound (get_or frame 2 0 * 2 ^ 8 + get_or frame 3 0) (length frame) f.field in
+    let field : length_field body ≡ length frame - 1 =
+    ap (λ k. (k * 2 ^ 8 + get_or body 3 0) % 2 ^ 10) third ∙ ap (λ k. (get_or frame 2 0 * 2 ^ 8 + k) % 2 ^ 10)
+    fourth ∙ f.field in
+    let most : length frame ≤ 2 ^ 10 =
+    field_bound (get_or frame 2 0 * 2 ^ 8 + get_or frame 3 0) (length frame) f.field in
     let needed : 5 + segment_length layout body ≤ length body = omega (arith, f.needed, segment, body_length) in
     let whole : length frame ≡ length body + error_control_length layout.fecf = omega (arith, body_length, f.needed) in
     let spelled = body_spelled layout body (length frame) needed whole body_octets most field version spare in
@@ -190,7 +208,9 @@ frame_at layout frame octets none =
         most = omega (arith, count, f.most);
         field = omega (arith, count, most);
       };
-      spelled = sym (ap (λ l. with_error_control layout.fecf l) spelled.1 ∙ with-before_error_control layout.fecf frame f.error_control);
+      spelled =
+          sym (ap (λ l. with_error_control layout.fecf l) spelled.1 ∙ with-before_error_control layout.fecf frame
+          f.error_control);
     }
 
 abbrev pub body_of_cells : TcLayout → TcParts → List ℕ
@@ -203,29 +223,36 @@ control_digit : (r u k : ℕ) → r < 2 → u < 2 → k < 4 → (r * 2 ^ 5 + u *
 control_digit r u k hr hu hk = omega arith
 
 -- the control command flag, the segment header and the room at the places of what was put together
-control_back : (layout : TcLayout) (p : TcParts) → p.spacecraft < 2 ^ 10 → control_of (body_of_cells layout p) ≡ p.control
+control_back : (layout : TcLayout) (p : TcParts) → p.spacecraft < 2 ^ 10
+    → control_of (body_of_cells layout p) ≡ p.control
 control_back layout p sc =
-    ap (λ k. k == 1) (control_digit (bit p.bypass) (bit p.control) (p.spacecraft / 2 ^ 8) (bit_small p.bypass) (bit_small p.control) (omega arith)) ∙ digit_of_bit p.control
+    ap (λ k. k == 1) (control_digit (bit p.bypass) (bit p.control) (p.spacecraft / 2 ^ 8) (bit_small p.bypass)
+    (bit_small p.control) (omega arith)) ∙ digit_of_bit p.control
 
-segment_length_back : (layout : TcLayout) (p : TcParts) → FitsLayout layout p → segment_length layout (body_of_cells layout p) ≡ length (option_to_list p.segment)
+segment_length_back : (layout : TcLayout) (p : TcParts) → FitsLayout layout p
+    → segment_length layout (body_of_cells layout p) ≡ length (option_to_list p.segment)
 segment_length_back layout p fits =
-    ap (λ k. one_if (has_segment layout k)) (control_back layout p fits.spacecraft) ∙ ap one_if (sym fits.segment) ∙ one_if_some p.segment
+    ap (λ k. one_if (has_segment layout k)) (control_back layout p fits.spacecraft) ∙ ap one_if (sym fits.segment)
+    ∙ one_if_some p.segment
 
 parts_in_cells : (layout : TcLayout) (p : TcParts) → FitsLayout layout p → parts_in layout (body_of_cells layout p) ≡ p
 parts_in_cells layout p fits =
     let n : ℕ = frame_length layout p in
     let B : List ℕ = body_of_cells layout p in
     let front : List ℕ = cells_of p n ++ option_to_list p.segment in
-    let start : 5 + segment_length layout B ≡ length front = omega (arith, segment_length_back layout p fits, length-append (cells_of p n) (option_to_list p.segment)) in
+    let start : 5 + segment_length layout B ≡ length front =
+    omega (arith, segment_length_back layout p fits, length-append (cells_of p n) (option_to_list p.segment)) in
     same_parts
-    (ap (λ k. k == 1) (bypass_digit (bit p.bypass) (bit p.control) (p.spacecraft / 2 ^ 8) (bit_small p.bypass) (bit_small p.control) (omega (arith, fits.spacecraft))) ∙ digit_of_bit p.bypass)
+    (ap (λ k. k == 1) (bypass_digit (bit p.bypass) (bit p.control) (p.spacecraft / 2 ^ 8) (bit_small p.bypass)
+    (bit_small p.control) (omega (arith, fits.spacecraft))) ∙ digit_of_bit p.bypass)
     (control_back layout p fits.spacecraft)
     (spacecraft_digits (bit p.bypass) (bit p.control) p.spacecraft fits.spacecraft)
     (channel_digits p.channel (n - 1) (omega (arith, fits.field)))
     refl
     (ap (λ k. if has_segment layout k then Some (get_or B 5 0) else None) (control_back layout p fits.spacecraft)
     ∙ ap (λ k. if k then Some (get_or B 5 0) else None) (sym fits.segment)
-    ∙ segment_back (bit p.bypass * 2 ^ 5 + bit p.control * 2 ^ 4 + p.spacecraft / 2 ^ 8) (p.spacecraft % 2 ^ 8) (p.channel * 2 ^ 2 + (n - 1) / 2 ^ 8) ((n - 1) % 2 ^ 8) p.sequence p.segment p.room)
+    ∙ segment_back (bit p.bypass * 2 ^ 5 + bit p.control * 2 ^ 4 + p.spacecraft / 2 ^ 8) (p.spacecraft % 2 ^ 8)
+    (p.channel * 2 ^ 2 + (n - 1) / 2 ^ 8) ((n - 1) % 2 ^ 8) p.sequence p.segment p.room)
     (drop_front front p.room (5 + segment_length layout B) start)
 
 -- a frame with parts has no fault, and the parts are at their places
@@ -235,23 +262,38 @@ frame_parts layout p frame is =
     let fits : FitsLayout layout p = is.fits in
     let n : ℕ = frame_length layout p in
     let B : List ℕ = body_of_cells layout p in
-    let header : packed (primary_header p n) ≡ cells_of p n = header_cells p n fits.spacecraft fits.channel fits.sequence fits.field in
+    let header : packed (primary_header p n) ≡ cells_of p n =
+    header_cells p n fits.spacecraft fits.channel fits.sequence fits.field in
     let body : body_of layout p ≡ B = ap (λ l. (l ++ option_to_list p.segment) ++ p.room) header in
-    let spelled : frame ≡ with_error_control layout.fecf B = is.spelled ∙ ap (λ l. with_error_control layout.fecf l) body in
-    let count : length frame ≡ n = omega (arith, ap length spelled, length-with_error_control layout.fecf B, length-append (cells_of p n ++ option_to_list p.segment) p.room, length-append (cells_of p n) (option_to_list p.segment)) in
-    let first : get_or frame 0 0 ≡ get_or B 0 0 = ap (λ l. get_or l 0 0) spelled ∙ get_or-with_error_control layout.fecf B 0 (omega arith) in
-    let third : get_or frame 2 0 ≡ get_or B 2 0 = ap (λ l. get_or l 2 0) spelled ∙ get_or-with_error_control layout.fecf B 2 (omega arith) in
-    let fourth : get_or frame 3 0 ≡ get_or B 3 0 = ap (λ l. get_or l 3 0) spelled ∙ get_or-with_error_control layout.fecf B 3 (omega arith) in
+    let spelled : frame ≡ with_error_control layout.fecf B =
+    is.spelled ∙ ap (λ l. with_error_control layout.fecf l) body in
+    let count : length frame ≡ n =
+    omega (
+      arith,
+      ap length spelled,
+      length-with_error_control layout.fecf B,
+      length-append (cells_of p n ++ option_to_list p.segment) p.room,
+      length-append (cells_of p n) (option_to_list p.segment),
+    ) in
+    let first : get_or frame 0 0 ≡ get_or B 0 0 =
+    ap (λ l. get_or l 0 0) spelled ∙ get_or-with_error_control layout.fecf B 0 (omega arith) in
+    let third : get_or frame 2 0 ≡ get_or B 2 0 =
+    ap (λ l. get_or l 2 0) spelled ∙ get_or-with_error_control layout.fecf B 2 (omega arith) in
+    let fourth : get_or frame 3 0 ≡ get_or B 3 0 =
+    ap (λ l. get_or l 3 0) spelled ∙ get_or-with_error_control layout.fecf B 3 (omega arith) in
     let segment : segment_length layout frame ≡ length (option_to_list p.segment) =
     ap (λ a. if has_segment layout (a / 2 ^ 4 % 2 == 1) then 1 else 0) first ∙ segment_length_back layout p fits in
     let faultless : Faultless layout frame = record {
       header = omega (arith, count);
       needed = omega (arith, count, segment);
       most = omega (arith, count, fits.most);
-      field = ap (λ k. (k * 2 ^ 8 + get_or frame 3 0) % 2 ^ 10) third ∙ ap (λ k. (get_or B 2 0 * 2 ^ 8 + k) % 2 ^ 10) fourth
+      field = ap (λ k. (k * 2 ^ 8 + get_or frame 3 0) % 2 ^ 10) third ∙ ap (λ k. (get_or B 2 0 * 2 ^ 8 + k) % 2 ^ 10)
+          fourth
           ∙ length_digits p.channel (n - 1) (omega (arith, fits.field)) ∙ ap (λ k. k - 1) (sym count);
-      version = ap (λ k. k / 64) first ∙ version_digits (bit p.bypass) (bit p.control) (p.spacecraft / 2 ^ 8) (bit_small p.bypass) (bit_small p.control) (omega (arith, fits.spacecraft));
-      spare = ap (λ k. k / 4 % 4) first ∙ spare_digits (bit p.bypass) (bit p.control) (p.spacecraft / 2 ^ 8) (omega (arith, fits.spacecraft));
+      version = ap (λ k. k / 64) first ∙ version_digits (bit p.bypass) (bit p.control) (p.spacecraft / 2 ^ 8)
+          (bit_small p.bypass) (bit_small p.control) (omega (arith, fits.spacecraft));
+      spare = ap (λ k. k / 4 % 4) first ∙ spare_digits (bit p.bypass) (bit p.control) (p.spacecraft / 2 ^ 8)
+          (omega (arith, fits.spacecraft));
       error_control = ap (λ l. fails_error_control layout.fecf l) spelled ∙ fails_error_control-with layout.fecf B;
     } in (
       first_fault-none layout frame faultless,
@@ -262,15 +304,20 @@ frame_parts layout p frame is =
 
 -- the prefix stands in front of the octets before the error control field
 pub prefix_at : (layout : TcLayout) (p : TcParts) (frame : List ℕ) → TcFrame layout p frame
-    → take (5 + segment_length layout (before_error_control layout.fecf frame)) (before_error_control layout.fecf frame) ≡ prefix_of layout p
+    → take (5 + segment_length layout (before_error_control layout.fecf frame)) (before_error_control layout.fecf frame)
+    ≡ prefix_of layout p
 prefix_at layout p frame is =
     let fits : FitsLayout layout p = is.fits in
     let n : ℕ = frame_length layout p in
     let B : List ℕ = body_of_cells layout p in
     let front : List ℕ = cells_of p n ++ option_to_list p.segment in
-    let header : packed (primary_header p n) ≡ cells_of p n = header_cells p n fits.spacecraft fits.channel fits.sequence fits.field in
-    let spelled : frame ≡ with_error_control layout.fecf B = is.spelled ∙ ap (λ l. with_error_control layout.fecf ((l ++ option_to_list p.segment) ++ p.room)) header in
-    let start : 5 + segment_length layout B ≡ length front = omega (arith, segment_length_back layout p fits, length-append (cells_of p n) (option_to_list p.segment)) in
-    ap (λ l. take (5 + segment_length layout l) l) (ap (λ l. before_error_control layout.fecf l) spelled ∙ before_error_control-with layout.fecf B)
+    let header : packed (primary_header p n) ≡ cells_of p n =
+    header_cells p n fits.spacecraft fits.channel fits.sequence fits.field in
+    let spelled : frame ≡ with_error_control layout.fecf B =
+    is.spelled ∙ ap (λ l. with_error_control layout.fecf ((l ++ option_to_list p.segment) ++ p.room)) header in
+    let start : 5 + segment_length layout B ≡ length front =
+    omega (arith, segment_length_back layout p fits, length-append (cells_of p n) (option_to_list p.segment)) in
+    ap (λ l. take (5 + segment_length layout l) l)
+    (ap (λ l. before_error_control layout.fecf l) spelled ∙ before_error_control-with layout.fecf B)
     ∙ take_front front p.room (5 + segment_length layout B) start
     ∙ ap (λ l. l ++ option_to_list p.segment) (sym header)

@@ -1,5 +1,6 @@
 -- The lines of answers, one after the other, for `put_next` and `put_answers`.
-use Rattle.std.proofs.Common.{◌≡◌, ℕ, ◌+◌, ◌++◌, List, [], ◌∷◌, length, inl, refl, sym, ap, ◌∙◌, arith, append_assoc, length-append}
+use Rattle.std.proofs.Common.{◌≡◌, ℕ, ◌+◌, ◌++◌, List, [], ◌∷◌, length, inl, refl, sym, ap, ◌∙◌, arith, append_assoc}
+use Rattle.std.proofs.Common.{length-append}
 use Rattle.std.proofs.lemmas.List.{append-nil}
 use Rattle.record_io.specs.declared.answers.Answer.{Answer}
 use Rattle.record_io.specs.Answers.{answer_octets, answers_octets}
@@ -9,11 +10,13 @@ use Rattle.answer_text.specs.declared.form.Form.{Form}
 use Rattle.answer_text.specs.Line.{HasLine}
 use Rattle.answer_text.specs.Listing.{EndsAt, Place, behind}
 use Rattle.text_streams.specs.declared.ends.End.{End}
-use Rattle.text_streams.specs.declared.ends.End.TheVariants.{Done, LineFault, LongLine, CutAnswer, NoAnswer, NoItem, SourceFault, OutputFault, NoMemory}
+use Rattle.text_streams.specs.declared.ends.End.TheVariants.{Done, LineFault, LongLine, CutAnswer, NoAnswer, NoItem}
+use Rattle.text_streams.specs.declared.ends.End.TheVariants.{SourceFault, OutputFault, NoMemory}
 use Rattle.text_streams.specs.AnswerLines.{AreLines, FailsNext, PutsAnswers, PutsLine, TakesLine, end_of, first_place}
 use Rattle.text_streams.proofs.Writing.{between_behind}
 
-pub fails_of : (form : Form) (end : AnswersEnd) (place : Place) (left left_new old new : List ℕ) → EndsAt place.offset left left_new end
+pub fails_of : (form : Form) (end : AnswersEnd) (place : Place) (left left_new old new : List ℕ)
+    → EndsAt place.offset left left_new end
     → new ≡ old → FailsNext form place left old new (end_of end)
 fails_of form ends.Whole place left left_new old new is same = (is, same)
 fails_of form (ends.CutAt at) place left left_new old new is same = (is, same)
@@ -23,7 +26,8 @@ fails_of form ends.NoMemory place left left_new old new is same = same
 
 -- ---- one line more
 
-lines_more : (form : Form) (place last : Place) (answers : List Answer) (answer : Answer) (text line : List ℕ) → AreLines form place answers last text
+lines_more : (form : Form) (place last : Place) (answers : List Answer) (answer : Answer) (text line : List ℕ)
+    → AreLines form place answers last text
     → HasLine form last.index answer (λ its. line ≡ its)
     → AreLines form place (answers ++ answer ∷ []) (behind last answer) (text ++ line)
 lines_more form place last [] answer text line (at, none) has =
@@ -36,7 +40,8 @@ lines_more form place last (first ∷ answers) answer text line (front, rest, ha
   ap (λ text. text ++ line) is ∙ append_assoc front rest line,
 )
 
-octets_more : (answers : List Answer) (answer : Answer) → answers_octets (answers ++ answer ∷ []) ≡ answers_octets answers ++ answer_octets answer
+octets_more : (answers : List Answer) (answer : Answer) → answers_octets (answers ++ answer ∷ [])
+    ≡ answers_octets answers ++ answer_octets answer
 octets_more [] answer = append-nil (answer_octets answer)
 octets_more (first ∷ answers) answer =
     ap (λ octets. answer_octets first ++ octets) (octets_more answers answer)
@@ -49,8 +54,10 @@ pub record Lines (form : Form) (left left_now : List ℕ) (place : Place) (count
   pub counted : length answers ≡ count
   pub lines : AreLines form first_place answers place text
 
-more_lines : (form : Form) (left left_now left_next text line : List ℕ) (place place_next : Place) (count : ℕ) → Lines form left left_now place count text
-    → TakesLine form place place_next left_now left_next line → Lines form left left_next place_next (count + 1) (text ++ line)
+more_lines : (form : Form) (left left_now left_next text line : List ℕ) (place place_next : Place) (count : ℕ)
+    → Lines form left left_now place count text
+    → TakesLine form place place_next left_now left_next line
+    → Lines form left left_next place_next (count + 1) (text ++ line)
 more_lines form left left_now left_next text line place place_next count so_far takes =
     let longer = length-append so_far.answers (takes.answer ∷ []) in let counted = so_far.counted in
     record {
@@ -59,7 +66,8 @@ more_lines form left left_now left_next text line place place_next count so_far 
           ∙ sym (append_assoc (answers_octets so_far.answers) (answer_octets takes.answer) left_next)
           ∙ ap (λ octets. octets ++ left_next) (sym (octets_more so_far.answers takes.answer));
       counted = omega (arith, longer, counted);
-      lines = rw takes.passed (lines_more form first_place place so_far.answers takes.answer text line so_far.lines takes.put);
+      lines = rw takes.passed (lines_more form first_place place so_far.answers takes.answer text line so_far.lines
+          takes.put);
     }
 
 -- they were put
@@ -80,7 +88,8 @@ forth form left old left_now now left_next next place place_next count so_far (l
 -- ---- the ends
 
 pub ends_as : (form : Form) (end : End) (left old left_now now new : List ℕ) (place : Place) (count : ℕ)
-    → Progress form left old left_now now place count → FailsNext form place left_now now new end → PutsAnswers form left old new end
+    → Progress form left old left_now now place count → FailsNext form place left_now now new end
+    → PutsAnswers form left old new end
 ends_as form Done left old left_now now new place count so_far fails = record {
   answers = so_far.lines.answers;
   left_new = left_now;

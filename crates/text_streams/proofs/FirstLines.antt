@@ -1,5 +1,6 @@
 -- The first line of a text, for `next_line`.
-use Rattle.std.proofs.Common.{◌≡◌, ◌≢◌, ℕ, ◌+◌, ◌<◌, ◌≤◌, Bool, true, false, List, [], ◌∷◌, ◌++◌, length, refl, sym, ap, ◌∙◌, arith, append_assoc}
+use Rattle.std.proofs.Common.{◌≡◌, ◌≢◌, ℕ, ◌+◌, ◌<◌, ◌≤◌, Bool, true, false, List, [], ◌∷◌, ◌++◌, length, refl, sym, ap}
+use Rattle.std.proofs.Common.{◌∙◌, arith, append_assoc}
 use Rattle.std.specs.Prelude.{◌==◌, if◌then◌else◌, codes}
 use Rattle.std.specs.List.{onto_first}
 use Rattle.std.proofs.lemmas.Bool.Decides.{nat_tests}
@@ -16,21 +17,26 @@ use Rattle.text_streams.specs.TextLine.{BeginsLong, IsLast, TakesLine}
 is_no_feed : (octet : ℕ) → octet ≢ 10 → (octet == 10) ≡ false
 is_no_feed octet apart = grind (arith, nat_tests)
 
-lacks_more : (part : List ℕ) (octet : ℕ) → lacks 10 part ≡ true → (octet == 10) ≡ false → lacks 10 (part ++ octet ∷ []) ≡ true
+lacks_more : (part : List ℕ) (octet : ℕ) → lacks 10 part ≡ true → (octet == 10) ≡ false
+    → lacks 10 (part ++ octet ∷ []) ≡ true
 lacks_more [] octet plain apart = from_both (octet == 10) true apart refl
 lacks_more (x ∷ xs) octet plain apart =
     let each = both (x == 10) (lacks 10 xs) plain in
     from_both (x == 10) (lacks 10 (xs ++ octet ∷ [])) each.0 (lacks_more xs octet each.1 apart)
 
-pub still_lacks : (part new : List ℕ) (octet : ℕ) → lacks 10 part ≡ true → octet ≢ 10 → new ≡ part ++ octet ∷ [] → lacks 10 new ≡ true
+pub still_lacks : (part new : List ℕ) (octet : ℕ) → lacks 10 part ≡ true → octet ≢ 10 → new ≡ part ++ octet ∷ []
+    → lacks 10 new ≡ true
 still_lacks part new octet plain apart is = rw is (lacks_more part octet plain (is_no_feed octet apart))
 
-pub one_taken : (left part new left_now left_new : List ℕ) (octet : ℕ) → left ≡ part ++ left_now → left_now ≡ octet ∷ left_new
+pub one_taken : (left part new left_now left_new : List ℕ) (octet : ℕ) → left ≡ part ++ left_now
+    → left_now ≡ octet ∷ left_new
     → new ≡ part ++ octet ∷ [] → left ≡ new ++ left_new
 one_taken left part new left_now left_new octet are taken pushed =
-    are ∙ ap (λ left. part ++ left) taken ∙ sym (append_assoc part (octet ∷ []) left_new) ∙ ap (λ part. part ++ left_new) (sym pushed)
+    are ∙ ap (λ left. part ++ left) taken ∙ sym (append_assoc part (octet ∷ []) left_new)
+    ∙ ap (λ part. part ++ left_new) (sym pushed)
 
-pub fed : (left part left_now rest : List ℕ) (octet : ℕ) → lacks 10 part ≡ true → left ≡ part ++ left_now → left_now ≡ octet ∷ rest
+pub fed : (left part left_now rest : List ℕ) (octet : ℕ) → lacks 10 part ≡ true → left ≡ part ++ left_now
+    → left_now ≡ octet ∷ rest
     → octet ≡ 10 → (lines_of left ≡ part ∷ lines_of rest) × (left ≡ part ++ (codes "\n" ++ rest))
 fed left part left_now rest octet plain are taken is =
     let whole = are ∙ ap (λ left. part ++ left) (taken ∙ ap (λ octet. octet ∷ rest) is) in
@@ -52,14 +58,17 @@ ended left [] rest some plain is none = absurd (omega arith)
 ended left (x ∷ xs) rest some plain is none =
     rw none (ap lines_of (is ∙ ap (λ rest. (x ∷ xs) ++ rest) none ∙ append-nil (x ∷ xs)) ∙ line_last x xs plain)
 
-pub last_taken : (next : NextLine) (left part left_now left_new : List ℕ) → lacks 10 part ≡ true → left ≡ part ++ left_now
+pub last_taken : (next : NextLine) (left part left_now left_new : List ℕ) → lacks 10 part ≡ true
+    → left ≡ part ++ left_now
     → left_now ≡ [] → left_new ≡ [] → IsLast part next → TakesLine left left_new next
 last_taken (next.Line text) left part left_now left_new plain are none none_new last = absurd last
 last_taken (next.Last text) left part left_now left_new plain are none none_new last = (
-  ended left part left_new last.1 plain (are ∙ ap (λ rest. part ++ rest) (none ∙ sym none_new)) none_new ∙ ap (λ line. line ∷ lines_of left_new) (sym last.0),
+  ended left part left_new last.1 plain (are ∙ ap (λ rest. part ++ rest) (none ∙ sym none_new)) none_new
+      ∙ ap (λ line. line ∷ lines_of left_new) (sym last.0),
   are ∙ ap (λ rest. part ++ rest) none ∙ append-nil part ∙ sym last.0,
 )
-last_taken next.End left part left_now left_new plain are none none_new last = are ∙ ap (λ part. part ++ left_now) last ∙ none
+last_taken next.End left part left_now left_new plain are none none_new last =
+    are ∙ ap (λ part. part ++ left_now) last ∙ none
 last_taken next.Long left part left_now left_new plain are none none_new last = absurd last
 last_taken next.SourceFault left part left_now left_new plain are none none_new last = absurd last
 
@@ -71,7 +80,8 @@ record Begins (n : ℕ) (lines : List (List ℕ)) : Type 0 where
   are : lines ≡ line ∷ more
   long : n ≤ length line
 
-begins_one : (b : Bool) (x : ℕ) (lines : List (List ℕ)) → b ≡ false → Begins 1 (if b then [] ∷ lines else onto_first x lines)
+begins_one : (b : Bool) (x : ℕ) (lines : List (List ℕ)) → b ≡ false
+    → Begins 1 (if b then [] ∷ lines else onto_first x lines)
 begins_one true x lines apart = absurd cc
 begins_one false x [] apart = record { line = x ∷ []; more = []; are = refl; long = omega arith }
 begins_one false x (line ∷ lines) apart = record { line = x ∷ line; more = lines; are = refl; long = omega arith }
@@ -97,7 +107,8 @@ begins x (y ∷ xs) rest plain =
     begins_fewer (length (y ∷ xs) + 1) (length (x ∷ y ∷ xs)) _ (omega arith)
     (begins_more (x == 10) x (length (y ∷ xs)) (lines_of ((y ∷ xs) ++ rest)) each.0 (begins y xs rest each.1))
 
-pub too_long : (left part rest : List ℕ) → MOST_LINE < length part → lacks 10 part ≡ true → left ≡ part ++ rest → BeginsLong left
+pub too_long : (left part rest : List ℕ) → MOST_LINE < length part → lacks 10 part ≡ true → left ≡ part ++ rest
+    → BeginsLong left
 too_long left [] rest long plain is = absurd (omega arith)
 too_long left (x ∷ xs) rest long plain is =
     let first = begins x xs rest plain in let most = first.long in

@@ -1,5 +1,6 @@
 -- The items of recorded input and their lines, one after the other, for `next_item`, `put_next` and `put_lines`.
-use Rattle.std.proofs.Common.{◌≡◌, ◌≢◌, ℕ, ◌+◌, ◌<◌, ◌++◌, List, [], ◌∷◌, length, map, inl, refl, sym, ap, ◌∙◌, arith, append_assoc, length-append}
+use Rattle.std.proofs.Common.{◌≡◌, ◌≢◌, ℕ, ◌+◌, ◌<◌, ◌++◌, List, [], ◌∷◌, length, map, inl, refl, sym, ap, ◌∙◌, arith}
+use Rattle.std.proofs.Common.{append_assoc, length-append}
 use Rattle.std.specs.List.{AllByRecursion}
 use Rattle.std.proofs.lemmas.List.{append-nil}
 use Rattle.record_io.specs.Input.{IsItem, Item, LacksItem, beginning, item_octets, items_octets}
@@ -7,7 +8,8 @@ use Rattle.record_io.specs.Heads.{IsNoHead}
 use Rattle.record_io.proofs.Items.{item_is, lacks_head, lacks_octets, spelled_item}
 use Rattle.text_streams.specs.Spelling.{Spells, SpellsAll, seen_item}
 use Rattle.text_streams.specs.declared.ends.End.{End}
-use Rattle.text_streams.specs.declared.ends.End.TheVariants.{Done, LineFault, LongLine, CutAnswer, NoAnswer, NoItem, SourceFault, OutputFault, NoMemory}
+use Rattle.text_streams.specs.declared.ends.End.TheVariants.{Done, LineFault, LongLine, CutAnswer, NoAnswer, NoItem}
+use Rattle.text_streams.specs.declared.ends.End.TheVariants.{SourceFault, OutputFault, NoMemory}
 use Rattle.record_io.specs.declared.heads.ItemHead.{ItemHead}
 use Rattle.record_io.specs.declared.item_cursor.FoundItem.{FoundItem}
 use Rattle.record_io.specs.declared.item_cursor.NextItem.{NextItem}
@@ -35,7 +37,8 @@ lines_more (first ∷ items) item text line (front, rest, has, more, is) spells 
   ap (λ text. text ++ line) is ∙ append_assoc front rest line,
 )
 
-octets_more : (items : List Item) (item : Item) → items_octets (items ++ item ∷ []) ≡ items_octets items ++ item_octets item
+octets_more : (items : List Item) (item : Item) → items_octets (items ++ item ∷ [])
+    ≡ items_octets items ++ item_octets item
 octets_more [] item = append-nil (item_octets item)
 octets_more (first ∷ items) item =
     ap (λ octets. item_octets first ++ octets) (octets_more items item)
@@ -46,7 +49,8 @@ offset_more : (offset : ℕ) (items : List Item) (item : Item)
 offset_more offset [] item = refl
 offset_more offset (first ∷ items) item = offset_more (counted offset first) items item
 
-each_more : (items : List Item) (item : Item) → AllByRecursion IsItem items → IsItem item → AllByRecursion IsItem (items ++ item ∷ [])
+each_more : (items : List Item) (item : Item) → AllByRecursion IsItem items → IsItem item
+    → AllByRecursion IsItem (items ++ item ∷ [])
 each_more [] item each is = (is, tt)
 each_more (first ∷ items) item each is = (each.0, each_more items item each.1 is)
 
@@ -59,7 +63,8 @@ pub record Lines (left left_now : List ℕ) (offset count : ℕ) (text : List �
   pub passed : offset ≡ offset_behind 8 items
   pub lines : SpellsAll (map seen_item items) text
 
-more_lines : (left left_now left_next text line : List ℕ) (offset offset_next count : ℕ) → Lines left left_now offset count text
+more_lines : (left left_now left_next text line : List ℕ) (offset offset_next count : ℕ)
+    → Lines left left_now offset count text
     → TakesItem offset offset_next left_now left_next line → Lines left left_next offset_next (count + 1) (text ++ line)
 more_lines left left_now left_next text line offset offset_next count so_far takes =
     let longer = length-append so_far.items (takes.item ∷ []) in let same = so_far.counted in
@@ -70,7 +75,8 @@ more_lines left left_now left_next text line offset offset_next count so_far tak
           ∙ sym (append_assoc (items_octets so_far.items) (item_octets takes.item) left_next)
           ∙ ap (λ octets. octets ++ left_next) (sym (octets_more so_far.items takes.item)));
       counted = omega (arith, longer, same);
-      passed = takes.passed ∙ ap (λ offset. counted offset takes.item) so_far.passed ∙ sym (offset_more 8 so_far.items takes.item);
+      passed = takes.passed ∙ ap (λ offset. counted offset takes.item) so_far.passed
+          ∙ sym (offset_more 8 so_far.items takes.item);
       lines = lines_more so_far.items takes.item text line so_far.lines takes.spells;
     }
 
@@ -92,7 +98,8 @@ forth left old left_now now left_next next offset offset_next count so_far (line
 -- ---- the ends
 
 pub ends_as : (end : End) (left old left_now now new : List ℕ) (offset count : ℕ)
-    → Progress left old left_now now offset count → FailsNextItem offset left_now now new end → PutsItemLines left old new end
+    → Progress left old left_now now offset count → FailsNextItem offset left_now now new end
+    → PutsItemLines left old new end
 ends_as Done left old left_now now new offset count so_far fails = record {
   items = so_far.lines.items;
   are_items = so_far.lines.are_items;

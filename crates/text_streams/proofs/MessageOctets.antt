@@ -4,7 +4,10 @@ use Rattle.std.specs.Int.{w16, to_be_bytes}
 use Rattle.hex.specs.Hex.{IsBytes}
 use Rattle.ep_codec.specs.Command.{command_octets, message, sealed_data}
 use Rattle.ep_codec.specs.declared.command.Command.{Command}
-use Rattle.ep_codec.specs.declared.command.Command.TheVariants.{Rekeying, Activate, Deactivate, Verify, Destroy, Inventory, Compose, ReadNumber, Create, Delete, SetWindow, Rekey, Expire, SetNumber, Start, Stop, Status}
+use Rattle.ep_codec.specs.declared.command.Command.TheVariants.{Rekeying, Activate, Deactivate, Verify, Destroy}
+use Rattle.ep_codec.specs.declared.command.Command.TheVariants.{Inventory, Compose, ReadNumber, Create, Delete}
+use Rattle.ep_codec.specs.declared.command.Command.TheVariants.{SetWindow, Rekey, Expire, SetNumber, Start, Stop}
+use Rattle.ep_codec.specs.declared.command.Command.TheVariants.{Status}
 use Rattle.input_text.specs.Command.{HasOctets}
 use Rattle.fsr_log.specs.declared.messages.Monitoring.{Monitoring}
 use Rattle.fsr_log.specs.declared.messages.Monitoring.TheVariants as messages
@@ -29,7 +32,8 @@ data_of tag body are =
     let bits = to_be_bytes w16 (8 * length body) in
     behind bits body (behind_one tag (bits ++ body) are)
 
-pub has_octets : (command : Command) (octets : List ℕ) → IsBytes octets → octets ≡ command_octets command → HasOctets command
+pub has_octets : (command : Command) (octets : List ℕ) → IsBytes octets → octets ≡ command_octets command
+    → HasOctets command
 unfolding command_octets HasOctets
 has_octets (Rekeying master vector sealed tag) octets are spelled =
     let body = data_of 0x01 (sealed_data master vector sealed tag) (rw spelled at are) in
@@ -55,7 +59,8 @@ has_octets (Stop spi) octets are spelled = tt
 has_octets (Status spi) octets are spelled = tt
 
 -- the same of a monitoring message, for `asked_of`
-pub has_bytes : (asked : Monitoring) (octets : List ℕ) → IsBytes octets → octets ≡ monitoring_octets asked → HasBytes asked
+pub has_bytes : (asked : Monitoring) (octets : List ℕ) → IsBytes octets → octets ≡ monitoring_octets asked
+    → HasBytes asked
 has_bytes messages.Ping octets are spelled = tt
 has_bytes messages.LogStatus octets are spelled = tt
 has_bytes messages.DumpLog octets are spelled = tt

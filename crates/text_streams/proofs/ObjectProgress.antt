@@ -1,11 +1,13 @@
 -- The objects of lines, one after the other, for `put_state_objects`.
-use Rattle.std.proofs.Common.{◌≡◌, ℕ, ◌+◌, ◌-◌, ◌^◌, ◌++◌, List, [], ◌∷◌, length, inl, inr, refl, sym, ap, ◌∙◌, arith, append_assoc, length-append, subst}
+use Rattle.std.proofs.Common.{◌≡◌, ℕ, ◌+◌, ◌-◌, ◌^◌, ◌++◌, List, [], ◌∷◌, length, inl, inr, refl, sym, ap, ◌∙◌, arith}
+use Rattle.std.proofs.Common.{append_assoc, length-append, subst}
 use Rattle.std.specs.List.{AllByRecursion, flat_map}
 use Rattle.std.proofs.lemmas.List.{append-nil}
 use Rattle.sdls_outside.specs.Moments.{Between}
 use Rattle.text_streams.specs.TextLine.{MOST_LINES}
 use Rattle.text_streams.specs.declared.state_ends.StateEnd.{StateEnd}
-use Rattle.text_streams.specs.declared.state_ends.StateEnd.TheVariants.{Done, NoLine, LongLine, SourceFault, OutputFault, NoMemory}
+use Rattle.text_streams.specs.declared.state_ends.StateEnd.TheVariants.{Done, NoLine, LongLine, SourceFault}
+use Rattle.text_streams.specs.declared.state_ends.StateEnd.TheVariants.{OutputFault, NoMemory}
 use Rattle.text_streams.specs.declared.state_line.StateLine.{StateLine}
 use Rattle.text_streams.specs.StateText.{IsStateLine, state_text}
 use Rattle.text_streams.specs.StateObject.{object_text}
@@ -25,7 +27,8 @@ begun left old = record { lines = []; bounds = tt; taken = refl; counted = refl;
 
 -- ---- one line more
 
-texts_more : (f : StateLine → List ℕ) (lines : List StateLine) (line : StateLine) → flat_map f (lines ++ line ∷ []) ≡ flat_map f lines ++ f line
+texts_more : (f : StateLine → List ℕ) (lines : List StateLine) (line : StateLine)
+    → flat_map f (lines ++ line ∷ []) ≡ flat_map f lines ++ f line
 texts_more f [] line = append-nil (f line)
 texts_more f (first ∷ lines) line =
     ap (λ text. f first ++ text) (texts_more f lines line) ∙ sym (append_assoc (f first) (flat_map f lines) (f line))
@@ -35,7 +38,8 @@ all_more : (lines : List StateLine) (line : StateLine) → AllByRecursion IsStat
 all_more [] line all is = (is, tt)
 all_more (first ∷ lines) line all is = (all.0, all_more lines line all.1 is)
 
-taken_more : (left left_now left_next : List ℕ) (lines : List StateLine) (line : StateLine) → left ≡ flat_map state_text lines ++ left_now
+taken_more : (left left_now left_next : List ℕ) (lines : List StateLine) (line : StateLine)
+    → left ≡ flat_map state_text lines ++ left_now
     → left_now ≡ state_text line ++ left_next → left ≡ flat_map state_text (lines ++ line ∷ []) ++ left_next
 taken_more left left_now left_next lines line taken next =
     taken ∙ ap (λ left. flat_map state_text lines ++ left) next
@@ -58,7 +62,8 @@ forth left old left_now now left_next next count so_far (line, begins, put) =
 
 -- ---- the ends
 
-ends_with : (left old left_now now new : List ℕ) (count : ℕ) (end : StateEnd) → (so_far : Progress left old left_now now count)
+ends_with : (left old left_now now new : List ℕ) (count : ℕ) (end : StateEnd)
+    → (so_far : Progress left old left_now now count)
     → EndsBehindLines (length so_far.lines) left_now end → WerePut end (flat_map object_text so_far.lines) old new
     → PutsObjects left old new end
 ends_with left old left_now now new count end so_far ends put = record {
@@ -70,16 +75,19 @@ ends_with left old left_now now new count end so_far ends put = record {
   put_is = put;
 }
 
-pub ends_as : (end : StateEnd) (left old left_now now new : List ℕ) (count number : ℕ) → Progress left old left_now now count
+pub ends_as : (end : StateEnd) (left old left_now now new : List ℕ) (count number : ℕ)
+    → Progress left old left_now now count
     → number ≡ count + 1 → FailsNextLine number left_now now new end → PutsObjects left old new end
 ends_as Done left old left_now now new count number so_far next fails =
     ends_with left old left_now now new count Done so_far (inl fails.0) (fails.1 ∙ so_far.put)
 ends_as (NoLine at) left old left_now now new count number so_far next fails =
     let counted = so_far.counted in let place = fails.0 in
-    ends_with left old left_now now new count (NoLine at) so_far (omega (arith, counted, next, place), fails.1) (fails.2 ∙ so_far.put)
+    ends_with left old left_now now new count (NoLine at) so_far (omega (arith, counted, next, place), fails.1)
+    (fails.2 ∙ so_far.put)
 ends_as (LongLine at) left old left_now now new count number so_far next fails =
     let counted = so_far.counted in let place = fails.0 in
-    ends_with left old left_now now new count (LongLine at) so_far (omega (arith, counted, next, place), fails.1) (fails.2 ∙ so_far.put)
+    ends_with left old left_now now new count (LongLine at) so_far (omega (arith, counted, next, place), fails.1)
+    (fails.2 ∙ so_far.put)
 ends_as SourceFault left old left_now now new count number so_far next fails =
     ends_with left old left_now now new count SourceFault so_far tt (fails ∙ so_far.put)
 ends_as OutputFault left old left_now now new count number so_far next (line, left_next, begins, between) =

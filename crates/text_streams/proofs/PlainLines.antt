@@ -1,5 +1,6 @@
 -- The words of a line in bounds have no space, for `line_says_itself` and `put_line`.
-use Rattle.std.proofs.Common.{◌≡◌, ℕ, ◌^◌, ◌<◌, ◌≤◌, Bool, true, false, if◌then◌else◌, IsTrue, List, [], ◌∷◌, ◌++◌, length, map, codes, refl, sym, ap, ◌∙◌, arith, append_assoc}
+use Rattle.std.proofs.Common.{◌≡◌, ℕ, ◌^◌, ◌<◌, ◌≤◌, Bool, true, false, if◌then◌else◌, IsTrue, List, [], ◌∷◌, ◌++◌}
+use Rattle.std.proofs.Common.{length, map, codes, refl, sym, ap, ◌∙◌, arith, append_assoc}
 use Rattle.std.specs.Fmt.{decimal}
 use Rattle.std.specs.Prelude.{◌==◌, ◌&&◌}
 use Rattle.hex.specs.Hex.{encode_lower}
@@ -19,7 +20,10 @@ use Rattle.replay_window.specs.WindowField.{back_of, width_of, IsWindowField}
 use Rattle.ep_codec.specs.Field.{is_key, is_spi}
 use Rattle.ep_codec.specs.Command.{IsInBounds, HasTypes, AreKeys, IsSealedLength}
 use Rattle.ep_codec.specs.declared.command.Command.{Command}
-use Rattle.ep_codec.specs.declared.command.Command.TheVariants.{Rekeying, Activate, Deactivate, Verify, Destroy, Inventory, Compose, ReadNumber, Create, Delete, SetWindow, Rekey, Expire, SetNumber, Start, Stop, Status}
+use Rattle.ep_codec.specs.declared.command.Command.TheVariants.{Rekeying, Activate, Deactivate, Verify, Destroy}
+use Rattle.ep_codec.specs.declared.command.Command.TheVariants.{Inventory, Compose, ReadNumber, Create, Delete}
+use Rattle.ep_codec.specs.declared.command.Command.TheVariants.{SetWindow, Rekey, Expire, SetNumber, Start, Stop}
+use Rattle.ep_codec.specs.declared.command.Command.TheVariants.{Status}
 use Rattle.input_text.specs.declared.line.Line.{Line}
 use Rattle.input_text.specs.declared.line.Line.TheVariants as lines
 use Rattle.text_words.specs.Words.{direction_word, octets_word, suite_word}
@@ -28,7 +32,8 @@ use Rattle.input_text.specs.Line.{IsLine, line_words}
 use Rattle.unit_plan.specs.Lines.{words_of, lines_of}
 use Rattle.input_text.specs.Plain.{line_said, said_words}
 use Rattle.text_streams.specs.Spelling.{at_text, joined, line_text, all_spaced}
-use Rattle.text_streams.proofs.PlainWords.{IsPlain, ArePlain, all_said, joined_kept, joined_read, joined_line, decimal_plain, decimals_plain, digits_plain, octets_plain}
+use Rattle.text_streams.proofs.PlainWords.{IsPlain, ArePlain, all_said, joined_kept, joined_read, joined_line}
+use Rattle.text_streams.proofs.PlainWords.{decimal_plain, decimals_plain, digits_plain, octets_plain}
 
 key_small : (key : ℕ) → IsTrue (is_key key) → key < 2 ^ 64
 key_small key is = grind (arith, nat_tests)
@@ -77,12 +82,16 @@ values_plain (Rekeying master vector sealed tag) bounds types = (
   key_plain master types.0,
   (
     digits_plain vector (let long = types.1 in omega (arith, long)),
-    (digits_plain sealed (sealed_some sealed bounds), (digits_plain tag (let long = types.2 in omega (arith, long)), tt)),
+    (
+      digits_plain sealed (sealed_some sealed bounds),
+      (digits_plain tag (let long = types.2 in omega (arith, long)), tt),
+    ),
   ),
 )
 values_plain (Activate keys) bounds types = keys_plain keys types
 values_plain (Deactivate keys) bounds types = keys_plain keys types
-values_plain (Verify key challenge) bounds types = (key_plain key types.0, (digits_plain challenge (let long = types.1 in omega (arith, long)), tt))
+values_plain (Verify key challenge) bounds types =
+    (key_plain key types.0, (digits_plain challenge (let long = types.1 in omega (arith, long)), tt))
 values_plain (Destroy keys) bounds types = keys_plain keys types
 values_plain (Inventory first last) bounds types =
     let low = types.0 in let high = types.1 in
@@ -111,20 +120,27 @@ values_plain (Stop spi) bounds types = (spi_plain spi types, tt)
 values_plain (Status spi) bounds types = (spi_plain spi types, tt)
 
 command_plain : (command : Command) → IsInBounds command → HasTypes command → ArePlain (command_words command)
-command_plain (Rekeying master vector sealed tag) bounds types = ((refl, refl, refl, refl), values_plain (Rekeying master vector sealed tag) bounds types)
+command_plain (Rekeying master vector sealed tag) bounds types =
+    ((refl, refl, refl, refl), values_plain (Rekeying master vector sealed tag) bounds types)
 command_plain (Activate keys) bounds types = ((refl, refl, refl, refl), values_plain (Activate keys) bounds types)
 command_plain (Deactivate keys) bounds types = ((refl, refl, refl, refl), values_plain (Deactivate keys) bounds types)
-command_plain (Verify key challenge) bounds types = ((refl, refl, refl, refl), values_plain (Verify key challenge) bounds types)
+command_plain (Verify key challenge) bounds types =
+    ((refl, refl, refl, refl), values_plain (Verify key challenge) bounds types)
 command_plain (Destroy keys) bounds types = ((refl, refl, refl, refl), values_plain (Destroy keys) bounds types)
-command_plain (Inventory first last) bounds types = ((refl, refl, refl, refl), values_plain (Inventory first last) bounds types)
-command_plain (Compose master keys) bounds types = ((refl, refl, refl, refl), values_plain (Compose master keys) bounds types)
+command_plain (Inventory first last) bounds types =
+    ((refl, refl, refl, refl), values_plain (Inventory first last) bounds types)
+command_plain (Compose master keys) bounds types =
+    ((refl, refl, refl, refl), values_plain (Compose master keys) bounds types)
 command_plain (ReadNumber spi) bounds types = ((refl, refl, refl, refl), values_plain (ReadNumber spi) bounds types)
 command_plain (Create sa) bounds types = ((refl, refl, refl, refl), values_plain (Create sa) bounds types)
 command_plain (Delete spi) bounds types = ((refl, refl, refl, refl), values_plain (Delete spi) bounds types)
-command_plain (SetWindow spi window) bounds types = ((refl, refl, refl, refl), values_plain (SetWindow spi window) bounds types)
-command_plain (Rekey spi key number) bounds types = ((refl, refl, refl, refl), values_plain (Rekey spi key number) bounds types)
+command_plain (SetWindow spi window) bounds types =
+    ((refl, refl, refl, refl), values_plain (SetWindow spi window) bounds types)
+command_plain (Rekey spi key number) bounds types =
+    ((refl, refl, refl, refl), values_plain (Rekey spi key number) bounds types)
 command_plain (Expire spi) bounds types = ((refl, refl, refl, refl), values_plain (Expire spi) bounds types)
-command_plain (SetNumber spi number) bounds types = ((refl, refl, refl, refl), values_plain (SetNumber spi number) bounds types)
+command_plain (SetNumber spi number) bounds types =
+    ((refl, refl, refl, refl), values_plain (SetNumber spi number) bounds types)
 command_plain (Start spi) bounds types = ((refl, refl, refl, refl), values_plain (Start spi) bounds types)
 command_plain (Stop spi) bounds types = ((refl, refl, refl, refl), values_plain (Stop spi) bounds types)
 command_plain (Status spi) bounds types = ((refl, refl, refl, refl), values_plain (Status spi) bounds types)
@@ -154,7 +170,8 @@ pub record HasPlainAsked (words : List (List ℕ)) : Type 0 where
 plain_name : (word : List ℕ) → IsPlain word → HasPlainAsked (word ∷ [])
 plain_name word is = record { word = word; rest = []; are = refl; plain = is; each = tt }
 
-plain_digits : (word : List ℕ) (octets : List ℕ) → IsPlain word → 0 < length octets → HasPlainAsked (word ∷ encode_lower octets ∷ [])
+plain_digits : (word : List ℕ) (octets : List ℕ) → IsPlain word → 0 < length octets
+    → HasPlainAsked (word ∷ encode_lower octets ∷ [])
 plain_digits word octets is some = record {
   word = word;
   rest = encode_lower octets ∷ [];
@@ -182,7 +199,8 @@ record HasPlainIf (here : Bool) (lane link : ℕ) (asked : Asked) : Type 0 where
   plain : IsPlain word
   each : ArePlain words
 
-monitor_if : (here : Bool) (lane link : ℕ) (asked : Asked) → lane < 2 ^ 8 → link < 2 ^ 8 → HasPlainAsked (asked_words asked)
+monitor_if : (here : Bool) (lane link : ℕ) (asked : Asked) → lane < 2 ^ 8 → link < 2 ^ 8
+    → HasPlainAsked (asked_words asked)
     → HasPlainIf here lane link asked
 monitor_if true lane link asked lane_few link_few has =
     record { word = has.word; words = has.rest; are = has.are; plain = has.plain; each = has.each }
@@ -202,7 +220,13 @@ has_monitor lane link asked has =
 
 plain_words : (line : Line) → IsLine line → HasPlainWords line
 unfolding IsLine line_words
-plain_words lines.Fence is = record { word = codes "fence"; words = []; are = refl; plain = (refl, refl, refl, refl); each = tt }
+plain_words lines.Fence is = record {
+  word = codes "fence";
+  words = [];
+  are = refl;
+  plain = (refl, refl, refl, refl);
+  each = tt;
+}
 plain_words (lines.Protect lane link octets) is = record {
   word = codes "protect";
   words = decimal lane ∷ decimal link ∷ octets_word octets ∷ [];
@@ -232,7 +256,8 @@ plain_words (lines.Message lane octets) is = record {
   each = (lane_plain lane is.0, ((refl, refl, refl, refl), (octets_plain octets, tt)));
 }
 plain_words (lines.Monitor lane link asked) is =
-    has_monitor lane link asked (monitor_if ((lane == 0) && (link == 0)) lane link asked is.0 is.1 (plain_asked asked is.2))
+    has_monitor lane link asked
+    (monitor_if ((lane == 0) && (link == 0)) lane link asked is.0 is.1 (plain_asked asked is.2))
 
 -- the words of a line are read again
 pub line_read : (line : Line) → IsLine line → line_said (joined (line_words line)) ≡ line_words line
@@ -244,7 +269,8 @@ line_read line is =
     ∙ all_said (has.word ∷ has.words) (has.plain, has.each) ∙ sym has.are
 
 -- and with a line feed they are one line
-pub one_line : (line : Line) → IsLine line → (rest : List ℕ) → lines_of (line_text line ++ rest) ≡ joined (line_words line) ∷ lines_of rest
+pub one_line : (line : Line) → IsLine line → (rest : List ℕ)
+    → lines_of (line_text line ++ rest) ≡ joined (line_words line) ∷ lines_of rest
 one_line line is rest =
     let has = plain_words line is in
     rw has.are (joined_line has.word has.words rest has.plain has.each)
@@ -278,7 +304,9 @@ text_if : (here : Bool) (lane link : ℕ) (words : List (List ℕ)) → Begins w
     ≡ (if here then [] else codes "at" ++ (all_spaced (decimal lane ∷ decimal link ∷ []) ++ codes " ")) ++ joined words
 text_if true lane link words has = refl
 text_if false lane link words has =
-    rw has.are (ap (λ text. 97 ∷ 116 ∷ 32 ∷ text) (sym (two_spaced (decimal lane) (decimal link) (joined (has.word ∷ has.rest)))))
+    rw has.are
+    (ap (λ text. 97 ∷ 116 ∷ 32 ∷ text)
+    (sym (two_spaced (decimal lane) (decimal link) (joined (has.word ∷ has.rest)))))
 
 pub monitor_text : (lane link : ℕ) (asked : Asked)
     → joined (line_words (lines.Monitor lane link asked)) ≡ at_text lane link ++ joined (asked_words asked)

@@ -1,5 +1,6 @@
 -- Words without a mark, joined by it, are read as these words, for `line_says_itself`.
-use Rattle.std.proofs.Common.{◌≡◌, ℕ, zero, suc, ◌+◌, ◌/◌, ◌%◌, ◌^◌, ◌<◌, Bool, true, false, List, [], ◌∷◌, ◌++◌, length, map, get_or, refl, ap, ◌∙◌, arith, append_assoc}
+use Rattle.std.proofs.Common.{◌≡◌, ℕ, zero, suc, ◌+◌, ◌/◌, ◌%◌, ◌^◌, ◌<◌, Bool, true, false, List, [], ◌∷◌, ◌++◌}
+use Rattle.std.proofs.Common.{length, map, get_or, refl, ap, ◌∙◌, arith, append_assoc}
 use Rattle.std.specs.Prelude.{◌==◌, if◌then◌else◌, codes}
 use Rattle.std.specs.Fmt.{decimal}
 use Rattle.std.specs.List.{AllByRecursion, onto_first}
@@ -51,7 +52,8 @@ before_mark false x xs behind more apart is = ap (onto_first x) is
 at_mark : (mark : ℕ) → (mark == mark) ≡ true
 at_mark mark = grind (arith, nat_tests)
 
-behind_mark : (b : Bool) (x : ℕ) (rest : List (List ℕ)) → b ≡ true → (if b then [] ∷ rest else onto_first x rest) ≡ [] ∷ rest
+behind_mark : (b : Bool) (x : ℕ) (rest : List (List ℕ)) → b ≡ true
+    → (if b then [] ∷ rest else onto_first x rest) ≡ [] ∷ rest
 behind_mark true x rest is = refl
 behind_mark false x rest is = absurd cc
 
@@ -75,7 +77,8 @@ pub joined_read : (word : List ℕ) (words : List (List ℕ)) → IsPlain word �
     → words_of (joined (word ∷ words)) ≡ word ∷ words
 joined_read word [] plain each = ap words_of (append-nil word) ∙ word_last word plain.0
 joined_read word (next ∷ words) plain each =
-    part_then 32 word (joined (next ∷ words)) ([] ∷ []) plain.0 ∙ ap (λ ws. word ∷ ws) (joined_read next words each.0 each.1)
+    part_then 32 word (joined (next ∷ words)) ([] ∷ []) plain.0 ∙ ap (λ ws. word ∷ ws)
+    (joined_read next words each.0 each.1)
 
 lacks_append : (mark : ℕ) (xs ys : List ℕ) → lacks mark xs ≡ true → lacks mark ys ≡ true → lacks mark (xs ++ ys) ≡ true
 lacks_append mark [] ys front behind = behind
@@ -91,10 +94,12 @@ spaced_kept : (words : List (List ℕ)) → ArePlain words → IsKept (all_space
 spaced_kept [] each = refl
 spaced_kept (word ∷ words) each =
     ap (λ octets. 32 ∷ octets) (map-append plain_octet word (all_spaced words)
-    ∙ ap (λ front. front ++ map plain_octet (all_spaced words)) each.0.3 ∙ ap (λ behind. word ++ behind) (spaced_kept words each.1))
+    ∙ ap (λ front. front ++ map plain_octet (all_spaced words)) each.0.3 ∙ ap (λ behind. word ++ behind)
+    (spaced_kept words each.1))
 
 -- they are read as they stand
-pub joined_kept : (word : List ℕ) (words : List (List ℕ)) → IsPlain word → ArePlain words → IsKept (joined (word ∷ words))
+pub joined_kept : (word : List ℕ) (words : List (List ℕ)) → IsPlain word → ArePlain words
+    → IsKept (joined (word ∷ words))
 joined_kept word words plain each =
     map-append plain_octet word (all_spaced words) ∙ ap (λ front. front ++ map plain_octet (all_spaced words)) plain.3
     ∙ ap (λ behind. word ++ behind) (spaced_kept words each)
@@ -109,18 +114,21 @@ pub all_said : (words : List (List ℕ)) → ArePlain words → said_words words
 all_said [] each = refl
 all_said ([] ∷ words) each = absurd each.0.2
 all_said ((octet ∷ word) ∷ words) each =
-    one_said (octet == 35) octet word (said_words words) each.0.2 ∙ ap (λ more. (octet ∷ word) ∷ more) (all_said words each.1)
+    one_said (octet == 35) octet word (said_words words) each.0.2 ∙ ap (λ more. (octet ∷ word) ∷ more)
+    (all_said words each.1)
 
 -- and they are one line
 pub joined_line : (word : List ℕ) (words : List (List ℕ)) (rest : List ℕ) → IsPlain word → ArePlain words
     → lines_of ((joined (word ∷ words) ++ codes "\n") ++ rest) ≡ joined (word ∷ words) ∷ lines_of rest
 joined_line word words rest plain each =
     ap lines_of (append_assoc (joined (word ∷ words)) (codes "\n") rest)
-    ∙ part_then 10 (joined (word ∷ words)) rest [] (lacks_append 10 word (all_spaced words) plain.1 (spaced_lacks words each))
+    ∙ part_then 10 (joined (word ∷ words)) rest []
+    (lacks_append 10 word (all_spaced words) plain.1 (spaced_lacks words each))
 
 -- ---- numbers
 
-lacks_more : (mark : ℕ) (xs : List ℕ) (x : ℕ) → lacks mark xs ≡ true → (x == mark) ≡ false → lacks mark (xs ++ x ∷ []) ≡ true
+lacks_more : (mark : ℕ) (xs : List ℕ) (x : ℕ) → lacks mark xs ≡ true → (x == mark) ≡ false
+    → lacks mark (xs ++ x ∷ []) ≡ true
 lacks_more mark xs x plain apart = lacks_append mark xs (x ∷ []) plain (from_both (x == mark) true apart refl)
 
 digit_is_no_mark : (mark n : ℕ) → mark < 48 → ((48 + n) == mark) ≡ false
@@ -136,7 +144,8 @@ digit_kept n one = grind (arith, nat_tests)
 
 kept_more : (xs : List ℕ) (x : ℕ) → IsKept xs → plain_octet x ≡ x → IsKept (xs ++ x ∷ [])
 kept_more xs x kept same =
-    map-append plain_octet xs (x ∷ []) ∙ ap (λ front. front ++ plain_octet x ∷ []) kept ∙ ap (λ last. xs ++ last ∷ []) same
+    map-append plain_octet xs (x ∷ []) ∙ ap (λ front. front ++ plain_octet x ∷ []) kept
+    ∙ ap (λ last. xs ++ last ∷ []) same
 
 decimal_kept : (n : ℕ) → n < 2 ^ 64 → IsKept (decimal n)
 decimal_kept n small = decimal_by_steps (λ n digits. IsKept digits)
@@ -160,13 +169,15 @@ decimal_plain n small = (
   decimal_kept n small,
 )
 
-pub decimals_plain : (P : ℕ → Type 0) (ns : List ℕ) → ((n : ℕ) → P n → n < 2 ^ 64) → AllByRecursion P ns → ArePlain (map decimal ns)
+pub decimals_plain : (P : ℕ → Type 0) (ns : List ℕ) → ((n : ℕ) → P n → n < 2 ^ 64) → AllByRecursion P ns
+    → ArePlain (map decimal ns)
 decimals_plain P [] small each = tt
 decimals_plain P (n ∷ ns) small each = (decimal_plain n (small n each.0), decimals_plain P ns small each.1)
 
 -- ---- octets
 
-no_mark_at : (mark : ℕ) (xs : List ℕ) → (0 == mark) ≡ false → lacks mark xs ≡ true → (k : ℕ) → (get_or xs k 0 == mark) ≡ false
+no_mark_at : (mark : ℕ) (xs : List ℕ) → (0 == mark) ≡ false → lacks mark xs ≡ true → (k : ℕ)
+    → (get_or xs k 0 == mark) ≡ false
 no_mark_at mark [] some plain k = some
 no_mark_at mark (x ∷ xs) some plain zero = (both (x == mark) (lacks mark xs) plain).0
 no_mark_at mark (x ∷ xs) some plain (suc k) = no_mark_at mark xs some (both (x == mark) (lacks mark xs) plain).1 k
@@ -186,7 +197,8 @@ first_of is = cc
 behind_of : {x y : ℕ} {xs ys : List ℕ} → x ∷ xs ≡ y ∷ ys → xs ≡ ys
 behind_of is = cc
 
-three : {high high_new low low_new : ℕ} {digits digits_new : List ℕ} → high ≡ high_new → low ≡ low_new → digits ≡ digits_new
+three : {high high_new low low_new : ℕ} {digits digits_new : List ℕ} → high ≡ high_new → low ≡ low_new
+    → digits ≡ digits_new
     → high ∷ low ∷ digits ≡ high_new ∷ low_new ∷ digits_new
 three high low digits = cc
 

@@ -1,11 +1,14 @@
 -- What was read and put so far, for `read_lines` and `put_records`.
-use Rattle.std.proofs.Common.{◌≡◌, ◌≢◌, ℕ, ◌+◌, ◌-◌, ◌^◌, ◌≤◌, List, [], ◌++◌, length, take, inl, inr, refl, sym, ap, ◌∙◌, arith, append_assoc, length-append}
+use Rattle.std.proofs.Common.{◌≡◌, ◌≢◌, ℕ, ◌+◌, ◌-◌, ◌^◌, ◌≤◌, List, [], ◌++◌, length, take, inl, inr, refl, sym, ap}
+use Rattle.std.proofs.Common.{◌∙◌, arith, append_assoc, length-append}
 use Rattle.std.proofs.lemmas.List.{append-nil}
 use Rattle.sdls_outside.specs.Moments.{Between}
 use Rattle.record_io.specs.Input.{Item, beginning, items_octets}
 use Rattle.text_streams.specs.declared.ends.End.{End}
-use Rattle.text_streams.specs.declared.ends.End.TheVariants.{Done, LineFault, LongLine, CutAnswer, NoAnswer, NoItem, SourceFault, OutputFault, NoMemory}
-use Rattle.text_streams.specs.TextLine.{AddsNext, EndsBehind, EndsNext, PutsRecords, PutsRest, Reads, ReadsLines, Stand, StandAt, WasPut}
+use Rattle.text_streams.specs.declared.ends.End.TheVariants.{Done, LineFault, LongLine, CutAnswer, NoAnswer, NoItem}
+use Rattle.text_streams.specs.declared.ends.End.TheVariants.{SourceFault, OutputFault, NoMemory}
+use Rattle.text_streams.specs.TextLine.{AddsNext, EndsBehind, EndsNext, PutsRecords, PutsRest, Reads, ReadsLines, Stand}
+use Rattle.text_streams.specs.TextLine.{StandAt, WasPut}
 use Rattle.text_streams.proofs.Items.{one_more}
 
 -- so many lines were read
@@ -28,7 +31,8 @@ stands_more : (octets more all sunk out sunk_now out_now out_next : List ℕ) �
 stands_more octets more all sunk out sunk_now out_now out_next stand added are = record {
   least = stand.least;
   all = ap (λ xs. sunk_now ++ xs) added ∙ sym (append_assoc sunk_now out_now more) ∙ ap (λ xs. xs ++ more) stand.all
-      ∙ append_assoc sunk (out ++ octets) more ∙ ap (λ xs. sunk ++ xs) (append_assoc out octets more ∙ ap (λ xs. out ++ xs) (sym are));
+      ∙ append_assoc sunk (out ++ octets) more ∙ ap (λ xs. sunk ++ xs)
+      (append_assoc out octets more ∙ ap (λ xs. out ++ xs) (sym are));
 }
 
 pub forth : (left sunk out left_now sunk_now out_now left_next out_next : List ℕ) (count : ℕ)
@@ -39,7 +43,8 @@ forth left sunk out left_now sunk_now out_now left_next out_next count so_far ne
     record {
       items = more.all;
       reads = more.reads;
-      stand = stands_more (items_octets so_far.items) more.octets (items_octets more.all) sunk out sunk_now out_now out_next
+      stand = stands_more (items_octets so_far.items) more.octets (items_octets more.all) sunk out sunk_now out_now
+          out_next
           so_far.stand more.added more.are;
     }
 
@@ -113,7 +118,8 @@ no_more left sunk out left_now sunk_now out_now out_new count end so_far ends sa
 })
 
 pub all_read : (left sunk out left_now sunk_now out_now : List ℕ) (count : ℕ)
-    → Progress left sunk out left_now sunk_now out_now count → count ≡ 2 ^ 64 - 2 → ReadsLines left sunk out sunk_now out_now Done
+    → Progress left sunk out left_now sunk_now out_now count → count ≡ 2 ^ 64 - 2
+    → ReadsLines left sunk out sunk_now out_now Done
 all_read left sunk out left_now sunk_now out_now count so_far most = record {
   left_new = left_now;
   count = count;
@@ -125,7 +131,8 @@ all_read left sunk out left_now sunk_now out_now count so_far most = record {
 
 -- ---- the whole
 
-stands : (end : End) (octets sunk out sunk_new out_new : List ℕ) → end ≢ OutputFault → StandAt end octets sunk out sunk_new out_new
+stands : (end : End) (octets sunk out sunk_new out_new : List ℕ) → end ≢ OutputFault
+    → StandAt end octets sunk out sunk_new out_new
     → Stand octets sunk out sunk_new out_new
 stands Done octets sunk out sunk_new out_new not stand = stand
 stands (LineFault at fault) octets sunk out sunk_new out_new not stand = stand
@@ -148,7 +155,8 @@ was_put SourceFault octets old new not is = is
 was_put OutputFault octets old new not is = absurd (not refl)
 was_put NoMemory octets old new not is = is
 
-from_old : (old octets begun out new : List ℕ) → begun ≡ old ++ beginning → begun ++ ([] ++ octets) ≡ old ++ (beginning ++ octets)
+from_old : (old octets begun out new : List ℕ) → begun ≡ old ++ beginning
+    → begun ++ ([] ++ octets) ≡ old ++ (beginning ++ octets)
 from_old old octets begun out new is = ap (λ xs. xs ++ octets) is ∙ append_assoc old beginning octets
 
 between_old : (old octets begun new : List ℕ) → begun ≡ old ++ beginning → Between begun (begun ++ ([] ++ octets)) new

@@ -1,5 +1,6 @@
 -- The text of a line and its words, for `read_state_line` and `put_next`.
-use Rattle.std.proofs.Common.{◌≡◌, ℕ, ◌^◌, ◌<◌, Bool, true, false, if◌then◌else◌, List, [], ◌∷◌, ◌++◌, codes, Option, Some, None, IfSome, refl, sym, ap, ◌∙◌, arith, append_assoc}
+use Rattle.std.proofs.Common.{◌≡◌, ℕ, ◌^◌, ◌<◌, Bool, true, false, if◌then◌else◌, List, [], ◌∷◌, ◌++◌, codes, Option}
+use Rattle.std.proofs.Common.{Some, None, IfSome, refl, sym, ap, ◌∙◌, arith, append_assoc}
 use Rattle.std.specs.Prelude.{◌==◌}
 use Rattle.std.specs.Fmt.{decimal}
 use Rattle.std.specs.List.{onto_first}
@@ -69,9 +70,11 @@ ended (word ∷ words) behind = 32 ∷ (word ++ ended words behind)
 ended_is : (words : List (List ℕ)) (behind : List ℕ) → all_spaced words ++ behind ≡ ended words behind
 ended_is [] behind = refl
 ended_is (word ∷ words) behind =
-    ap (λ text. 32 ∷ text) (append_assoc word (all_spaced words) behind ∙ ap (λ text. word ++ text) (ended_is words behind))
+    ap (λ text. 32 ∷ text) (append_assoc word (all_spaced words) behind ∙ ap (λ text. word ++ text)
+    (ended_is words behind))
 
-line_joined : (word : List ℕ) (words : List (List ℕ)) → joined (word ∷ words) ++ codes "\n" ≡ word ++ ended words (codes "\n")
+line_joined : (word : List ℕ) (words : List (List ℕ)) → joined (word ∷ words) ++ codes "\n"
+    ≡ word ++ ended words (codes "\n")
 line_joined word words =
     append_assoc word (all_spaced words) (codes "\n") ∙ ap (λ text. word ++ text) (ended_is words (codes "\n"))
 
@@ -99,7 +102,8 @@ unfolding held_text
 held_ended key window back =
     nested (codes " key ") (decimal key ∷ codes " window " ∷ decimal window
     ∷ (if back == 0 then [] else codes " back " ++ decimal back) ∷ codes "\n" ∷ [])
-    ∙ ap (λ text. codes " key " ++ (decimal key ++ (codes " window " ++ (decimal window ++ text)))) (back_ended (back == 0) back)
+    ∙ ap (λ text. codes " key " ++ (decimal key ++ (codes " window " ++ (decimal window ++ text))))
+    (back_ended (back == 0) back)
 
 state_joined : (line : StateLine) → joined (state_words line) ++ codes "\n" ≡ state_text line
 unfolding state_words slots_line key_text association_text
@@ -195,7 +199,10 @@ plain_words (Association spi direction suite state key window back) is = record 
           sa_state_plain state,
           (
             (refl, refl, refl, refl),
-            (short_plain key is.2, ((refl, refl, refl, refl), (decimal_plain window is.3, back_plain (back == 0) back is.4))),
+            (
+              short_plain key is.2,
+              ((refl, refl, refl, refl), (decimal_plain window is.3, back_plain (back == 0) back is.4)),
+            ),
           ),
         ),
       ),
@@ -210,13 +217,16 @@ words_read line is =
 -- ---- what follows
 
 -- a text with the words of a line has its text
-pub text_of : (text : List ℕ) (line : StateLine) → words_of text ≡ state_words line → text ++ codes "\n" ≡ state_text line
+pub text_of : (text : List ℕ) (line : StateLine) → words_of text ≡ state_words line
+    → text ++ codes "\n" ≡ state_text line
 text_of text line are =
     ap (λ text. text ++ codes "\n") (sym (joined_words text) ∙ ap joined are) ∙ state_joined line
 
 -- a text that is a line's, without its line feed
-pub text_is : (text : List ℕ) (line : StateLine) → text ++ codes "\n" ≡ state_text line → text ≡ joined (state_words line)
-text_is text line same = append_cancel_right text (joined (state_words line)) (codes "\n") (same ∙ sym (state_joined line))
+pub text_is : (text : List ℕ) (line : StateLine) → text ++ codes "\n" ≡ state_text line
+    → text ≡ joined (state_words line)
+text_is text line same = append_cancel_right text (joined (state_words line)) (codes "\n")
+    (same ∙ sym (state_joined line))
 
 -- it has the line's words
 pub words_are : (text : List ℕ) (line : StateLine) → IsStateLine line → text ++ codes "\n" ≡ state_text line

@@ -1,6 +1,7 @@
 //! The JSON object of a line.
 ghost use Rattle.std.specs.Prelude.{◌≡◌, ◌++◌, OnOk};
-ghost use Rattle.text_streams.specs.StateObject.{back_member, further_number, further_word, held_members, key_members, kind_members};
+ghost use Rattle.text_streams.specs.StateObject.{back_member, further_number, further_word, held_members, key_members};
+ghost use Rattle.text_streams.specs.StateObject.{kind_members};
 ghost use Rattle.text_streams.specs.StateObject.{line_member, line_members, object_text};
 
 use crate::state_line::StateLine;

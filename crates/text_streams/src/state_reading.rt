@@ -1,7 +1,8 @@
 //! A line, read by its words.
 #![tactic(auto, unfolding(crate::specs::StateText::state_words, crate::specs::StateText::IsStateLine))]
 
-ghost use Rattle.std.specs.Prelude.{◌≡◌, ◌^◌, ◌<◌, ◌≤◌, ℕ, List, [], ◌∷◌, ◌++◌, codes, decimal, Some, IfSome, IsTrue, MatchOption};
+ghost use Rattle.std.specs.Prelude.{◌≡◌, ◌^◌, ◌<◌, ◌≤◌, ℕ, List, [], ◌∷◌, ◌++◌, codes, decimal, Some, IfSome, IsTrue};
+ghost use Rattle.std.specs.Prelude.{MatchOption};
 ghost use Rattle.sdls_base.specs.declared.states.Direction.{Direction};
 ghost use Rattle.sdls_base.specs.declared.states.KeyState.{KeyState};
 ghost use Rattle.sdls_base.specs.declared.states.SaState.{SaState};

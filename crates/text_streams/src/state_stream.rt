@@ -1,7 +1,8 @@
 //! Lines of `stat` in, JSON objects out.
 ghost use Rattle.std.specs.Prelude.{◌≤◌, IsTrue, IfNone, IfSome};
 ghost use Rattle.sdls_outside.specs.Faults.{Rose};
-ghost use Rattle.text_streams.specs.StateStream.{FailsNextLine, FailsText, IsStateCause, PutsObject, PutsObjects, PutsText};
+ghost use Rattle.text_streams.specs.StateStream.{FailsNextLine, FailsText, IsStateCause, PutsObject, PutsObjects};
+ghost use Rattle.text_streams.specs.StateStream.{PutsText};
 
 use crate::lines::{NextLine, next_line};
 use crate::state_ends::StateEnd;

@@ -11,7 +11,8 @@ pub number_is_text : (n : ℕ) (word : List ℕ) → n < 2 ^ 64 → word ≡ dec
 number_is_text n word small is = rw is (IsUtf8-from_ascii (decimal n) (IsAscii-decimal n small))
 
 -- and is parsed
-pub number_is_parsed : {E : Type 0} (n : ℕ) (word text : List ℕ) (r : Result ℕ E) → n < 2 ^ 64 → word ≡ decimal n → text ≡ word
+pub number_is_parsed : {E : Type 0} (n : ℕ) (word text : List ℕ) (r : Result ℕ E) → n < 2 ^ 64 → word ≡ decimal n
+    → text ≡ word
     → ParsesUnsigned 64 10 text r → r ≡ Ok n
 number_is_parsed n word text r small is same parsed = parse-decimal 64 n text r small small (same ∙ is) parsed
 

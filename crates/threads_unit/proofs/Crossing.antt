@@ -26,10 +26,15 @@ snapshot_send : (T : RattleType) → IsSend (Snapshot.the_row T)
 snapshot_send T = search crosses
 
 put_faults_send : IsSend PutFaults.the_row
-put_faults_send = let before = snapshot_send PutFaults.the_hole in variants_send PutFaults.enum (tt, ((before, tt), ((before, tt), tt)))
+put_faults_send = let before = snapshot_send PutFaults.the_hole in
+    variants_send PutFaults.enum (tt, ((before, tt), ((before, tt), tt)))
 
 history_send : IsSend History.the_row
-history_send = declared_send History.the_type (send, (held.the_send, (Vec-send (Snapshot.the_row Held.the_row) (snapshot_send Held.the_row), tt)))
+history_send =
+    declared_send History.the_type (
+      send,
+      (held.the_send, (Vec-send (Snapshot.the_row Held.the_row) (snapshot_send Held.the_row), tt)),
+    )
 
 site_send : IsSend MemSite.the_row
 site_send = declared_send MemSite.the_type (history_send, (calls.the_send, (put_faults_send, tt)))
@@ -38,13 +43,17 @@ pub unit_sync : IsSync (TheUnit.the_row MemSite.the_row site.ghosts)
 unit_sync = crossing.unit_sync MemSite.the_row site.ghosts site_send
 
 pub worker_send : IsSend (TheWorker.the_row (Shelf.the_row MemSite.the_row site.ghosts))
-worker_send = worker.the_send (Shelf.the_row MemSite.the_row site.ghosts) (crossing.shelf_send MemSite.the_row site.ghosts site_send)
+worker_send = worker.the_send (Shelf.the_row MemSite.the_row site.ghosts)
+    (crossing.shelf_send MemSite.the_row site.ghosts site_send)
 
 -- what a closure takes with it may go to another thread
 pub three_send : (ν : Sym) (A B C : RattleType) → IsSend A → IsSend B → IsSend C → IsSend (TupleAt ν (A ∷ B ∷ C ∷ []))
 three_send ν A B C a b c = declared_send (type_at ν (A ∷ B ∷ C ∷ []))
     (as_row_send (row_field A) a, (as_row_send (row_field B) b, (as_row_send (row_field C) c, tt)))
 
-pub four_send : (ν : Sym) (A B C D : RattleType) → IsSend A → IsSend B → IsSend C → IsSend D → IsSend (TupleAt ν (A ∷ B ∷ C ∷ D ∷ []))
-four_send ν A B C D a b c d = declared_send (type_at ν (A ∷ B ∷ C ∷ D ∷ []))
-    (as_row_send (row_field A) a, (as_row_send (row_field B) b, (as_row_send (row_field C) c, (as_row_send (row_field D) d, tt))))
+pub four_send : (ν : Sym) (A B C D : RattleType) → IsSend A → IsSend B → IsSend C → IsSend D
+    → IsSend (TupleAt ν (A ∷ B ∷ C ∷ D ∷ []))
+four_send ν A B C D a b c d = declared_send (type_at ν (A ∷ B ∷ C ∷ D ∷ [])) (
+  as_row_send (row_field A) a,
+  (as_row_send (row_field B) b, (as_row_send (row_field C) c, (as_row_send (row_field D) d, tt))),
+)

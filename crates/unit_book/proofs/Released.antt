@@ -1,5 +1,7 @@
 -- Releases, one key after another.
-use Rattle.std.proofs.Common.{◌≡◌, ℕ, zero, suc, ◌+◌, ◌<◌, ◌≤◌, min, Bool, true, false, cond, List, [], ◌∷◌, ◌++◌, length, get_or, drop, Option, Some, None, Result, Ok, Err, refl, sym, ◌∙◌, ap, subst, arith}
+use Rattle.std.proofs.Common.{◌≡◌, ℕ, zero, suc, ◌+◌, ◌<◌, ◌≤◌, min, Bool, true, false, cond, List, [], ◌∷◌, ◌++◌}
+use Rattle.std.proofs.Common.{length, get_or, drop, Option, Some, None, Result, Ok, Err, refl, sym, ◌∙◌, ap, subst}
+use Rattle.std.proofs.Common.{arith}
 use Rattle.std.specs.Prelude.{MatchOption, MatchResult}
 use Rattle.std.specs.List.{find, slice_get, All}
 use Rattle.std.specs.Option.{option_map, option_map_or, option_and_then}
@@ -157,31 +159,44 @@ releases_done words place old mid low so_far = record {
 pub none_found : {X : Type 0} (p : X → Bool) (xs : List X) → All (λ x. p x ≡ false) xs → find p xs ≡ None
 none_found p [] all = refl
 none_found p (x ∷ xs) all =
-    left_out (p x) (Some x) (find p xs) (All-head (λ x. p x ≡ false) x xs all) ∙ none_found p xs (All-tail (λ x. p x ≡ false) x xs all)
+    left_out (p x) (Some x) (find p xs) (All-head (λ x. p x ≡ false) x xs all)
+    ∙ none_found p xs (All-tail (λ x. p x ≡ false) x xs all)
 
-row_receives : (b : Bool) (row : SaRow) (floor id : ℕ) → receives_with id (cond b (with_floor row floor) row) ≡ receives_with id row
+row_receives : (b : Bool) (row : SaRow) (floor id : ℕ) → receives_with id (cond b (with_floor row floor) row)
+    ≡ receives_with id row
 row_receives true row floor id = refl
 row_receives false row floor id = refl
 
-none_lowered : (rows : List SaRow) (key floor id : ℕ) → receiver_with rows id ≡ None → receiver_with (lowered rows key floor) id ≡ None
+none_lowered : (rows : List SaRow) (key floor id : ℕ) → receiver_with rows id ≡ None
+    → receiver_with (lowered rows key floor) id ≡ None
 none_lowered rows key floor id none =
     let f : SaRow → SaRow = λ row. cond (receives_with key row) (with_floor row floor) row in
-    find-map (receives_with id) f rows (λ row. row_receives (receives_with key row) row floor id) ∙ ap (option_map f) none
+    find-map (receives_with id) f rows (λ row. row_receives (receives_with key row) row floor id)
+    ∙ ap (option_map f) none
 
 told_by : (state : State) (word : ℕ) (held : KeyRow) (b : Bool) (entry : Entry) (places : List Bool)
-    → cond b None (Some (record { index = None; seen = Word word; change = Marks held.id (min held.mark word) (released_floor state held) })) ≡ Some entry
+    → cond b None
+    (Some (record {
+      index = None;
+      seen = Word word;
+      change =
+          Marks held.id (min held.mark word) (released_floor state held);
+    })) ≡ Some entry
     → TellsReceivers state.associations places → TellsReceivers (applied state entry.change).associations places
 told_by state word held true entry places is tells = absurd (none-some entry is)
 told_by state word held false entry places is tells =
     subst (λ (e : Entry). TellsReceivers (applied state e.change).associations places) (same_Some _ entry is)
     (λ key not. none_lowered state.associations held.id (released_floor state held) key (tells key not))
 
-told_at : (state : State) (word : ℕ) (o : Option KeyRow) (entry : Entry) (places : List Bool) → option_and_then (release_of state word) o ≡ Some entry
+told_at : (state : State) (word : ℕ) (o : Option KeyRow) (entry : Entry) (places : List Bool)
+    → option_and_then (release_of state word) o ≡ Some entry
     → TellsReceivers state.associations places → TellsReceivers (applied state entry.change).associations places
 told_at state word None entry places is tells = absurd (none-some entry is)
-told_at state word (Some held) entry places is tells = told_by state word held (is_released state held word) entry places is tells
+told_at state word (Some held) entry places is tells =
+    told_by state word held (is_released state held word) entry places is tells
 
-told_then : (place word : ℕ) (mid new : BookView) (result : Result (Unit {0}) BookFault) (places : List Bool) (release : Option Entry)
+told_then : (place word : ℕ) (mid new : BookView) (result : Result (Unit {0}) BookFault) (places : List Bool)
+    (release : Option Entry)
     → release_at mid.state place word ≡ release → IsRelease release mid new result → result ≡ Ok tt
     → TellsReceivers mid.state.associations places → TellsReceivers new.state.associations places
 told_then place word mid new result places None is release ok tells =

@@ -19,7 +19,8 @@ use Rattle.unit_image.specs.Shows.{Says, Shows}
 use Rattle.run_promise.specs.Log.{entries_of, pieces_of}
 use Rattle.unit_book.specs.Log.{sunk_between}
 use Rattle.unit_book.specs.Book.{ShowsFrom, Serves, IsHistory, IsCurrent}
-use Rattle.unit_book.proofs.Lines.{pieces_more, entries_more, take_more, entries_front, entries_short, entries_take_more}
+use Rattle.unit_book.proofs.Lines.{pieces_more, entries_more, take_more, entries_front, entries_short}
+use Rattle.unit_book.proofs.Lines.{entries_take_more}
 use Rattle.unit_book.proofs.Lines.{between_more, take_end, take_whole}
 use Rattle.unit_book.proofs.Growing.{shows_from_more, shows_from_less, shows_becomes, shows_next}
 
@@ -62,7 +63,8 @@ pub serves_shows : (start : State) (log : List Logged) (standing : ℕ) (before 
     → ShowsFrom start (entries_of log) (min (length (entries_of (take serves.place log))) standing) image
 serves_shows start log standing before image sunk serves =
     let (rest, same) = entries_front (serves.place + 1) log in
-    subst (λ (entries : List Entry). ShowsFrom start entries (min (length (entries_of (take serves.place log))) standing)
+    subst (λ (entries : List Entry).
+    ShowsFrom start entries (min (length (entries_of (take serves.place log))) standing)
     image) (sym same)
     (shows_from_more start (entries_of (take (serves.place + 1) log)) rest
     (min (length (entries_of (take serves.place log))) standing) image serves.shows)
@@ -88,7 +90,8 @@ serves_last start log line next before image sunk old_sunk new_sunk old_is new_i
           (subst (λ (octets : List ℕ). Between old_sunk octets sunk) new_is between)));
       shows = subst (λ (lines : List Logged). ShowsFrom start (entries_of (take (length log + 1) (log ++ line ∷ [])))
           (min (length (entries_of lines)) next) image) (sym front)
-          (subst (λ (lines : List Logged). ShowsFrom start (entries_of lines) (min (length (entries_of log)) next) image)
+          (subst (λ (lines : List Logged). ShowsFrom start (entries_of lines) (min (length (entries_of log)) next)
+          image)
           (sym (take_whole log line)) shows);
     }
 
@@ -339,7 +342,8 @@ stored_history opened old new start journal log entry standing next says history
       (subst (λ (octets : List ℕ). ShowsFrom start (entries_of log ++ entry ∷ []) (length (entries_of log) + 1) octets)
       (sym (left_settled new journal settled image leaves))
       (shows_next start (entries_of log) entry next new.now.image
-      (record { opens = settled.of_image.closed.of_image.opens; is = holds }) settled.of_image.closed.rests says.then)));
+      (record { opens = settled.of_image.closed.of_image.opens; is = holds }) settled.of_image.closed.rests
+      says.then)));
   idle = λ none. absurd (some_entry log entry none);
 }
 

@@ -18,4 +18,5 @@ TellsReceivers associations places = (key : ℕ) → is_noted key places ≡ fal
 
 -- one association more is told of: a key whose place is not noted was not before, and it does not receive with it
 abbrev pub NotesRow : SaRow → List Bool → List Bool → Type 0
-NotesRow row old new = (key : ℕ) → is_noted key new ≡ false → (is_noted key old ≡ false) × (receives_with key row ≡ false)
+NotesRow row old new = (key : ℕ) → is_noted key new ≡ false → (is_noted key old ≡ false)
+    × (receives_with key row ≡ false)

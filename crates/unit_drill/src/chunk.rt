@@ -94,8 +94,8 @@ impl Pair {
         requires most { end ≤ CHUNK * chunk + CHUNK }
         requires ready { MayServeBoth self.old }
         ensures ready { IfOk result (λ _. MayServeBoth self.new) }
-        ensures chunk { IfOk result (λ counts. GoOn (λ one other s t v w. IsLinkChunk one other chunk end s t v w counts)
-            self.old self.new) }
+        ensures chunk { IfOk result (λ counts. GoOn
+            (λ one other s t v w. IsLinkChunk one other chunk end s t v w counts) self.old self.new) }
         ensures few { IfOk result AreFew }
     {
         let first = CHUNK * chunk;

@@ -1,6 +1,7 @@
 -- Records lead to one state: for `shows_one` and `refused_with_one`. One record more: for `says_grown`, and `led` of
 -- `take_records`.
-use Rattle.std.proofs.Common.{◌≡◌, ℕ, zero, suc, ◌+◌, ◌<◌, List, [], ◌∷◌, ◌++◌, take, Option, Some, None, refl, sym, ◌∙◌, ap, subst, inl, inr, arith}
+use Rattle.std.proofs.Common.{◌≡◌, ℕ, zero, suc, ◌+◌, ◌<◌, List, [], ◌∷◌, ◌++◌, take, Option, Some, None, refl, sym}
+use Rattle.std.proofs.Common.{◌∙◌, ap, subst, inl, inr, arith}
 use Rattle.std.specs.List.{slice_get}
 use Rattle.std.proofs.lemmas.Bool.{cases_lt}
 use Rattle.std.proofs.lemmas.List.{take-take}
@@ -19,14 +20,22 @@ abbrev pub IsOnce : Type 0
 IsOnce = (a b : Change) (body : List ℕ) → IsRecord a body → IsRecord b body → a ≡ b
 
 -- records lead to one state
-pub led_once : IsOnce → (state : State) (bodies : List (List ℕ)) (a b : State) → LeadTo state bodies a → LeadTo state bodies b → a ≡ b
+pub led_once : IsOnce → (state : State) (bodies : List (List ℕ)) (a b : State) → LeadTo state bodies a
+    → LeadTo state bodies b → a ≡ b
 led_once once state [] a b led_a led_b = led_a ∙ sym led_b
-led_once once state (body ∷ bodies) a b (change, is_record, allows, rest) (other, other_record, other_allows, other_rest) =
+led_once once state (body ∷ bodies) a b (change, is_record, allows, rest) (
+  other,
+  other_record,
+  other_allows,
+  other_rest,
+) =
     led_once once (applied state change) bodies a b rest
-    (subst (λ (c : Change). LeadTo (applied state c) bodies b) (once other change body other_record is_record) other_rest)
+    (subst (λ (c : Change). LeadTo (applied state c) bodies b) (once other change body other_record is_record)
+    other_rest)
 
 -- one record more
-pub led_more : (state : State) (bodies : List (List ℕ)) (last : State) (body : List ℕ) (change : Change) → LeadTo state bodies last
+pub led_more : (state : State) (bodies : List (List ℕ)) (last : State) (body : List ℕ) (change : Change)
+    → LeadTo state bodies last
     → IsRecord change body → Allows last change → LeadTo state (bodies ++ body ∷ []) (applied last change)
 led_more state [] last body change led is_record allows =
     (change, is_record, subst (λ (s : State). Allows s change) led allows, ap (λ (s : State). applied s change) led)
@@ -56,7 +65,8 @@ led_at state (first ∷ bodies) last zero body (change, is_record, allows, rest)
   allows = allows;
 }
 led_at state (first ∷ bodies) last (suc place) body (change, is_record, allows, rest) there =
-    let here : OnTheWay (applied state change) bodies place body = led_at (applied state change) bodies last place body rest there in
+    let here : OnTheWay (applied state change) bodies place body =
+    led_at (applied state change) bodies last place body rest there in
     record {
       before = here.before;
       led = (change, is_record, allows, here.led);
@@ -66,10 +76,13 @@ led_at state (first ∷ bodies) last (suc place) body (change, is_record, allows
     }
 
 -- a record that is none is on no way
-pub no_way : IsOnce → (state : State) (bodies : List (List ℕ)) (last : State) (place : ℕ) → LeadTo state bodies last → ¬ IsBadRecord state bodies place
+pub no_way : IsOnce → (state : State) (bodies : List (List ℕ)) (last : State) (place : ℕ) → LeadTo state bodies last
+    → ¬ IsBadRecord state bodies place
 no_way once state bodies last place led bad =
-    let here : OnTheWay state bodies place bad.unfit.body = led_at state bodies last place bad.unfit.body led bad.unfit.there in
-    let same : here.before ≡ bad.before = led_once once state (take place bodies) here.before bad.before here.led bad.led in
+    let here : OnTheWay state bodies place bad.unfit.body =
+    led_at state bodies last place bad.unfit.body led bad.unfit.there in
+    let same : here.before ≡ bad.before =
+    led_once once state (take place bodies) here.before bad.before here.led bad.led in
     bad.unfit.bad here.change here.is_record (subst (λ (s : State). Allows s here.change) same here.allows)
 
 get_front : (bodies : List (List ℕ)) (i j : ℕ) → i < j → slice_get (take j bodies) i ≡ slice_get bodies i
@@ -79,16 +92,19 @@ get_front (body ∷ bodies) zero (suc j) low = refl
 get_front (body ∷ bodies) (suc i) (suc j) low = get_front bodies i j (omega arith)
 
 -- of two records that are none the first one is met
-bad_once : IsOnce → (state : State) (bodies : List (List ℕ)) (i j : ℕ) → IsBadRecord state bodies i → IsBadRecord state bodies j → ¬ (i < j)
+bad_once : IsOnce → (state : State) (bodies : List (List ℕ)) (i j : ℕ) → IsBadRecord state bodies i
+    → IsBadRecord state bodies j → ¬ (i < j)
 bad_once once state bodies i j one other low =
     no_way once state (take j bodies) other.before i other.led
     (record {
       before = one.before;
-      led = subst (λ (front : List (List ℕ)). LeadTo state front one.before) (sym (take-take i j bodies (omega arith))) one.led;
+      led = subst (λ (front : List (List ℕ)). LeadTo state front one.before) (sym (take-take i j bodies (omega arith)))
+          one.led;
       unfit = record { body = one.unfit.body; there = get_front bodies i j low ∙ one.unfit.there; bad = one.unfit.bad };
     })
 
-pub same_place : IsOnce → (state : State) (bodies : List (List ℕ)) (i j : ℕ) → IsBadRecord state bodies i → IsBadRecord state bodies j → i ≡ j
+pub same_place : IsOnce → (state : State) (bodies : List (List ℕ)) (i j : ℕ) → IsBadRecord state bodies i
+    → IsBadRecord state bodies j → i ≡ j
 same_place once state bodies i j one other =
     let not_below : ¬ (i < j) = bad_once once state bodies i j one other in
     let not_above : ¬ (j < i) = bad_once once state bodies j i other one in
@@ -108,7 +124,8 @@ take_next bodies index body there =
     ∙ ap (λ (octets : List ℕ). take index bodies ++ octets ∷ []) (get_or_from_slice_get bodies index body [] there)
 
 -- the record at a place, when those before it are done
-pub led_next : (first : State) (bodies : List (List ℕ)) (index : ℕ) (old new : State) → LeadTo first (take index bodies) old
+pub led_next : (first : State) (bodies : List (List ℕ)) (index : ℕ) (old new : State)
+    → LeadTo first (take index bodies) old
     → TakesRecord bodies index old new → LeadTo first (take (index + 1) bodies) new
 led_next first bodies index old new led takes =
     subst (λ (front : List (List ℕ)). LeadTo first front new) (sym (take_next bodies index takes.body takes.there))

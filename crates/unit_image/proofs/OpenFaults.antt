@@ -16,7 +16,8 @@ use Rattle.unit_image.specs.OpeningImage.{HasOpenFault, LeavesShown, ShowsUnless
 with_cause : {T : Type 0} (before now : ℕ) (one other : ℕ → Type 0) (result : Result T OpenFault)
     → ((offset : ℕ) → one offset → other offset) → HasOpenFault before now one result
     → HasOpenFault before now other result
-with_cause before now one other (Ok it) follows has = record { later = has.later; stood = has.stood; cause = tt; calm = tt }
+with_cause before now one other (Ok it) follows has =
+    record { later = has.later; stood = has.stood; cause = tt; calm = tt }
 with_cause before now one other (Err (SiteFault count)) follows has =
     record { later = has.later; stood = tt; cause = has.cause; calm = tt }
 with_cause before now one other (Err (Image offset)) follows has =
@@ -36,7 +37,8 @@ pub same_image : (old new : Trace) → OnlySyncs old new → new.now.image ≡ o
 same_image old new (inl same) = ap (λ (it : Trace). it.now.image) same
 same_image old new (inr synced) = synced.image
 
-shown_still : (image : List ℕ) (state : State) (fault : OpenFault) → Shows image state → ShowsUnlessFailed image state fault
+shown_still : (image : List ℕ) (state : State) (fault : OpenFault) → Shows image state
+    → ShowsUnlessFailed image state fault
 shown_still image state (SiteFault count) shows = tt
 shown_still image state (Image offset) shows = shows
 shown_still image state NoMemory shows = shows

@@ -1,5 +1,6 @@
 -- What stands outside the banks of an image: for `bring_up`, `open` and `rest_stays_whole`.
-use Rattle.std.proofs.Common.{◌≡◌, ℕ, ◌+◌, ◌*◌, ◌<◌, ◌≤◌, ◌⊎◌, ◌∙◌, List, length, get_or, take, max, refl, sym, ap, subst, inl, inr, arith, Result, Ok, Err, OnOk}
+use Rattle.std.proofs.Common.{◌≡◌, ℕ, ◌+◌, ◌*◌, ◌<◌, ◌≤◌, ◌⊎◌, ◌∙◌, List, length, get_or, take, max, refl, sym, ap}
+use Rattle.std.proofs.Common.{subst, inl, inr, arith, Result, Ok, Err, OnOk}
 use Rattle.std.proofs.lemmas.List.{ext_get_or, get_or-take, length-take-le, take-take}
 use Rattle.sdls_outside.specs.Disk.{Leaves}
 use Rattle.sdls_outside.specs.Moments.{Trace}
@@ -29,18 +30,24 @@ use Rattle.unit_image.specs.Storing.{HasPlanAlone, KeepsPlaces, LeavesRest, Leav
 -- ---- an opening
 
 -- the banks of an image that opens end within it
-ends_within : (image : List ℕ) (journal : JournalView) → IsJournalOf image journal → image_end journal.layout ≤ length image
+ends_within : (image : List ℕ) (journal : JournalView) → IsJournalOf image journal
+    → image_end journal.layout ≤ length image
 ends_within image journal is = subst (λ (layout : Layout). image_end layout ≤ length image) (sym is.layout)
     (front_bounds image (image_layout image) (opens_stands image is.opens).front)
 
 -- an image of version 2 was only brought to rest
-pub outside_same : (journal : JournalView) (old now : List ℕ) → IsJournalOf now journal → KeepsPlan journal.layout old now
+pub outside_same : (journal : JournalView) (old now : List ℕ) → IsJournalOf now journal
+    → KeepsPlan journal.layout old now
     → StaysOutside journal.layout old now
 outside_same journal old now is keeps =
     let long : image_end journal.layout ≤ length now = ends_within now journal is in
     let same : length now ≡ length old = keeps.same_length in
     record {
-      before = λ i low. elim low [ inl front ↦ keeps.outside i (inl front) | inr behind ↦ keeps.outside i (inr (inl behind)) ];
+      before = λ i low. elim low [
+        | inl front ↦ keeps.outside i (inl front)
+        | inr behind ↦
+            keeps.outside i (inr (inl behind))
+      ];
       past = record { length_is = omega arith; past = λ i high. keeps.outside i (inr (inr high)) };
     }
 
@@ -68,7 +75,8 @@ outside_migrated journal layout old mid new is form layout_is before past keeps 
     let is_layout : journal.layout ≡ layout_of journal.layout.form journal.layout.slots =
     subst (λ (some : Layout). some ≡ layout_of some.form some.slots) (sym is.layout) (layout_as mid) in
     let behind : image_end journal.layout ≤ image_end layout =
-    subst (λ (some : Layout). image_end journal.layout ≤ image_end some) (sym layout_is) (ends_before journal.layout is_layout form) in
+    subst (λ (some : Layout). image_end journal.layout ≤ image_end some) (sym layout_is)
+    (ends_before journal.layout is_layout form) in
     let same : length mid ≡ length old = keeps.same_length in
     let longer : length new ≡ max (length mid) (image_end layout) = past.length_is in
     record {
@@ -76,22 +84,26 @@ outside_migrated journal layout old mid new is form layout_is before past keeps 
           ∙ (elim low [ inl front ↦ keeps.outside i (inl front) | inr between ↦ keeps.outside i (inr (inl between)) ]);
       past = record {
         length_is = omega arith;
-        past = λ i high. past.past i high ∙ keeps.outside i (inr (inr (let low : image_end journal.layout ≤ i = omega arith in low)));
+        past = λ i high. past.past i high ∙ keeps.outside i
+            (inr (inr (let low : image_end journal.layout ≤ i = omega arith in low)));
       };
     }
 
-pub outside_after : {Value Error : Type 0} (result : Result Value Error) (journal next after : JournalView) (mid new : List ℕ)
+pub outside_after : {Value Error : Type 0} (result : Result Value Error) (journal next after : JournalView)
+    (mid new : List ℕ)
     → IsJournalOf mid journal → journal.layout.form ≡ Old → next.layout ≡ layout_of Migrated journal.layout.slots
     → OnOk result ((i : ℕ) → (i < MIGRATED_AT) ⊎ ((MIGRATED_AT < i) × (i < BANKS_AT)) → get_or new i 0 ≡ get_or mid i 0)
     → OnOk result (KeepsPast (image_end after.layout) mid new) → OnOk result (after ≡ next)
     → OnOk result ((old : List ℕ) → KeepsPlan journal.layout old mid → StaysOutside after.layout old new)
 outside_after (Ok value) journal next after mid new is form layout before past counted = λ old keeps.
-    outside_migrated journal after.layout old mid new is form (ap (λ (one : JournalView). one.layout) counted ∙ layout) before past
+    outside_migrated journal after.layout old mid new is form (ap (λ (one : JournalView). one.layout) counted ∙ layout)
+    before past
     keeps
 outside_after (Err error) journal next after mid new is form layout before past counted = tt
 
 -- the plan is held still
-pub brought_plan : (state : State) (read mid new : List ℕ) (next : Held) → held mid ≡ held read → IsBroughtUp state (held mid) next
+pub brought_plan : (state : State) (read mid new : List ℕ) (next : Held) → held mid ≡ held read
+    → IsBroughtUp state (held mid) next
     → held new ≡ next → (held new).plan ≡ (held read).plan
 brought_plan state read mid new next same (inl is) done = ap (λ (what : Held). what.plan) (done ∙ is ∙ same)
 brought_plan state read mid new next same (inr (of_one, content, is)) done =
@@ -136,7 +148,8 @@ same_layout old new same =
     ap (λ (octets : List ℕ). layout_of (form_in octets) (slot_count_in octets)) header
 
 -- a plan alone stands outside the banks still
-plan_alone : (form : HeaderForm) (plan : List ℕ) (slots : ℕ) (journal : JournalView) (old new : List ℕ) → IsJournalOf new journal
+plan_alone : (form : HeaderForm) (plan : List ℕ) (slots : ℕ) (journal : JournalView) (old new : List ℕ)
+    → IsJournalOf new journal
     → KeepsBeside journal.layout old new → HasPlanAlone form plan slots old → HasPlanAlone form plan slots new
 plan_alone form plan slots journal old new is keeps alone =
     let behind : BANKS_AT ≤ journal.layout.banks =
@@ -158,7 +171,8 @@ RestIsWhole = (form : HeaderForm) (image plan text : List ℕ) (slots generation
     → take BANKS_AT image ≡ front_image form OPEN plan slots → IsRest image bank generation text
     → image ≡ rest_image form OPEN plan slots text generation bank
 
-pub rest_image_left : RestIsWhole → (opened : List ℕ) (now : Trace) (journal : JournalView) (state : State) → IsSettled now journal
+pub rest_image_left : RestIsWhole → (opened : List ℕ) (now : Trace) (journal : JournalView) (state : State)
+    → IsSettled now journal
     → KeepsBeside journal.layout opened now.now.image → LeavesRest now journal state
     → LeavesRestImage opened now journal state
 rest_image_left whole opened now journal state settled keeps rest form plan slots alone image leaves =

@@ -1,9 +1,11 @@
 -- The changes that a state allows and that are stored have records.
-use Rattle.std.proofs.Common.{◌≡◌, ◌≢◌, ℕ, ◌≤◌, List, [], ◌∷◌, length, Option, None, Some, refl, sym, ◌∙◌, ap, subst, arith}
+use Rattle.std.proofs.Common.{◌≡◌, ◌≢◌, ℕ, ◌≤◌, List, [], ◌∷◌, length, Option, None, Some, refl, sym, ◌∙◌, ap, subst}
+use Rattle.std.proofs.Common.{arith}
 use Rattle.std.specs.Option.{option_map_or, option_or}
 use Rattle.std.proofs.lemmas.Option.{none-some}
 use Rattle.sdls_base.specs.declared.change.Change.{Change}
-use Rattle.sdls_base.specs.declared.change.Change.TheVariants.{Marks, Load, KeyStates, Create, Rekey, SaTo, SetNumber, SetWindow, Accepted, Nothing}
+use Rattle.sdls_base.specs.declared.change.Change.TheVariants.{Marks, Load, KeyStates, Create, Rekey, SaTo, SetNumber}
+use Rattle.sdls_base.specs.declared.change.Change.TheVariants.{SetWindow, Accepted, Nothing}
 use Rattle.sdls_base.specs.declared.states.KeyState.{KeyState}
 use Rattle.sdls_base.specs.declared.states.KeyState.TheVariants.{PreActive, Active, Deactivated, Destroyed}
 use Rattle.key_book.specs.declared.key_row.KeyRow.{KeyRow}
@@ -25,16 +27,19 @@ stays_out Deactivated holder = refl
 stays_out Destroyed holder = refl
 
 refused : (found : Option KeyRow) (id : ℕ) (holder : Option ℕ) (rest : Option KeyRefusal)
-    → ¬ (option_or (option_map_or (λ (row : KeyRow). state_refusal row.state PreActive holder) found (Some (UnknownKey id))) rest ≡ None)
+    → ¬ (option_or (option_map_or (λ (row : KeyRow). state_refusal row.state PreActive holder) found
+    (Some (UnknownKey id))) rest ≡ None)
 refused None id holder rest none = none-some (UnknownKey id) (sym none)
 refused (Some row) id holder rest none =
-    none-some (WrongState row.state) (sym none ∙ ap (λ (o : Option KeyRefusal). option_or o rest) (stays_out row.state holder))
+    none-some (WrongState row.state)
+    (sym none ∙ ap (λ (o : Option KeyRefusal). option_or o rest) (stays_out row.state holder))
 
 pub not_pre_active : (rows : List KeyRow) (ids : List ℕ) (to : KeyState) (uses : List (ℕ × ℕ)) → 1 ≤ length ids
     → moves_refusal rows ids to uses ≡ None → to ≢ PreActive
 not_pre_active rows [] to uses some none is = absurd (let no : ⊥ = omega arith in no)
 not_pre_active rows (id ∷ rest) to uses some none is =
-    absurd (refused (row_of rows id) id (lowest_holder uses id) (moves_refusal (moved rows (id ∷ []) PreActive) rest PreActive uses)
+    absurd (refused (row_of rows id) id (lowest_holder uses id)
+    (moves_refusal (moved rows (id ∷ []) PreActive) rest PreActive uses)
     (subst (λ (t : KeyState). moves_refusal rows (id ∷ rest) t uses ≡ None) is none))
 
 pub has_record : (state : State) (change : Change) → IsStorable change → Allows state change → HasRecord change
@@ -81,5 +86,6 @@ storable_unless (Rekey spi key number) not_accepted not_nothing = tt
 storable_unless (SaTo spi to) not_accepted not_nothing = tt
 storable_unless (SetNumber spi number) not_accepted not_nothing = tt
 storable_unless (SetWindow spi window) not_accepted not_nothing = tt
-storable_unless (Accepted spi key number floor) not_accepted not_nothing = absurd (not_accepted spi key number floor refl)
+storable_unless (Accepted spi key number floor) not_accepted not_nothing =
+    absurd (not_accepted spi key number floor refl)
 storable_unless Nothing not_accepted not_nothing = absurd (not_nothing refl)

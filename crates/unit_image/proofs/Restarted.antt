@@ -28,7 +28,8 @@ module _ (state : State) (rules : KeepsRules state) where
   high_left Receive None high has = has
   high_left Receive (Some key) high has = go (row_of state.keys key) refl
     where
-      go : (found : Option KeyRow) → row_of state.keys key ≡ found → option_map_or (λ (row : KeyRow). row.floor) found high < end_of key
+      go : (found : Option KeyRow) → row_of state.keys key ≡ found
+          → option_map_or (λ (row : KeyRow). row.floor) found high < end_of key
       go None is = has
       go (Some row) is =
           subst (λ (id : ℕ). row.floor < end_of id)
@@ -49,11 +50,13 @@ module _ (state : State) (rules : KeepsRules state) where
   restarted_rules = record {
     keys = rules.keys;
     associations = record {
-      most = subst (λ (n : ℕ). n ≤ MOST_ASSOCIATIONS) (sym (length-map state.associations (restarted_row state.keys))) rules.associations.most;
+      most = subst (λ (n : ℕ). n ≤ MOST_ASSOCIATIONS) (sym (length-map state.associations (restarted_row state.keys)))
+          rules.associations.most;
       each = All-map IsSaRow (restarted_row state.keys) state.associations
           (λ k d low. row_left (get_or state.associations k d) (rules.associations.each k d low));
       apart = pairs_map RowsAreApart (restarted_row state.keys) state.associations
-          (λ a b apart. record { order = apart.order; channels = apart.channels; keys = apart.keys }) rules.associations.apart;
+          (λ a b apart. record { order = apart.order; channels = apart.channels; keys = apart.keys })
+          rules.associations.apart;
     };
     held = all_restarted state.keys state.associations rules.held;
   }

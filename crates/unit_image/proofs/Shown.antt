@@ -22,22 +22,26 @@ plan_once text plan other says too = ap (ok_or plan) (sym says.read ∙ too.read
 
 -- a content is that of one state, as a law of contents says
 abbrev pub IsOneState : Type 0
-IsOneState = (version : Version) (one other : State) (content : List ℕ) → IsContent version one content → IsContent version other content
+IsOneState = (version : Version) (one other : State) (content : List ℕ) → IsContent version one content
+    → IsContent version other content
     → one.channels ≡ other.channels → one.device ≡ other.device → one ≡ other
 
-content_once : IsOneState → (plan : PlanLines) (version : Version) (content : List ℕ) (a b : State) → IsContentUnder plan version content a
+content_once : IsOneState → (plan : PlanLines) (version : Version) (content : List ℕ) (a b : State)
+    → IsContentUnder plan version content a
     → IsContentUnder plan version content b → a ≡ b
 content_once one plan version content a b is too =
     one version a b content is.spelled too.spelled (is.channels ∙ sym too.channels) (is.device ∙ sym too.device)
 
 under : (plan other : PlanLines) (version : Version) (content : List ℕ) (state : State) → plan ≡ other
     → IsContentUnder plan version content state → IsContentUnder other version content state
-under plan other version content state same is = subst (λ (p : PlanLines). IsContentUnder p version content state) same is
+under plan other version content state same is =
+    subst (λ (p : PlanLines). IsContentUnder p version content state) same is
 
 first_once : IsOneState → (what : Held) (a b : State) → Begins what a → Begins what b → a ≡ b
 first_once one what a b begins too =
     content_once one too.plan what.version what.content a b
-    (under begins.plan too.plan what.version what.content a (plan_once what.plan begins.plan too.plan begins.said too.said) begins.content)
+    (under begins.plan too.plan what.version what.content a
+    (plan_once what.plan begins.plan too.plan begins.said too.said) begins.content)
     too.content
 
 says_once : IsOnce → IsOneState → (what : Held) (a b : State) → Says what a → Says what b → a ≡ b
@@ -55,7 +59,8 @@ shows_once once one image a b shows too =
 
 slots_agree : (what : Held) (plan other : PlanLines) → SaysBarePlan what.plan plan → SaysBarePlan what.plan other
     → other.slots ≡ what.slots → plan.slots ≡ what.slots
-slots_agree what plan other said too same = ap (λ (p : PlanLines). p.slots) (plan_once what.plan plan other said too) ∙ same
+slots_agree what plan other said too same =
+    ap (λ (p : PlanLines). p.slots) (plan_once what.plan plan other said too) ∙ same
 
 says_some : IsOnce → IsOneState → (image : List ℕ) (what : Held) (state : State) (offset : ℕ) → Says what state
     → ¬ SaysNone image what offset
@@ -64,47 +69,66 @@ says_some once one image what state offset says (inr (inl (plan, said, other, is
     other (slots_agree what plan says.begins.plan said says.begins.said says.begins.same_slots)
 says_some once one image what state offset says (inr (inr (inl (plan, said, same, no_content, is)))) =
     no_content says.first
-    (under says.begins.plan plan what.version what.content says.first (plan_once what.plan says.begins.plan plan says.begins.said said)
+    (under says.begins.plan plan what.version what.content says.first
+    (plan_once what.plan says.begins.plan plan says.begins.said said)
     says.begins.content)
 says_some once one image what state offset says (inr (inr (inr (first, begins, (place, bad, is))))) =
     no_way once says.first what.records says.last place says.led
-    (subst (λ (s : State). IsBadRecord s what.records place) (first_once one what first says.first begins says.begins) bad)
+    (subst (λ (s : State). IsBadRecord s what.records place) (first_once one what first says.first begins says.begins)
+    bad)
 
 -- an image that shows a state is refused with no offset
 pub shows_some : IsOnce → IsOneState → (image : List ℕ) (state : State) (offset : ℕ) → Shows image state
     → ¬ ShowsNone image offset
 shows_some once one image state offset shows (inl fault) = none-some offset (sym shows.holds.opens ∙ fault)
 shows_some once one image state offset shows (inr (opens, none)) =
-    says_some once one image (held image) state offset (subst (λ (what : Held). Says what state) (sym shows.holds.is) shows.says) none
+    says_some once one image (held image) state offset
+    (subst (λ (what : Held). Says what state) (sym shows.holds.is) shows.says) none
 
 -- what is held is refused with one offset
-says_none_once : IsOnce → IsOneState → (image : List ℕ) (what : Held) (a b : ℕ) → SaysNone image what a → SaysNone image what b → a ≡ b
+says_none_once : IsOnce → IsOneState → (image : List ℕ) (what : Held) (a b : ℕ) → SaysNone image what a
+    → SaysNone image what b → a ≡ b
 says_none_once once one image what a b (inl (none, is)) (inl (none', is')) = is ∙ sym is'
 says_none_once once one image what a b (inl (none, is)) (inr (inl (plan, said, differ, at))) = absurd (none plan said)
-says_none_once once one image what a b (inl (none, is)) (inr (inr (inl (plan, said, same, no_content, at)))) = absurd (none plan said)
-says_none_once once one image what a b (inl (none, is)) (inr (inr (inr (first, begins, bad)))) = absurd (none begins.plan begins.said)
+says_none_once once one image what a b (inl (none, is)) (inr (inr (inl (plan, said, same, no_content, at)))) =
+    absurd (none plan said)
+says_none_once once one image what a b (inl (none, is)) (inr (inr (inr (first, begins, bad)))) =
+    absurd (none begins.plan begins.said)
 says_none_once once one image what a b (inr (inl (plan, said, differ, at))) (inl (none, is)) = absurd (none plan said)
-says_none_once once one image what a b (inr (inl (plan, said, differ, is))) (inr (inl (plan', said', differ', is'))) = is ∙ sym is'
-says_none_once once one image what a b (inr (inl (plan, said, differ, is))) (inr (inr (inl (plan', said', same, no_content, at)))) =
+says_none_once once one image what a b (inr (inl (plan, said, differ, is))) (inr (inl (plan', said', differ', is'))) =
+    is ∙ sym is'
+says_none_once once one image what a b (inr (inl (plan, said, differ, is)))
+    (inr (inr (inl (plan', said', same, no_content, at)))) =
     absurd (differ (slots_agree what plan plan' said said' same))
 says_none_once once one image what a b (inr (inl (plan, said, differ, is))) (inr (inr (inr (first, begins, bad)))) =
     absurd (differ (slots_agree what plan begins.plan said begins.said begins.same_slots))
-says_none_once once one image what a b (inr (inr (inl (plan, said, same, no_content, at)))) (inl (none, is)) = absurd (none plan said)
-says_none_once once one image what a b (inr (inr (inl (plan, said, same, no_content, at)))) (inr (inl (plan', said', differ, is))) =
+says_none_once once one image what a b (inr (inr (inl (plan, said, same, no_content, at)))) (inl (none, is)) =
+    absurd (none plan said)
+says_none_once once one image what a b (inr (inr (inl (plan, said, same, no_content, at))))
+    (inr (inl (plan', said', differ, is))) =
     absurd (differ (slots_agree what plan' plan said' said same))
-says_none_once once one image what a b (inr (inr (inl (plan, said, same, none, is)))) (inr (inr (inl (plan', said', same', none', is')))) =
+says_none_once once one image what a b (inr (inr (inl (plan, said, same, none, is))))
+    (inr (inr (inl (plan', said', same', none', is')))) =
     is ∙ sym is'
-says_none_once once one image what a b (inr (inr (inl (plan, said, same, none, is)))) (inr (inr (inr (first, begins, bad)))) =
-    absurd (none first (under begins.plan plan what.version what.content first (plan_once what.plan begins.plan plan begins.said said) begins.content))
-says_none_once once one image what a b (inr (inr (inr (first, begins, bad)))) (inl (none, is)) = absurd (none begins.plan begins.said)
+says_none_once once one image what a b (inr (inr (inl (plan, said, same, none, is))))
+    (inr (inr (inr (first, begins, bad)))) =
+    absurd (none first (under begins.plan plan what.version what.content first
+    (plan_once what.plan begins.plan plan begins.said said) begins.content))
+says_none_once once one image what a b (inr (inr (inr (first, begins, bad)))) (inl (none, is)) =
+    absurd (none begins.plan begins.said)
 says_none_once once one image what a b (inr (inr (inr (first, begins, bad)))) (inr (inl (plan, said, differ, is))) =
     absurd (differ (slots_agree what plan begins.plan said begins.said begins.same_slots))
-says_none_once once one image what a b (inr (inr (inr (first, begins, bad)))) (inr (inr (inl (plan, said, same, none, is)))) =
-    absurd (none first (under begins.plan plan what.version what.content first (plan_once what.plan begins.plan plan begins.said said) begins.content))
-says_none_once once one image what a b (inr (inr (inr (first, begins, (place, bad, is))))) (inr (inr (inr (first', begins', (place', bad', is'))))) =
+says_none_once once one image what a b (inr (inr (inr (first, begins, bad))))
+    (inr (inr (inl (plan, said, same, none, is)))) =
+    absurd (none first (under begins.plan plan what.version what.content first
+    (plan_once what.plan begins.plan plan begins.said said) begins.content))
+says_none_once once one image what a b (inr (inr (inr (first, begins, (place, bad, is)))))
+    (inr (inr (inr (first', begins', (place', bad', is'))))) =
     let start : first' ≡ first = first_once one what first' first begins' begins in
     is
-    ∙ ap (record_at image) (same_place once first what.records place place' bad (subst (λ (s : State). IsBadRecord s what.records place') start bad'))
+    ∙ ap (record_at image)
+    (same_place once first what.records place place' bad
+    (subst (λ (s : State). IsBadRecord s what.records place') start bad'))
     ∙ sym is'
 
 -- an image is refused with one offset
@@ -112,4 +136,5 @@ pub refused_once : IsOnce → IsOneState → (image : List ℕ) (a b : ℕ) → 
 refused_once once one image a b (inl fault) (inl other) = same_Some a b (sym fault ∙ other)
 refused_once once one image a b (inl fault) (inr (opens, none)) = absurd (none-some a (sym opens ∙ fault))
 refused_once once one image a b (inr (opens, none)) (inl other) = absurd (none-some b (sym opens ∙ other))
-refused_once once one image a b (inr (opens, none)) (inr (opens', none')) = says_none_once once one image (held image) a b none none'
+refused_once once one image a b (inr (opens, none)) (inr (opens', none')) =
+    says_none_once once one image (held image) a b none none'

@@ -8,7 +8,8 @@ use Rattle.unit_state.specs.Restart.{restarted}
 use Rattle.unit_state.specs.Laws.{StoresWell}
 use Rattle.unit_state.proofs.Again.{applied_alike}
 use Rattle.unit_state.proofs.Allowed.{allowed_alike}
-use Rattle.sdls_base.specs.declared.change.Change.TheVariants.{Marks, Load, KeyStates, Create, Rekey, SaTo, SetNumber, SetWindow, Accepted, Nothing}
+use Rattle.sdls_base.specs.declared.change.Change.TheVariants.{Marks, Load, KeyStates, Create, Rekey, SaTo, SetNumber}
+use Rattle.sdls_base.specs.declared.change.Change.TheVariants.{SetWindow, Accepted, Nothing}
 use Rattle.unit_image.specs.Shows.{LeadTo}
 use Rattle.image_content.specs.Reading.{IsContent}
 use Rattle.sdls_base.specs.declared.version.Version.TheVariants.{Two}
@@ -58,18 +59,21 @@ same_device state (SetWindow spi window) = refl
 same_device state (Accepted spi key number floor) = refl
 same_device state Nothing = refl
 
-led_channels : (state : State) (bodies : List (List ℕ)) (last : State) → LeadTo state bodies last → last.channels ≡ state.channels
+led_channels : (state : State) (bodies : List (List ℕ)) (last : State) → LeadTo state bodies last
+    → last.channels ≡ state.channels
 led_channels state [] last led = ap (λ (s : State). s.channels) led
 led_channels state (body ∷ bodies) last (change, is_record, allows, rest) =
     led_channels (applied state change) bodies last rest ∙ same_channels state change
 
-led_device : (state : State) (bodies : List (List ℕ)) (last : State) → LeadTo state bodies last → last.device ≡ state.device
+led_device : (state : State) (bodies : List (List ℕ)) (last : State) → LeadTo state bodies last
+    → last.device ≡ state.device
 led_device state [] last led = ap (λ (s : State). s.device) led
 led_device state (body ∷ bodies) last (change, is_record, allows, rest) =
     led_device (applied state change) bodies last rest ∙ same_device state change
 
 -- What stands in an image behind a turn: the state whose content was written.
-pub says_turned : ((state : State) → restarted (restarted state) ≡ restarted state) → (what : Held) (state : State) (change : Change)
+pub says_turned : ((state : State) → restarted (restarted state) ≡ restarted state)
+    → (what : Held) (state : State) (change : Change)
     (content : List ℕ) → Says what (restarted state) → IsContent what.version (restarted (applied state change)) content
     → Says (turned content what) (restarted (applied state change))
 says_turned once what state change content says is = record {
@@ -103,7 +107,8 @@ says_migrated what state content says is = record {
     content = record {
       channels = ap (λ (s : State). s.channels) says.left ∙ led_channels says.first what.records says.last says.led
           ∙ says.begins.content.channels;
-      device = ap (λ (s : State). s.device) says.left ∙ led_device says.first what.records says.last says.led ∙ says.begins.content.device;
+      device = ap (λ (s : State). s.device) says.left ∙ led_device says.first what.records says.last says.led
+          ∙ says.begins.content.device;
       spelled = is;
     };
   };

@@ -40,7 +40,8 @@ StandsUnlessFailed before now (SiteFault count) = ⊤
 StandsUnlessFailed before now (Image offset) = now ≡ before
 StandsUnlessFailed before now NoMemory = now ≡ before
 
--- The count of faults never falls, and stands after an Ok and after each fault that is not one of the site; a fault that
+-- The count of faults never falls, and stands after an Ok and after each fault that is not one of the site; a fault
+-- that
 -- is answered has its cause.
 pub record HasOpenFault {T : Type 0} (before now : ℕ) (refused : ℕ → Type 0)
     (result : Result T OpenFault) : Type 0 where

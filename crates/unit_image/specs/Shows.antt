@@ -76,7 +76,8 @@ SaysNone image what offset =
     (((plan : PlanLines) → ¬ SaysBarePlan what.plan plan) × (offset ≡ PLAN_AT))
     ⊎ ((plan : PlanLines) × SaysBarePlan what.plan plan × (plan.slots ≢ what.slots) × (offset ≡ SLOT_COUNT_AT))
     ⊎ ((plan : PlanLines) × SaysBarePlan what.plan plan × (plan.slots ≡ what.slots)
-    × ((state : State) → ¬ IsContentUnder plan what.version what.content state) × (offset ≡ current_at image + CONTENT_AT))
+    × ((state : State) → ¬ IsContentUnder plan what.version what.content state)
+    × (offset ≡ current_at image + CONTENT_AT))
     ⊎ ((first : State) × Begins what first
     × ((place : ℕ) × IsBadRecord first what.records place × (offset ≡ record_at image place)))
 

@@ -1,5 +1,7 @@
 -- A bare plan has few lines, and none of them is long: for `bare_plan_is_short` and `bare_plan_reads`.
-use Rattle.std.proofs.Common.{◌≡◌, ◌≢◌, ℕ, zero, suc, ◌+◌, ◌*◌, ◌-◌, ◌<◌, ◌≤◌, Bool, true, false, List, [], ◌∷◌, ◌++◌, length, Option, Some, None, Result, Ok, Err, refl, sym, ap, ◌∙◌, subst, arith, inl, inr, length-append}
+use Rattle.std.proofs.Common.{◌≡◌, ◌≢◌, ℕ, zero, suc, ◌+◌, ◌*◌, ◌-◌, ◌<◌, ◌≤◌, Bool, true, false, List, [], ◌∷◌, ◌++◌}
+use Rattle.std.proofs.Common.{length, Option, Some, None, Result, Ok, Err, refl, sym, ap, ◌∙◌, subst, arith, inl, inr}
+use Rattle.std.proofs.Common.{length-append}
 use Rattle.std.specs.Prelude.{◌==◌, ◌&&◌, ◌||◌, not, nat_le, nat_lt, if◌then◌else◌, codes, filter}
 use Rattle.std.specs.List.{flat_map, find, list_any}
 use Rattle.std.specs.Option.{option_map}
@@ -18,12 +20,15 @@ use Rattle.unit_plan.specs.ChannelLine.{channel_said, is_map, is_place}
 use Rattle.unit_plan.specs.LineForm.{bounded, channel_id, version_said, device_said, number_said}
 use Rattle.unit_plan.specs.Lines.{lines_of, words_of}
 use Rattle.unit_plan.specs.LinkLine.{link_said, is_link, is_layout}
-use Rattle.unit_plan.specs.Plan.{plan_of, after, taken, is_skipped, version_taken, device_taken, slots_taken, block_taken, accept_taken, link_taken, channel_taken, number_in_order, is_on, is_on_link, link_admitted, channel_admitted}
+use Rattle.unit_plan.specs.Plan.{plan_of, after, taken, is_skipped, version_taken, device_taken, slots_taken}
+use Rattle.unit_plan.specs.Plan.{block_taken, accept_taken, link_taken, channel_taken, number_in_order, is_on}
+use Rattle.unit_plan.specs.Plan.{is_on_link, link_admitted, channel_admitted}
 use Rattle.unit_plan.specs.PlanError.{◌>>=◌, check, require}
 use Rattle.unit_plan.specs.PlanLines.{PlanLines, no_lines, has_link}
 use Rattle.unit_plan.specs.Bare.{names_rows, is_bare, ended, bare_of, without_rows}
 use Rattle.unit_plan.proofs.BareReading.{taken_keeps, not_long, reads_if_short}
-use Rattle.unit_plan.proofs.WordCosts.{cost, words_cost, is_word, both_true, version_cost, device_cost, number_cost, link_cost, channel_cost, IsSmall}
+use Rattle.unit_plan.proofs.WordCosts.{cost, words_cost, is_word, both_true, version_cost, device_cost, number_cost}
+use Rattle.unit_plan.proofs.WordCosts.{link_cost, channel_cost, IsSmall}
 
 -- ---- numbers that have no line yet
 
@@ -38,7 +43,8 @@ free_same old new (suc k) same =
     ap (λ (b : Bool). (if b then 0 else 1) + free new k) (same k (omega arith))
     ∙ ap (λ (n : ℕ). (if old k then 0 else 1) + n) (free_same old new k (λ j below. same j (omega (arith, below))))
 
-free_less : (old new : ℕ → Bool) (n k : ℕ) → n < k → old n ≡ false → new n ≡ true → ((j : ℕ) → j ≢ n → new j ≡ old j) → free new k + 1 ≡ free old k
+free_less : (old new : ℕ → Bool) (n k : ℕ) → n < k → old n ≡ false → new n ≡ true → ((j : ℕ) → j ≢ n → new j ≡ old j)
+    → free new k + 1 ≡ free old k
 unfolding free
 free_less old new n zero below was is same = absurd (omega arith)
 free_less old new n (suc k) below was is same = elim (cases_eq k n) [
@@ -68,7 +74,8 @@ any_old p (y ∷ ys) x is = ap (λ (b : Bool). p y || b) (any_old p ys x is)
 any_found : {X : Type 0} (p : X → Bool) (xs : List X) → list_any p xs ≡ true → (x : X) × (find p xs ≡ Some x)
 any_found p [] some = absurd cc
 any_found {X} p (x ∷ xs) some = found (p x) some (any_found p xs) where
-  found : (b : Bool) → (b || list_any p xs) ≡ true → (list_any p xs ≡ true → (y : X) × (find p xs ≡ Some y)) → (y : X) × ((if b then Some x else find p xs) ≡ Some y)
+  found : (b : Bool) → (b || list_any p xs) ≡ true → (list_any p xs ≡ true → (y : X) × (find p xs ≡ Some y))
+      → (y : X) × ((if b then Some x else find p xs) ≡ Some y)
   found true some others = (x, refl)
   found false some others = others some
 
@@ -114,7 +121,8 @@ record Spends (plan next : PlanLines) (words : List (List ℕ)) : Type 0 where
   cheap : cost words ≤ 120
   less : room next + 1 ≤ room plan
 
-version_spends : (n : ℕ) (plan next : PlanLines) (words : List (List ℕ)) → version_taken n plan words ≡ Ok next → Spends plan next words
+version_spends : (n : ℕ) (plan next : PlanLines) (words : List (List ℕ)) → version_taken n plan words ≡ Ok next
+    → Spends plan next words
 unfolding version_taken room
 version_spends n plan next words e =
     let a = took (require n Form (version_said words)) _ next e in
@@ -125,7 +133,8 @@ version_spends n plan next words e =
       less = subst (λ (p : PlanLines). room p + 1 ≤ room plan) (ok_is _ next b.onward) (omega (arith, heads));
     }
 
-device_spends : (n : ℕ) (plan next : PlanLines) (words : List (List ℕ)) → device_taken n plan words ≡ Ok next → Spends plan next words
+device_spends : (n : ℕ) (plan next : PlanLines) (words : List (List ℕ)) → device_taken n plan words ≡ Ok next
+    → Spends plan next words
 unfolding device_taken room
 device_spends n plan next words e =
     let a = took (require n Form (device_said words)) _ next e in
@@ -153,26 +162,41 @@ number_taken n plan heads least most k words low e =
       number_cost words a.first (required n Form (number_said words) a.first a.is) (omega (arith, bounds, low)),
     )
 
-slots_spends : (n : ℕ) (plan next : PlanLines) (words : List (List ℕ)) → slots_taken n plan words ≡ Ok next → Spends plan next words
+slots_spends : (n : ℕ) (plan next : PlanLines) (words : List (List ℕ)) → slots_taken n plan words ≡ Ok next
+    → Spends plan next words
 unfolding slots_taken room
 slots_spends n plan next words e =
     let a = took (number_in_order n plan 2 16 65536 words) _ next e in
     let b = number_taken n plan 2 16 65536 a.first words (omega arith) a.is in
-    record { cheap = omega (arith, b.1); less = subst (λ (p : PlanLines). room p + 1 ≤ room plan) (ok_is _ next a.onward) (omega (arith, b.0)) }
+    record {
+      cheap = omega (arith, b.1);
+      less =
+          subst (λ (p : PlanLines). room p + 1 ≤ room plan) (ok_is _ next a.onward) (omega (arith, b.0));
+    }
 
-block_spends : (n : ℕ) (plan next : PlanLines) (words : List (List ℕ)) → block_taken n plan words ≡ Ok next → Spends plan next words
+block_spends : (n : ℕ) (plan next : PlanLines) (words : List (List ℕ)) → block_taken n plan words ≡ Ok next
+    → Spends plan next words
 unfolding block_taken room
 block_spends n plan next words e =
     let a = took (number_in_order n plan 3 1 65536 words) _ next e in
     let b = number_taken n plan 3 1 65536 a.first words (omega arith) a.is in
-    record { cheap = omega (arith, b.1); less = subst (λ (p : PlanLines). room p + 1 ≤ room plan) (ok_is _ next a.onward) (omega (arith, b.0)) }
+    record {
+      cheap = omega (arith, b.1);
+      less =
+          subst (λ (p : PlanLines). room p + 1 ≤ room plan) (ok_is _ next a.onward) (omega (arith, b.0));
+    }
 
-accept_spends : (n : ℕ) (plan next : PlanLines) (words : List (List ℕ)) → accept_taken n plan words ≡ Ok next → Spends plan next words
+accept_spends : (n : ℕ) (plan next : PlanLines) (words : List (List ℕ)) → accept_taken n plan words ≡ Ok next
+    → Spends plan next words
 unfolding accept_taken room
 accept_spends n plan next words e =
     let a = took (number_in_order n plan 4 1 65536 words) _ next e in
     let b = number_taken n plan 4 1 65536 a.first words (omega arith) a.is in
-    record { cheap = omega (arith, b.1); less = subst (λ (p : PlanLines). room p + 1 ≤ room plan) (ok_is _ next a.onward) (omega (arith, b.0)) }
+    record {
+      cheap = omega (arith, b.1);
+      less =
+          subst (λ (p : PlanLines). room p + 1 ≤ room plan) (ok_is _ next a.onward) (omega (arith, b.0));
+    }
 
 not_true : (b : Bool) → not b ≡ true → b ≡ false
 not_true true e = absurd cc
@@ -181,7 +205,8 @@ not_true false e = refl
 eq_self : (n : ℕ) → (n == n) ≡ true
 eq_self n = grind (arith, nat_tests)
 
-link_spends : (n : ℕ) (plan next : PlanLines) (words : List (List ℕ)) → link_taken n plan words ≡ Ok next → Spends plan next words
+link_spends : (n : ℕ) (plan next : PlanLines) (words : List (List ℕ)) → link_taken n plan words ≡ Ok next
+    → Spends plan next words
 unfolding link_taken room
 link_spends n plan next words e =
     let a = took (require n Form (link_said words)) _ next e in
@@ -189,12 +214,15 @@ link_spends n plan next words e =
     let b = took (link_admitted n plan said.0 said.1) _ next a.onward in
     let o = took (check n Order (plan.heads == 5)) _ b.first b.is in
     let r = took (check n Range (is_link said.0 said.1)) _ b.first o.onward in
-    let bounds = both_true (nat_le said.0 15) (is_layout said.1.layout) (checked n Range (is_link said.0 said.1) r.first r.is) in
-    let once = not_true (has_link plan.links said.0) (checked n Twice (not (has_link plan.links said.0)) b.first r.onward) in
+    let bounds = both_true (nat_le said.0 15) (is_layout said.1.layout)
+    (checked n Range (is_link said.0 said.1) r.first r.is) in
+    let once =
+    not_true (has_link plan.links said.0) (checked n Twice (not (has_link plan.links said.0)) b.first r.onward) in
     let low = at_most said.0 15 bounds.0 in
     let fewer = free_less (has_link plan.links) (has_link (plan.links ++ said ∷ [])) said.0 16 (omega (arith, low)) once
     (any_new (λ (entry : ℕ × Link). entry.0 == said.0) plan.links said (eq_self said.0))
-    (λ j other. any_old (λ (entry : ℕ × Link). entry.0 == j) plan.links said (ne_eqb said.0 j (λ same. other (sym same)))) in
+    (λ j other. any_old (λ (entry : ℕ × Link). entry.0 == j) plan.links said
+    (ne_eqb said.0 j (λ same. other (sym same)))) in
     record {
       cheap = omega (arith, link_cost words said (required n Form (link_said words) said a.is) low bounds.1);
       less = subst (λ (p : PlanLines). room p + 1 ≤ room plan) (ok_is _ next b.onward) (omega (arith, fewer));
@@ -213,17 +241,30 @@ place_small : (layout : AnyLayout) (place : Place) → is_place layout place ≡
 place_small (Tc layout) place e =
     let a = both_true (nat_le place.spacecraft 1023) (nat_le place.channel 63 && is_map layout.segment place.map) e in
     let b = both_true (nat_le place.channel 63) (is_map layout.segment place.map) a.1 in
-    record { spacecraft = at_most place.spacecraft 1023 a.0; channel = at_most place.channel 63 b.0; map = map_small layout.segment place.map b.1 }
+    record {
+      spacecraft = at_most place.spacecraft 1023 a.0;
+      channel = at_most place.channel 63 b.0;
+      map = map_small layout.segment place.map b.1;
+    }
 place_small (Tm layout) place e =
     let a = both_true (nat_le place.spacecraft 1023) (nat_le place.channel 7 && is_map false place.map) e in
     let b = both_true (nat_le place.channel 7) (is_map false place.map) a.1 in
-    record { spacecraft = at_most place.spacecraft 1023 a.0; channel = omega (arith, at_most place.channel 7 b.0); map = map_small false place.map b.1 }
+    record {
+      spacecraft = at_most place.spacecraft 1023 a.0;
+      channel = omega (arith, at_most place.channel 7 b.0);
+      map = map_small false place.map b.1;
+    }
 place_small (Aos layout) place e =
     let a = both_true (nat_le place.spacecraft 255) (nat_le place.channel 62 && is_map false place.map) e in
     let b = both_true (nat_le place.channel 62) (is_map false place.map) a.1 in
-    record { spacecraft = omega (arith, at_most place.spacecraft 255 a.0); channel = omega (arith, at_most place.channel 62 b.0); map = map_small false place.map b.1 }
+    record {
+      spacecraft = omega (arith, at_most place.spacecraft 255 a.0);
+      channel = omega (arith, at_most place.channel 62 b.0);
+      map = map_small false place.map b.1;
+    }
 
-on_small : (links : List (ℕ × Link)) (place : Place) → has_link links place.link ≡ true → is_on_link links place ≡ true → IsSmallOn place
+on_small : (links : List (ℕ × Link)) (place : Place) → has_link links place.link ≡ true → is_on_link links place ≡ true
+    → IsSmallOn place
 on_small links place known on =
     let found = any_found (λ (entry : ℕ × Link). entry.0 == place.link) links known in
     place_small found.0.1.layout place
@@ -235,7 +276,8 @@ id_small n id e = told (nat_le n 63) refl e where
   told true is e = (at_most n 63 is, cc)
   told false is e = absurd cc
 
-channel_spends : (n : ℕ) (plan next : PlanLines) (words : List (List ℕ)) → channel_taken n plan words ≡ Ok next → Spends plan next words
+channel_spends : (n : ℕ) (plan next : PlanLines) (words : List (List ℕ)) → channel_taken n plan words ≡ Ok next
+    → Spends plan next words
 unfolding channel_taken room
 channel_spends n plan next words e =
     let a = took (require n Form (channel_said words)) _ next e in
@@ -251,18 +293,30 @@ channel_spends n plan next words e =
     let k = took (check n Unknown (has_link plan.links place.link)) _ b.first p.onward in
     let small = id_small said.0 i.first (required n Range (channel_id said.0) i.first i.is) in
     let id : b.first ≡ said.0 = sym (ok_is i.first b.first k.onward) ∙ sym small.1 in
-    let once = not_true (has_channel plan.channels said.0) (checked n Twice (not (has_channel plan.channels said.0)) t.first t.is) in
-    let on = on_small plan.links place (checked n Unknown (has_link plan.links place.link) k.first k.is) (checked n Range (is_on_link plan.links place) r.first r.is) in
+    let once =
+    not_true (has_channel plan.channels said.0)
+    (checked n Twice (not (has_channel plan.channels said.0)) t.first t.is) in
+    let on = on_small plan.links place (checked n Unknown (has_link plan.links place.link) k.first k.is)
+    (checked n Range (is_on_link plan.links place) r.first r.is) in
     let low = at_most place.link 15 (checked n Range (nat_le place.link 15) l.first l.is) in
     let row : ℕ × Place = (b.first, place) in
-    let fewer = free_less (has_channel plan.channels) (has_channel (plan.channels ++ row ∷ [])) said.0 64 (omega (arith, small.0)) once
-    (any_new (λ (entry : ℕ × Place). entry.0 == said.0) plan.channels row (ap (λ (m : ℕ). m == said.0) id ∙ eq_self said.0))
-    (λ j other. any_old (λ (entry : ℕ × Place). entry.0 == j) plan.channels row (ne_eqb b.first j (λ same. other (sym same ∙ id)))) in
+    let fewer = free_less (has_channel plan.channels) (has_channel (plan.channels ++ row ∷ [])) said.0 64
+    (omega (arith, small.0)) once
+    (any_new (λ (entry : ℕ × Place). entry.0 == said.0) plan.channels row
+    (ap (λ (m : ℕ). m == said.0) id ∙ eq_self said.0))
+    (λ j other. any_old (λ (entry : ℕ × Place). entry.0 == j) plan.channels row
+    (ne_eqb b.first j (λ same. other (sym same ∙ id)))) in
     record {
       cheap = omega (
         arith,
         channel_cost words said (required n Form (channel_said words) said a.is)
-            (record { number_small = small.0; link = low; spacecraft = on.spacecraft; channel = on.channel; map = on.map }),
+            (record {
+              number_small = small.0;
+              link = low;
+              spacecraft = on.spacecraft;
+              channel = on.channel;
+              map = on.map;
+            }),
       );
       less = subst (λ (q : PlanLines). room q + 1 ≤ room plan) (ok_is _ next b.onward) (omega (arith, fewer));
     }
@@ -270,7 +324,8 @@ channel_spends n plan next words e =
 abbrev SpendsAs : ℕ → PlanLines → PlanLines → List (List ℕ) → List ℕ → Type 0
 SpendsAs n plan next words word = taken n plan (word ∷ words) ≡ Ok next → (length word ≤ 7) × Spends plan next words
 
-word_spends : (n : ℕ) (plan next : PlanLines) (words : List (List ℕ)) (word : List ℕ) → bytes_eq word (codes "key") ≡ false → bytes_eq word (codes "sa") ≡ false
+word_spends : (n : ℕ) (plan next : PlanLines) (words : List (List ℕ)) (word : List ℕ)
+    → bytes_eq word (codes "key") ≡ false → bytes_eq word (codes "sa") ≡ false
     → SpendsAs n plan next words word
 unfolding taken
 word_spends n plan next words word no_key no_sa = elim (is_word word (codes "sdls")) [
@@ -286,8 +341,19 @@ word_spends n plan next words word no_key no_sa = elim (is_word word (codes "sdl
           | inr no_accept ↦ elim (is_word word (codes "link")) [
             | inl is ↦ subst (SpendsAs n plan next words) (sym is) (λ e. (omega arith, link_spends n plan next words e))
             | inr no_link ↦ elim (is_word word (codes "channel")) [
-              | inl is ↦ subst (SpendsAs n plan next words) (sym is) (λ e. (omega arith, channel_spends n plan next words e))
-              | inr no_channel ↦ rw (no_key, no_sa, no_sdls, no_device, no_slots, no_block, no_accept, no_link, no_channel) (λ e. absurd cc)
+              | inl is ↦ subst (SpendsAs n plan next words) (sym is)
+                  (λ e. (omega arith, channel_spends n plan next words e))
+              | inr no_channel ↦ rw (
+                no_key,
+                no_sa,
+                no_sdls,
+                no_device,
+                no_slots,
+                no_block,
+                no_accept,
+                no_link,
+                no_channel,
+              ) (λ e. absurd cc)
             ]
           ]
         ]
@@ -300,7 +366,8 @@ either_false : (a b : Bool) → (a || b) ≡ false → (a ≡ false) × (b ≡ f
 either_false true b e = absurd cc
 either_false false b e = (refl, e)
 
-line_spends : (n : ℕ) (plan next : PlanLines) (words : List (List ℕ)) → names_rows words ≡ false → taken n plan words ≡ Ok next
+line_spends : (n : ℕ) (plan next : PlanLines) (words : List (List ℕ)) → names_rows words ≡ false
+    → taken n plan words ≡ Ok next
     → (cost words ≤ 128) × (room next + 1 ≤ room plan)
 unfolding taken
 line_spends n plan next [] named e = absurd cc
@@ -312,13 +379,15 @@ line_spends n plan next (word ∷ words) named e =
 -- ---- all lines, one after the other
 
 abbrev Fits : List (List ℕ) → Type 0
-Fits lines = (n : ℕ) (plan last : PlanLines) → after n plan lines ≡ Ok last → length (flat_map ended (filter is_bare lines)) ≤ 128 * room plan
+Fits lines = (n : ℕ) (plan last : PlanLines) → after n plan lines ≡ Ok last
+    → length (flat_map ended (filter is_bare lines)) ≤ 128 * room plan
 
 same_room : (plan next : PlanLines) → without_rows next ≡ without_rows plan → room next ≡ room plan
 unfolding room
 same_room plan next same = ap room same
 
-fits_on : (line : List ℕ) (lines : List (List ℕ)) (skipped named : Bool) → is_skipped line ≡ skipped → names_rows (words_of line) ≡ named
+fits_on : (line : List ℕ) (lines : List (List ℕ)) (skipped named : Bool) → is_skipped line ≡ skipped
+    → names_rows (words_of line) ≡ named
     → Fits lines → Fits (line ∷ lines)
 fits_on line lines true named is_so says others n plan last e = rw is_so (others (n + 1) plan last (rw is_so at e))
 fits_on line lines false true is_so says others n plan last e =
@@ -329,13 +398,23 @@ fits_on line lines false false is_so says others n plan last e =
     let split = took (taken n plan (words_of line)) (λ next. after (n + 1) next lines) last (rw is_so at e) in
     let spends = line_spends n plan split.first (words_of line) says split.is in
     let rest = others (n + 1) split.first last split.onward in
-    rw (is_so, says) (omega (arith, spends.0, spends.1, rest, words_cost line, length-append line (10 ∷ []), length-append (ended line) (flat_map ended (filter is_bare lines))))
+    rw (is_so, says) (omega (
+      arith,
+      spends.0,
+      spends.1,
+      rest,
+      words_cost line,
+      length-append line (10 ∷ []),
+      length-append (ended line) (flat_map ended (filter is_bare lines)),
+    ))
 
 fits : (lines : List (List ℕ)) → Fits lines
 fits [] n plan last e = omega arith
-fits (line ∷ lines) n plan last e = fits_on line lines (is_skipped line) (names_rows (words_of line)) refl refl (fits lines) n plan last e
+fits (line ∷ lines) n plan last e =
+    fits_on line lines (is_skipped line) (names_rows (words_of line)) refl refl (fits lines) n plan last e
 
-few_octets : (text : List ℕ) (plan : PlanLines) → after 1 no_lines (lines_of text) ≡ Ok plan → length (bare_of text) ≤ 10880
+few_octets : (text : List ℕ) (plan : PlanLines) → after 1 no_lines (lines_of text) ≡ Ok plan
+    → length (bare_of text) ≤ 10880
 unfolding room free
 few_octets text plan is = omega (arith, fits (lines_of text) 1 no_lines plan is)
 
@@ -344,5 +423,6 @@ bare_plan_is_short text plan is =
     let all = not_long (nat_lt 65536 (length text)) (after 1 no_lines (lines_of text)) plan is in
     omega (arith, few_octets text plan all)
 
-pub bare_plan_reads : (text : List ℕ) (plan : PlanLines) → plan_of text ≡ Ok plan → plan_of (bare_of text) ≡ Ok (without_rows plan)
+pub bare_plan_reads : (text : List ℕ) (plan : PlanLines) → plan_of text ≡ Ok plan
+    → plan_of (bare_of text) ≡ Ok (without_rows plan)
 bare_plan_reads text plan is = reads_if_short text plan is (bare_plan_is_short text plan is)

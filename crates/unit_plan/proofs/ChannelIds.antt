@@ -1,5 +1,6 @@
 -- Lists of channels: numbers that ascend up to 63. For the clauses of `are_channel_ids`.
-use Rattle.std.proofs.Common.{◌≡◌, ℕ, zero, suc, ◌+◌, ◌<◌, ◌≤◌, ◌↔◌, Bool, true, false, ◌&&◌, nat_le, List, [], ◌∷◌, length, get_or, refl, sym, subst, ◌∙◌, arith}
+use Rattle.std.proofs.Common.{◌≡◌, ℕ, zero, suc, ◌+◌, ◌<◌, ◌≤◌, ◌↔◌, Bool, true, false, ◌&&◌, nat_le, List, [], ◌∷◌}
+use Rattle.std.proofs.Common.{length, get_or, refl, sym, subst, ◌∙◌, arith}
 use Rattle.std.specs.List.{All, list_all}
 use Rattle.std.specs.Prelude.{IsTrue}
 use Rattle.std.proofs.lemmas.Bool.{false≢true}
@@ -28,7 +29,8 @@ next : (n m : ℕ) → (n + 1 ≤ m) × (m ≤ 63) → n < m
 next n m h = omega (arith, h.0)
 
 -- what the test says of each number
-each_from : (least : ℕ) (ns : List ℕ) → channels_from least ns ≡ true → (k d : ℕ) → k < length ns → (least ≤ get_or ns k d) × (get_or ns k d ≤ 63)
+each_from : (least : ℕ) (ns : List ℕ) → channels_from least ns ≡ true → (k d : ℕ) → k < length ns
+    → (least ≤ get_or ns k d) × (get_or ns k d ≤ 63)
 each_from least [] e k d low = absurd (omega arith)
 each_from least (n ∷ ns) e zero d low =
     let first = both _ _ e in
@@ -36,9 +38,11 @@ each_from least (n ∷ ns) e zero d low =
     (at_most _ _ first.0, at_most _ _ second.0)
 each_from least (n ∷ ns) e (suc k) d low =
     let within : k < length ns = omega arith in
-    above least n (get_or ns k d) (at_most _ _ (both _ _ e).0) (each_from (n + 1) ns (both _ _ (both _ _ e).1).1 k d within)
+    above least n (get_or ns k d) (at_most _ _ (both _ _ e).0)
+    (each_from (n + 1) ns (both _ _ (both _ _ e).1).1 k d within)
 
-rising_from : (least : ℕ) (ns : List ℕ) → channels_from least ns ≡ true → (k : ℕ) → suc k < length ns → get_or ns k 0 < get_or ns (suc k) 0
+rising_from : (least : ℕ) (ns : List ℕ) → channels_from least ns ≡ true → (k : ℕ) → suc k < length ns
+    → get_or ns k 0 < get_or ns (suc k) 0
 rising_from least [] e k low = absurd (omega arith)
 rising_from least (n ∷ ns) e zero low =
     let some : 0 < length ns = omega arith in
@@ -46,7 +50,9 @@ rising_from least (n ∷ ns) e zero low =
 rising_from least (n ∷ ns) e (suc k) low = rising_from (n + 1) ns (both _ _ (both _ _ e).1).1 k (omega arith)
 
 -- and back
-from_each : (least : ℕ) (ns : List ℕ) → (0 < length ns → least ≤ get_or ns 0 0) → ((k : ℕ) → suc k < length ns → get_or ns k 0 < get_or ns (suc k) 0) → ((k d : ℕ) → k < length ns → get_or ns k d ≤ 63) → channels_from least ns ≡ true
+from_each : (least : ℕ) (ns : List ℕ) → (0 < length ns → least ≤ get_or ns 0 0)
+    → ((k : ℕ) → suc k < length ns → get_or ns k 0 < get_or ns (suc k) 0)
+    → ((k d : ℕ) → k < length ns → get_or ns k d ≤ 63) → channels_from least ns ≡ true
 from_each least [] first rising each = refl
 from_each least (n ∷ ns) first rising each =
     and_both _ _ (at_most_test least n (first (omega arith)))
@@ -67,7 +73,8 @@ channel_ids_iff ns = (
         record {
           one = at_most _ _ one.0;
           most = at_most _ _ most.0;
-          ascending = λ k low. subst (λ n. get_or ns k 0 < get_or ns n 0) (sym (one_more k)) (rising_from 0 ns most.1 k (omega arith));
+          ascending = λ k low. subst (λ n. get_or ns k 0 < get_or ns n 0) (sym (one_more k))
+              (rising_from 0 ns most.1 k (omega arith));
         },
         λ k d low. (each_from 0 ns most.1 k d low).1,
       ),
@@ -89,7 +96,8 @@ small_of (n ∷ ns) e (suc k) d low = let within : k < length ns = omega arith i
 small_test : (ns : List ℕ) → ((k d : ℕ) → k < length ns → get_or ns k d ≤ 63) → list_all (λ n. nat_le n 63) ns ≡ true
 small_test [] small = refl
 small_test (n ∷ ns) small =
-    and_both _ _ (at_most_test n 63 (small zero 0 (omega arith))) (small_test ns (λ k d low. small (suc k) d (omega arith)))
+    and_both _ _ (at_most_test n 63 (small zero 0 (omega arith)))
+    (small_test ns (λ k d low. small (suc k) d (omega arith)))
 
 same_test : (a b : Bool) → (a ≡ true → b ≡ true) → (b ≡ true → a ≡ true) → a ≡ b
 same_test true true f g = refl
@@ -97,7 +105,8 @@ same_test true false f g = sym (f refl)
 same_test false true f g = g refl
 same_test false false f g = refl
 
-pub channel_ids_then : (ns : List ℕ) (all ids : Bool) → IsTrue all ↔ AreChannels ns → ids ≡ list_all (λ n. nat_le n 63) ns
+pub channel_ids_then : (ns : List ℕ) (all ids : Bool) → IsTrue all ↔ AreChannels ns
+    → ids ≡ list_all (λ n. nat_le n 63) ns
     → all ≡ true → ids ≡ are_channel_ids ns
 channel_ids_then ns all ids are same is = same_test ids (are_channel_ids ns)
     (λ e. (channel_ids_iff ns).1 (are.0 is, small_of ns (sym same ∙ e)))

@@ -1,5 +1,6 @@
 -- Decimal numbers, as they are read and as they are spelled.
-use Rattle.std.proofs.Common.{◌≡◌, ℕ, ◌-◌, ◌^◌, ◌<◌, List, length, get_or, true, Some, Result, Ok, Err, refl, sym, ap, ◌∙◌, inl, inr, arith, rules}
+use Rattle.std.proofs.Common.{◌≡◌, ℕ, ◌-◌, ◌^◌, ◌<◌, List, length, get_or, true, Some, Result, Ok, Err, refl, sym, ap}
+use Rattle.std.proofs.Common.{◌∙◌, inl, inr, arith, rules}
 use Rattle.std.specs.Char.{is_ascii_digit}
 use Rattle.std.specs.List.{list_all}
 use Rattle.std.specs.Result.{OkIff, result_unwrap_or}
@@ -11,7 +12,8 @@ use Rattle.std.proofs.lemmas.Bool.Decides.{nat_tests}
 use Rattle.std.proofs.lemmas.Option.{cond_some}
 use Rattle.std.proofs.lemmas.Str.{IsUtf8-from_ascii}
 use Rattle.std.proofs.lemmas.Str.Parse.{IsNumeralModel, numerals_by_value, parse_digits}
-use Rattle.std.proofs.lemmas.Fmt.{decimal-digits_value, digits_decimal, digits_value-decimal, decimal_nonempty, first_decimal, decimal_digit, IsAscii-from_digits}
+use Rattle.std.proofs.lemmas.Fmt.{decimal-digits_value, digits_decimal, digits_value-decimal, decimal_nonempty}
+use Rattle.std.proofs.lemmas.Fmt.{first_decimal, decimal_digit, IsAscii-from_digits}
 use Rattle.unit_plan.specs.Number.{is_decimal, held, number_of}
 
 -- the test of digits, in the words of std's lemmas
@@ -25,7 +27,11 @@ record Parts (word : List ℕ) : Type 0 where
   digits : list_all is_ascii_digit word ≡ true
 
 parts_of : (word : List ℕ) → is_decimal word ≡ true → Parts word
-parts_of word is = record { some = grind (arith, nat_tests); leading = grind (arith, nat_tests); digits = grind (arith, nat_tests) }
+parts_of word is = record {
+  some = grind (arith, nat_tests);
+  leading = grind (arith, nat_tests);
+  digits = grind (arith, nat_tests);
+}
 
 from_parts : (word : List ℕ) → Parts word → is_decimal word ≡ true
 from_parts word p = let s = p.some in let l = p.leading in let d = p.digits in grind (arith, nat_tests)

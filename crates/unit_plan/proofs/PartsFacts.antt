@@ -1,5 +1,6 @@
 -- The first part of a list, and the others.
-use Rattle.std.proofs.Common.{◌≡◌, ◌≢◌, ℕ, zero, suc, ◌+◌, ◌-◌, ◌<◌, ◌≤◌, List, [], ◌∷◌, length, take, drop, get_or, refl, ap, Option, Some, None, unwrap_or, arith, eq-eqb, inl, inr}
+use Rattle.std.proofs.Common.{◌≡◌, ◌≢◌, ℕ, zero, suc, ◌+◌, ◌-◌, ◌<◌, ◌≤◌, List, [], ◌∷◌, length, take, drop, get_or}
+use Rattle.std.proofs.Common.{refl, ap, Option, Some, None, unwrap_or, arith, eq-eqb, inl, inr}
 use Rattle.std.proofs.lemmas.Bool.{ne_eqb, cases_eq}
 use Rattle.std.proofs.lemmas.Grind.{common_steps}
 use Rattle.std.specs.List.{onto_first}
@@ -68,11 +69,13 @@ first_part_read mark last xs at inside lacks found =
 -- a text has no more lines than octets
 onto_few : (x n : ℕ) (ps : List (List ℕ)) → length ps ≤ n → length (onto_first x ps) ≤ n + 1
 onto_few x n [] few = omega arith
-onto_few x n (p ∷ ps) few = let one : length ((x ∷ p) ∷ ps) ≡ length ps + 1 = grind arith in let same : length (p ∷ ps) ≡ length ps + 1 = grind arith in omega arith
+onto_few x n (p ∷ ps) few = let one : length ((x ∷ p) ∷ ps) ≡ length ps + 1 = grind arith in
+    let same : length (p ∷ ps) ≡ length ps + 1 = grind arith in omega arith
 
 pub few_parts : (mark : ℕ) (xs : List ℕ) → length (parts mark [] xs) ≤ length xs
 few_parts mark [] = omega arith
 few_parts mark (x ∷ xs) = elim (cases_eq x mark) [
   | inl is ↦ rw (is, eq-eqb mark mark refl) (let more = few_parts mark xs in grind arith)
-  | inr not ↦ rw (ne_eqb x mark not) (let more = onto_few x (length xs) (parts mark [] xs) (few_parts mark xs) in grind arith)
+  | inr not ↦ rw (ne_eqb x mark not) (let more = onto_few x (length xs) (parts mark [] xs) (few_parts mark xs) in
+      grind arith)
 ]

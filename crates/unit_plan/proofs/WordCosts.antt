@@ -1,5 +1,7 @@
 -- How many octets the words of a line take that is read: for `bare_plan_reads`.
-use Rattle.std.proofs.Common.{◌≡◌, ℕ, suc, ◌+◌, ◌*◌, ◌-◌, ◌/◌, ◌%◌, ◌^◌, ◌<◌, ◌≤◌, ◌⊎◌, Bool, true, false, List, [], ◌∷◌, length, Option, Some, None, Result, Err, refl, sym, ap, ◌∙◌, subst, arith, inl, inr, min}
+use Rattle.std.proofs.Common.{◌≡◌, ℕ, suc, ◌+◌, ◌*◌, ◌-◌, ◌/◌, ◌%◌, ◌^◌, ◌<◌, ◌≤◌, ◌⊎◌, Bool, true, false, List, []}
+use Rattle.std.proofs.Common.{◌∷◌, length, Option, Some, None, Result, Err, refl, sym, ap, ◌∙◌, subst, arith, inl, inr}
+use Rattle.std.proofs.Common.{min}
 use Rattle.std.specs.Prelude.{◌==◌, ◌&&◌, nat_le, if◌then◌else◌, codes}
 use Rattle.std.specs.List.{onto_first}
 use Rattle.std.specs.Option.{option_map}
@@ -17,7 +19,8 @@ use Rattle.unit_plan.specs.Number.{number_of}
 use Rattle.unit_plan.specs.Reading.{◌>>=◌, first_of, past, end_of, ok_of}
 use Rattle.unit_plan.specs.Field.{decimal_at, capped_at, optional, optional_at, choice, choice_at, decoded}
 use Rattle.unit_plan.specs.LineForm.{version_said, device_said, number_said}
-use Rattle.unit_plan.specs.LinkLine.{mask_of, mask_said, mask_at, tc_at, tm_at, aos_at, frame_of, frame_at, link_said, is_layout}
+use Rattle.unit_plan.specs.LinkLine.{mask_of, mask_said, mask_at, tc_at, tm_at, aos_at, frame_of, frame_at, link_said}
+use Rattle.unit_plan.specs.LinkLine.{is_layout}
 use Rattle.unit_plan.specs.ChannelLine.{channel_said}
 use Rattle.unit_plan.specs.declared.channel_line.Place.{Place}
 
@@ -34,7 +37,9 @@ pub words_cost : (line : List ℕ) → cost (words_of line) ≡ length line + 1
 words_cost [] = grind arith
 words_cost (x ∷ xs) = elim (cases_eq x 32) [
   | inl is ↦ rw is (omega (arith, words_cost xs))
-  | inr other ↦ rw (ne_eqb x 32 other) (onto_cost x (length xs) (words_of xs) (words_cost xs) ∙ (let same : length xs + 2 ≡ suc (length xs) + 1 = omega arith in same))
+  | inr other ↦
+      rw (ne_eqb x 32 other) (onto_cost x (length xs) (words_of xs) (words_cost xs)
+      ∙ (let same : length xs + 2 ≡ suc (length xs) + 1 = omega arith in same))
 ]
 
 -- ---- one reading after the other
@@ -51,10 +56,11 @@ got (Some a) f b e = record { first = a; is = refl; onward = e }
 some_same : {A : Type 0} (a b : A) → Some a ≡ Some b → a ≡ b
 some_same a b e = cc
 
-record OneWord {X : Type 0} (f : List ℕ → Option X) (words : List (List ℕ)) (x : X) (rest : List (List ℕ)) : Type 0 where
-  word : List ℕ
-  is : words ≡ word ∷ rest
-  read : f word ≡ Some x
+record OneWord {X : Type 0} (f : List ℕ → Option X) (words : List (List ℕ)) (x : X) (rest : List (List ℕ)) : Type 0
+  where
+    word : List ℕ
+    is : words ≡ word ∷ rest
+    read : f word ≡ Some x
 
 abbrev read_to : {X : Type 0} → X → List (List ℕ) → Option (X × List (List ℕ))
 read_to x rest = Some (x, rest)
@@ -65,24 +71,35 @@ one_word f [] x rest e = absurd cc
 one_word {X} f (word ∷ words) x rest e =
     let g = got (f word) (λ n. read_to n words) (x, rest) e in
     let same = some_same (g.first, words) (x, rest) g.onward in
-    record { word = word; is = ap (λ (s : List (List ℕ)). word ∷ s) (λ i. (same i).1); read = g.is ∙ ap Some (λ i. (same i).0) }
+    record {
+      word = word;
+      is = ap (λ (s : List (List ℕ)). word ∷ s) (λ i. (same i).1);
+      read = g.is ∙ ap Some (λ i. (same i).0);
+    }
 
-word_cost : (words rest : List (List ℕ)) (word : List ℕ) (k : ℕ) → words ≡ word ∷ rest → length word ≤ k → cost words ≤ k + 1 + cost rest
+word_cost : (words rest : List (List ℕ)) (word : List ℕ) (k : ℕ) → words ≡ word ∷ rest → length word ≤ k
+    → cost words ≤ k + 1 + cost rest
 word_cost words rest word k is short = omega (arith, ap cost is, short)
 
 -- ---- fields
 
 number_short : (word : List ℕ) (n : ℕ) → number_of word ≡ Some n → n < 2 ^ 64 - 1 → length word ≤ 20
 number_short word n read small =
-    omega (arith, ap length (decimal-number_of word n read small), length-decimal-le 20 n (omega arith) (omega (arith, small)) (omega (arith, small)))
+    omega (
+      arith,
+      ap length (decimal-number_of word n read small),
+      length-decimal-le 20 n (omega arith) (omega (arith, small)) (omega (arith, small)),
+    )
 
-pub decimal_cost : (words rest : List (List ℕ)) (n : ℕ) → decimal_at words ≡ Some (n, rest) → n < 2 ^ 64 - 1 → cost words ≤ 21 + cost rest
+pub decimal_cost : (words rest : List (List ℕ)) (n : ℕ) → decimal_at words ≡ Some (n, rest) → n < 2 ^ 64 - 1
+    → cost words ≤ 21 + cost rest
 unfolding decimal_at
 decimal_cost words rest n e small =
     let w = one_word number_of words n rest e in
     word_cost words rest w.word 20 w.is (number_short w.word n w.read small)
 
-pub capped_cost : (most : ℕ) (words rest : List (List ℕ)) (n : ℕ) → most ≤ 65535 → capped_at most words ≡ Some (n, rest) → n < most → cost words ≤ 21 + cost rest
+pub capped_cost : (most : ℕ) (words rest : List (List ℕ)) (n : ℕ) → most ≤ 65535 → capped_at most words ≡ Some (n, rest)
+    → n < most → cost words ≤ 21 + cost rest
 unfolding capped_at
 capped_cost most words rest n low e small =
     let g = got (decimal_at words) (λ m. Some (min m.0 most, m.1)) (n, rest) e in
@@ -98,7 +115,8 @@ is_word word text = told (bytes_eq word text) (bytes_eq-Decides word text).0 whe
   told true is = inl (is refl)
   told false is = inr refl
 
-choice_short : (first second word : List ℕ) (is : Bool) → length first ≤ 6 → length second ≤ 6 → choice first second word ≡ Some is → length word ≤ 6
+choice_short : (first second word : List ℕ) (is : Bool) → length first ≤ 6 → length second ≤ 6
+    → choice first second word ≡ Some is → length word ≤ 6
 choice_short first second word is short also e = elim (is_word word first) [
   | inl same ↦ omega (arith, ap length same, short)
   | inr other ↦ elim (is_word word second) [
@@ -125,7 +143,8 @@ decoded_short count word octets e =
     let half = decoded_half (length word % 2 == 1) (length word / 2 == count) _ _ _ octets e in
     grind (arith, nat_tests)
 
-mask_short : (usual mask : Mask) (word : List ℕ) → usual.length ≤ 6 → mask_said usual word ≡ Some mask → length word ≤ 13
+mask_short : (usual mask : Mask) (word : List ℕ) → usual.length ≤ 6 → mask_said usual word ≡ Some mask
+    → length word ≤ 13
 mask_short usual mask word small e = elim (is_word word (codes "-")) [
   | inl same ↦ omega (arith, ap length same)
   | inr other ↦ (
@@ -134,11 +153,13 @@ mask_short usual mask word small e = elim (is_word word (codes "-")) [
       omega (arith, decoded_short usual.length word g.0 g.1, small)
       )
 ] where
-  mapped_from : (o : Option (List ℕ)) (f : List ℕ → Mask) (m : Mask) → option_map f o ≡ Some m → (octets : List ℕ) × (o ≡ Some octets)
+  mapped_from : (o : Option (List ℕ)) (f : List ℕ → Mask) (m : Mask) → option_map f o ≡ Some m
+      → (octets : List ℕ) × (o ≡ Some octets)
   mapped_from None f m e = absurd cc
   mapped_from (Some octets) f m e = (octets, refl)
 
-mask_cost : (usual mask : Mask) (words rest : List (List ℕ)) → usual.length ≤ 6 → mask_at usual words ≡ Some (mask, rest) → cost words ≤ 14 + cost rest
+mask_cost : (usual mask : Mask) (words rest : List (List ℕ)) → usual.length ≤ 6
+    → mask_at usual words ≡ Some (mask, rest) → cost words ≤ 14 + cost rest
 unfolding mask_at
 mask_cost usual mask words rest small e =
     let w = one_word (mask_said usual) words mask rest e in
@@ -162,7 +183,8 @@ tc_cost words rest link e =
     let c = got (mask_at (usual_tc a.first.0) b.first.1) _ (link, rest) b.onward in
     let left : c.first.1 ≡ rest = λ i. (some_same _ _ c.onward i).1 in
     let one = choice_cost (codes "seg") (codes "noseg") words a.first.1 a.first.0 (omega arith) (omega arith) a.is in
-    let two = choice_cost (codes "fecf") (codes "nofecf") a.first.1 b.first.1 b.first.0 (omega arith) (omega arith) b.is in
+    let two = choice_cost (codes "fecf") (codes "nofecf") a.first.1 b.first.1 b.first.0 (omega arith) (omega arith)
+    b.is in
     let three = mask_cost (usual_tc a.first.0) c.first.0 b.first.1 c.first.1 (usual_short a.first.0) c.is in
     omega (arith, one, two, three, ap cost left)
 
@@ -170,7 +192,8 @@ pub both_true : (a b : Bool) → (a && b) ≡ true → (a ≡ true) × (b ≡ tr
 both_true true b e = (refl, e)
 both_true false b e = absurd cc
 
-tm_cost : (words rest : List (List ℕ)) (link : Link) → tm_at words ≡ Some (link, rest) → is_layout link.layout ≡ true → cost words ≤ 60 + cost rest
+tm_cost : (words rest : List (List ℕ)) (link : Link) → tm_at words ≡ Some (link, rest) → is_layout link.layout ≡ true
+    → cost words ≤ 60 + cost rest
 unfolding tm_at
 tm_cost words rest link e layout =
     let a = got (capped_at 65535 words) _ (link, rest) e in
@@ -182,11 +205,13 @@ tm_cost words rest link e layout =
     let most = (both_true (nat_le 48 a.first.0) (nat_le a.first.0 2048) bounds).1 in
     let small : a.first.0 ≤ 2048 = grind (arith, nat_tests) in
     let one = capped_cost 65535 words a.first.1 a.first.0 (omega arith) a.is (omega (arith, small)) in
-    let two = choice_cost (codes "fecf") (codes "nofecf") a.first.1 b.first.1 b.first.0 (omega arith) (omega arith) b.is in
+    let two = choice_cost (codes "fecf") (codes "nofecf") a.first.1 b.first.1 b.first.0 (omega arith) (omega arith)
+    b.is in
     let three = mask_cost usual_tm c.first.0 b.first.1 c.first.1 (omega arith) c.is in
     omega (arith, one, two, three, ap cost left)
 
-aos_cost : (words rest : List (List ℕ)) (link : Link) → aos_at words ≡ Some (link, rest) → is_layout link.layout ≡ true → cost words ≤ 90 + cost rest
+aos_cost : (words rest : List (List ℕ)) (link : Link) → aos_at words ≡ Some (link, rest) → is_layout link.layout ≡ true
+    → cost words ≤ 90 + cost rest
 unfolding aos_at
 aos_cost words rest link e layout =
     let a = got (capped_at 65535 words) _ (link, rest) e in
@@ -204,32 +229,40 @@ aos_cost words rest link e layout =
     let low : i.first.0 ≤ 64 = grind (arith, nat_tests) in
     let one = capped_cost 65535 words a.first.1 a.first.0 (omega arith) a.is (omega (arith, small)) in
     let insert = capped_cost 255 a.first.1 i.first.1 i.first.0 (omega arith) i.is (omega (arith, low)) in
-    let ocf = choice_cost (codes "ocf") (codes "noocf") i.first.1 o.first.1 o.first.0 (omega arith) (omega arith) o.is in
-    let two = choice_cost (codes "fecf") (codes "nofecf") o.first.1 b.first.1 b.first.0 (omega arith) (omega arith) b.is in
+    let ocf = choice_cost (codes "ocf") (codes "noocf") i.first.1 o.first.1 o.first.0 (omega arith) (omega arith)
+    o.is in
+    let two = choice_cost (codes "fecf") (codes "nofecf") o.first.1 b.first.1 b.first.0 (omega arith) (omega arith)
+    b.is in
     let three = mask_cost usual_aos c.first.0 b.first.1 c.first.1 (omega arith) c.is in
     omega (arith, one, insert, ocf, two, three, ap cost left)
 
-frame_cost : (kind : List ℕ) (words rest : List (List ℕ)) (link : Link) → frame_of kind words ≡ Some (link, rest) → is_layout link.layout ≡ true
+frame_cost : (kind : List ℕ) (words rest : List (List ℕ)) (link : Link) → frame_of kind words ≡ Some (link, rest)
+    → is_layout link.layout ≡ true
     → (cost words ≤ 90 + cost rest) × (length kind ≤ 3)
 frame_cost kind words rest link e layout = elim (is_word kind (codes "tc")) [
-  | inl same ↦ (let own = subst (λ (k : List ℕ). frame_of k words ≡ Some (link, rest)) same e in (omega (arith, tc_cost words rest link own), omega (arith, ap length same)))
+  | inl same ↦ (let own = subst (λ (k : List ℕ). frame_of k words ≡ Some (link, rest)) same e in
+      (omega (arith, tc_cost words rest link own), omega (arith, ap length same)))
   | inr no_tc ↦ elim (is_word kind (codes "tm")) [
-    | inl same ↦ (let own = subst (λ (k : List ℕ). frame_of k words ≡ Some (link, rest)) same e in (omega (arith, tm_cost words rest link own layout), omega (arith, ap length same)))
+    | inl same ↦ (let own = subst (λ (k : List ℕ). frame_of k words ≡ Some (link, rest)) same e in
+        (omega (arith, tm_cost words rest link own layout), omega (arith, ap length same)))
     | inr no_tm ↦ elim (is_word kind (codes "aos")) [
-      | inl same ↦ (let own = subst (λ (k : List ℕ). frame_of k words ≡ Some (link, rest)) same e in (aos_cost words rest link own layout, omega (arith, ap length same)))
+      | inl same ↦ (let own = subst (λ (k : List ℕ). frame_of k words ≡ Some (link, rest)) same e in
+          (aos_cost words rest link own layout, omega (arith, ap length same)))
       | inr no_aos ↦ (let none = rw (no_tc, no_tm, no_aos) at e in absurd cc)
     ]
   ]
 ]
 
-link_at_cost : (words rest : List (List ℕ)) (link : Link) → frame_at words ≡ Some (link, rest) → is_layout link.layout ≡ true → cost words ≤ 94 + cost rest
+link_at_cost : (words rest : List (List ℕ)) (link : Link) → frame_at words ≡ Some (link, rest)
+    → is_layout link.layout ≡ true → cost words ≤ 94 + cost rest
 unfolding frame_at
 link_at_cost [] rest link e layout = absurd cc
 link_at_cost (kind ∷ words) rest link e layout =
     let both = frame_cost kind words rest link e layout in
     omega (arith, both.0, both.1)
 
-pub link_cost : (words : List (List ℕ)) (said : ℕ × Link) → link_said words ≡ Some said → said.0 ≤ 15 → is_layout said.1.layout ≡ true → cost words ≤ 115
+pub link_cost : (words : List (List ℕ)) (said : ℕ × Link) → link_said words ≡ Some said → said.0 ≤ 15
+    → is_layout said.1.layout ≡ true → cost words ≤ 115
 unfolding link_said
 link_cost words said e low layout =
     let a = got (capped_at 255 words) _ said e in
@@ -260,7 +293,8 @@ optional_short word map e small = elim (is_word word (codes "-")) [
       )
 ]
 
-optional_cost : (words rest : List (List ℕ)) (map : Option ℕ) → optional_at words ≡ Some (map, rest) → IsSmall map → cost words ≤ 21 + cost rest
+optional_cost : (words rest : List (List ℕ)) (map : Option ℕ) → optional_at words ≡ Some (map, rest) → IsSmall map
+    → cost words ≤ 21 + cost rest
 unfolding optional_at
 optional_cost words rest map e small =
     let w = one_word optional words map rest e in
@@ -273,7 +307,8 @@ pub record IsSmallPlace (number : ℕ) (place : Place) : Type 0 where
   pub channel : place.channel ≤ 63
   pub map : IsSmall place.map
 
-pub channel_cost : (words : List (List ℕ)) (said : ℕ × Place) → channel_said words ≡ Some said → IsSmallPlace said.0 said.1 → cost words ≤ 105
+pub channel_cost : (words : List (List ℕ)) (said : ℕ × Place) → channel_said words ≡ Some said
+    → IsSmallPlace said.0 said.1 → cost words ≤ 105
 unfolding channel_said
 channel_cost words said e small =
     let a = got (capped_at 255 words) _ said e in
@@ -312,4 +347,8 @@ number_cost words n e small =
     let a = got (decimal_at words) _ n e in
     let b = got (end_of a.first.1) _ n a.onward in
     let same = some_same _ _ b.onward in
-    omega (arith, decimal_cost words a.first.1 a.first.0 a.is (omega (arith, same, small)), end_cost a.first.1 b.first b.is)
+    omega (
+      arith,
+      decimal_cost words a.first.1 a.first.0 a.is (omega (arith, same, small)),
+      end_cost a.first.1 b.first b.is,
+    )

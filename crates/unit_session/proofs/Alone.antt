@@ -1,5 +1,6 @@
 -- One put by the one worker of a unit: for the clauses of `put_alone`.
-use Rattle.std.proofs.Common.{◌≡◌, ℕ, zero, suc, ◌+◌, ◌-◌, ◌≤◌, eqb, Bool, false, List, [], ◌∷◌, ◌++◌, length, take, drop, refl, sym, ◌∙◌, ap, subst, arith, append-nil, length-append, Result, Ok, Err, cond}
+use Rattle.std.proofs.Common.{◌≡◌, ℕ, zero, suc, ◌+◌, ◌-◌, ◌≤◌, eqb, Bool, false, List, [], ◌∷◌, ◌++◌, length, take}
+use Rattle.std.proofs.Common.{drop, refl, sym, ◌∙◌, ap, subst, arith, append-nil, length-append, Result, Ok, Err, cond}
 use Rattle.std.specs.Prelude.{OnErr, IfErr}
 use Rattle.std.proofs.lemmas.Bool.Decides.{nat_tests}
 use Rattle.std.proofs.Math.Seq.{drop-append_seam, take-append-add}
@@ -48,7 +49,8 @@ own_front (suc k) (octet ∷ octets) = ap (λ (l : List ℕ). octet ∷ l) (own_
 -- behind other octets a front of these is a front
 front_behind : (base octets : List ℕ) (k : ℕ) → Between base (base ++ octets) (base ++ take k octets)
 front_behind base octets k =
-    let size : length (base ++ take k octets) ≡ length base + length (take k octets) = length-append base (take k octets) in
+    let size : length (base ++ take k octets) ≡ length base + length (take k octets) =
+    length-append base (take k octets) in
     record {
       least = omega arith;
       prefix = sym (ap (λ (n : ℕ). take n (base ++ octets)) size ∙ take-append-add base octets (length (take k octets))
@@ -56,26 +58,30 @@ front_behind base octets k =
     }
 
 -- what was sunk between two times was put behind other octets
-sunk_adds : {T E : Type 0} → (octets base : List ℕ) (result : Result T E) (old new : Trace) → sites.Puts octets result old new
+sunk_adds : {T E : Type 0} → (octets base : List ℕ) (result : Result T E) (old new : Trace)
+    → sites.Puts octets result old new
     → Adds octets result base (base ++ sunk_between old new)
 sunk_adds {T} {E} octets base result old new puts = go result (puts_adds octets result old new puts)
   where
     go : (r : Result T E) → Adds octets r old.now.sunk new.now.sunk → Adds octets r base (base ++ sunk_between old new)
-    go (Ok value) is = ap (λ (l : List ℕ). base ++ l) (ap (drop (length old.now.sunk)) is ∙ drop-append_seam old.now.sunk octets)
+    go (Ok value) is =
+        ap (λ (l : List ℕ). base ++ l) (ap (drop (length old.now.sunk)) is ∙ drop-append_seam old.now.sunk octets)
     go (Err error) between =
         let n : ℕ = length new.now.sunk - length old.now.sunk in
         let low = between.least in
         let size : length new.now.sunk ≡ length old.now.sunk + n = omega arith in
         let is : new.now.sunk ≡ old.now.sunk ++ take n octets =
         between.prefix ∙ ap (λ (k : ℕ). take k (old.now.sunk ++ octets)) size ∙ take-append-add old.now.sunk octets n in
-        let piece : sunk_between old new ≡ take n octets = ap (drop (length old.now.sunk)) is ∙ drop-append_seam old.now.sunk (take n octets) in
+        let piece : sunk_between old new ≡ take n octets =
+        ap (drop (length old.now.sunk)) is ∙ drop-append_seam old.now.sunk (take n octets) in
         subst (λ (l : List ℕ). Between base (base ++ octets) (base ++ l)) (sym piece) (front_behind base octets n)
 
 -- one line more at the end of a log, of which each place was made once
 stands_one : (n x : ℕ) → stands x (places n 1) ≡ cond (eqb n x) 1 0
 stands_one n x = omega arith
 
-made_one_more : (made : List ℕ) (n : ℕ) → ((x : ℕ) → stands x made ≡ once_below x n) → (x : ℕ) → stands x (made ++ places n 1) ≡ once_below x (n + 1)
+made_one_more : (made : List ℕ) (n : ℕ) → ((x : ℕ) → stands x made ≡ once_below x n) → (x : ℕ)
+    → stands x (made ++ places n 1) ≡ once_below x (n + 1)
 made_one_more made n each x =
     let a = each x in let b = stands_both x made (places n 1) in let c = stands_one n x in
     grind (arith, nat_tests)
@@ -112,17 +118,21 @@ module _ (told : Bool) (octets : List ℕ) (result : Result (Unit {0}) BookFault
     rows = λ row low. subst (λ (n : _). (next : ℕ) × RowStands row next n) (sym numbers) (whole.rows row low);
     made = λ x.
         let size : length given.log - length found.log ≡ 1 =
-        (let a = ap length given_log in let b = length-append (log_of v) (lines.Piece piece ∷ []) in let c = ap length known.log in omega arith) in
+        (let a = ap length given_log in let b = length-append (log_of v) (lines.Piece piece ∷ []) in
+        let c = ap length known.log in omega arith) in
         let from : length found.log ≡ length (log_of v) = ap length known.log in
         let made_is : w.turn.made ≡ v.turn.made ++ places (length (log_of v)) 1 =
         ap (λ (t : Turn). t.made) visits.takes.turn
         ∙ ap (λ (n : ℕ). v.turn.made ++ places n (length given.log - length found.log)) from
         ∙ ap (λ (n : ℕ). v.turn.made ++ places (length (log_of v)) n) size in
-        let long : length (log_of w) ≡ length (log_of v) + 1 = ap length log_is ∙ length-append (log_of v) (lines.Piece piece ∷ []) in
-        ap (stands x) made_is ∙ made_one_more v.turn.made (length (log_of v)) whole.made x ∙ ap (once_below x) (sym long);
+        let long : length (log_of w) ≡ length (log_of v) + 1 =
+        ap length log_is ∙ length-append (log_of v) (lines.Piece piece ∷ []) in
+        ap (stands x) made_is ∙ made_one_more v.turn.made (length (log_of v)) whole.made x
+        ∙ ap (once_below x) (sym long);
   }
 
-  rose_from : (r : Result (Unit {0}) BookFault) → IfErr r (PutFails found.site.faults given.site.faults) → OnErr r (Rose found.site.faults given.site.faults)
+  rose_from : (r : Result (Unit {0}) BookFault) → IfErr r (PutFails found.site.faults given.site.faults)
+      → OnErr r (Rose found.site.faults given.site.faults)
   rose_from (Ok done) h = tt
   rose_from (Err (SiteFault count)) h = h.0
   rose_from (Err (Stopped count)) h = absurd h
@@ -139,18 +149,23 @@ module _ (told : Bool) (octets : List ℕ) (result : Result (Unit {0}) BookFault
       omega arith
 
   module _ (works : (begin : Begin) (tasks : List Record) → Visited told begin found given v w → Worked begin v w tasks)
-      (settles : (begin : Begin) → Visited told begin found given v w → SettlesAt begin v w given.standing found.standing (length found.log)) where
+      (settles : (begin : Begin) → Visited told begin found given v w
+      → SettlesAt begin v w given.standing found.standing (length found.log)) where
     visited : (begin : Begin) → BeganWith told begin v.turn.known.opening → Visited told begin found given v w
     visited begin began = record { began = began; free = free; visits = visits; numbers = numbers }
 
     puts_one : (begin : Begin) → BeganWith told begin v.turn.known.opening → PutsPieces begin v w
-    puts_one begin began = record { does = does_unanswered begin v w [] (works begin [] (visited begin began)); entries = entries_are }
+    puts_one begin began = record {
+      does = does_unanswered begin v w [] (works begin [] (visited begin began));
+      entries = entries_are;
+    }
 
     settles_one : (begin : Begin) → BeganWith told begin v.turn.known.opening → SettlesAll begin v w
     settles_one begin began = record {
       entries = found.standing;
       lines = length found.log;
-      at = subst (λ (n : ℕ). SettlesAt begin v w n found.standing (length found.log)) (sym (ap (λ (k : Known). k.standing) known_is))
+      at = subst (λ (n : ℕ). SettlesAt begin v w n found.standing (length found.log))
+          (sym (ap (λ (k : Known). k.standing) known_is))
           (settles begin (visited begin began));
       standing = let a = known.standing in omega arith;
       before =
@@ -164,7 +179,8 @@ module _ (told : Bool) (octets : List ℕ) (result : Result (Unit {0}) BookFault
     put_one = record {
       leaves = record {
         opening = opening_is;
-        counted = ap (λ (k : Known). k.put_faults) known_is ∙ put.counted ∙ ap (sites.after_put result) known.put_faults;
+        counted = ap (λ (k : Known). k.put_faults) known_is ∙ put.counted ∙ ap (sites.after_put result)
+            known.put_faults;
         rose = rose_since result (rose_from result put.fault) visits.found_kept.later;
         puts = puts_one;
         numbers = numbers;

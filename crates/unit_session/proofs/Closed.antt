@@ -31,8 +31,10 @@ use Rattle.run_promise.specs.declared.end.RunEnd.{RunEnd}
 use Rattle.unit_session.specs.Running.{RunsUnit}
 
 -- the octets sunk stand where they stood while the image is opened
-pub opened_sunk : (old new : Trace) → EachMoment old new (Opening old) → Leaves new.now new.now.image → new.now.sunk ≡ old.now.sunk
-opened_sunk old new each leaves = (each.each new.now.image new.now.sunk (moment_now new (clock old) new.now.image leaves)).1
+pub opened_sunk : (old new : Trace) → EachMoment old new (Opening old) → Leaves new.now new.now.image
+    → new.now.sunk ≡ old.now.sunk
+opened_sunk old new each leaves =
+    (each.each new.now.image new.now.sunk (moment_now new (clock old) new.now.image leaves)).1
 
 -- the image that is known of stays while End is put
 image_stays : (told : Bool) (came end : RunEnd) (old new : BookView) (status : ℕ)
@@ -40,7 +42,8 @@ image_stays : (told : Bool) (came end : RunEnd) (old new : BookView) (status : �
 image_stays told came end old new status (inl (came_is, same, status_is)) = ap (λ (b : BookView). b.image) same
 image_stays told came end old new status (inr (came_is, put)) = ap (λ (b : BookView). b.image) put.made
 
-module _ {B : Type 0} (told : Bool) (site after : SiteSeen) (opened : BookView) (counters : Counters B) (plan : PlanLines)
+module _ {B : Type 0} (told : Bool) (site after : SiteSeen) (opened : BookView) (counters : Counters B)
+    (plan : PlanLines)
     (worker : Worker B) (here : BookIsOpened told site opened) (begins : Begins opened counters plan worker)
     (source source_after : SourceSeen) (entries : List Entry) (status : ℕ)
     (runs : RunsUnit told site.faults source source_after (view worker) after entries status) where
@@ -61,17 +64,20 @@ module _ {B : Type 0} (told : Bool) (site after : SiteSeen) (opened : BookView) 
   trail_is = ap (λ (o : openings.Opening). o.trail) same_opening ∙ ap (λ (b : BookView). b.opened.trace) here.begun_is
 
   faults_are : runs.book.opened.faults ≡ site.faults
-  faults_are = ap (λ (o : openings.Opening). o.faults) same_opening ∙ ap (λ (b : BookView). b.opened.faults) here.begun_is ∙ here.stood
+  faults_are = ap (λ (o : openings.Opening). o.faults) same_opening ∙ ap (λ (b : BookView). b.opened.faults)
+      here.begun_is ∙ here.stood
 
   pub says : IsTrue told → plan_of (held site.trace.now.image).plan ≡ Ok runs.book.plan
-  says is_told = subst (λ (p : PlanLines). plan_of (held site.trace.now.image).plan ≡ Ok p) (sym plan_is) (here.plan is_told)
+  says is_told = subst (λ (p : PlanLines). plan_of (held site.trace.now.image).plan ≡ Ok p) (sym plan_is)
+      (here.plan is_told)
 
   shows : IsTrue told → Shows site.trace.now.image runs.book.start
   shows is_told = subst (Shows site.trace.now.image) (sym start_is) (here.shows is_told).0
 
   began : BeganWith told (begin_by told runs.book.plan runs.book.start) (view worker).turn.known.opening
   began =
-      let first : (known_of_book runs.book).opening ≡ (view worker).turn.known.opening = runs.closes.follows.opening ∙ runs.opening in
+      let first : (known_of_book runs.book).opening ≡ (view worker).turn.known.opening =
+      runs.closes.follows.opening ∙ runs.opening in
       record {
         rows = refl;
         tells = refl;
@@ -83,12 +89,16 @@ module _ {B : Type 0} (told : Bool) (site after : SiteSeen) (opened : BookView) 
       site.put_faults runs.book.site.put_faults runs.book.standing runs.came
   come =
       let before : (view worker).turn.known.put_faults ≡ site.put_faults = begins.put_faults ∙ here.puts_same in
-      subst (λ (n : ℕ). HasCome source source_after (begin_by told runs.book.plan runs.book.start) (view worker) runs.now
+      subst (λ (n : ℕ). HasCome source source_after (begin_by told runs.book.plan runs.book.start) (view worker)
+      runs.now
       n runs.book.site.put_faults runs.book.standing runs.came) before
-      (subst (λ (n : ℕ). HasCome source source_after (begin_by told runs.book.plan runs.book.start) (view worker) runs.now
+      (subst (λ (n : ℕ). HasCome source source_after (begin_by told runs.book.plan runs.book.start) (view worker)
+      runs.now
       (view worker).turn.known.put_faults n runs.book.standing runs.came) (sym runs.closes.as_known.put_faults)
-      (subst (λ (n : ℕ). HasCome source source_after (begin_by told runs.book.plan runs.book.start) (view worker) runs.now
-      (view worker).turn.known.put_faults runs.now.turn.known.put_faults n runs.came) (sym runs.closes.as_known.standing)
+      (subst (λ (n : ℕ). HasCome source source_after (begin_by told runs.book.plan runs.book.start) (view worker)
+      runs.now
+      (view worker).turn.known.put_faults runs.now.turn.known.put_faults n runs.came)
+      (sym runs.closes.as_known.standing)
       (runs.comes (begin_by told runs.book.plan runs.book.start) began)))
 
   pub has_run : ((text : List ℕ) (plan : PlanLines) → plan_of text ≡ Ok plan → IsPlan plan)
@@ -97,8 +107,10 @@ module _ {B : Type 0} (told : Bool) (site after : SiteSeen) (opened : BookView) 
   has_run plans left = record {
     says = says;
     shows = shows;
-    opening = λ is_told. subst (λ (t : Trace). EachMoment site.trace t (Opening site.trace)) (sym trail_is) (here.any_moment is_told);
-    sunk = λ is_told. ap (λ (t : Trace). t.now.sunk) trail_is ∙ opened_sunk site.trace opened.site.trace (here.any_moment is_told) (here.stays is_told);
+    opening = λ is_told. subst (λ (t : Trace). EachMoment site.trace t (Opening site.trace)) (sym trail_is)
+        (here.any_moment is_told);
+    sunk = λ is_told. ap (λ (t : Trace). t.now.sunk) trail_is ∙ opened_sunk site.trace opened.site.trace
+        (here.any_moment is_told) (here.stays is_told);
     same_faults = faults_are;
     founded = λ is_told. record {
       rows = refl;
@@ -110,7 +122,8 @@ module _ {B : Type 0} (told : Bool) (site after : SiteSeen) (opened : BookView) 
         none_made = begins.made;
         no_log = begins.log;
         nexts = λ row low. begins.words row low ∙ ap (λ (s : State). mark_at s row) (sym start_is);
-        raised = λ row low. subst (λ (s : State). top row (view worker).numbers.raised ≤ mark_at s row) (sym start_is) (begins.raised row low);
+        raised = λ row low. subst (λ (s : State). top row (view worker).numbers.raised ≤ mark_at s row) (sym start_is)
+            (begins.raised row low);
         added = λ row low. begins.added row low;
       };
     };

@@ -37,7 +37,8 @@ ServesSegment begin records (Err stops.NoMemory) v w old new = w ≡ v
 ServesSegment begin records (Err stops.Full) v w old new = IsHandledAndPut begin records v w old new (λ mid answers.
     PutsWell begin mid w answers v.turn.known.put_faults w.turn.known.put_faults
     × IsFullSegment begin v mid w records answers)
-ServesSegment begin records (Err stops.PutFailed) v w old new = IsHandledAndPut begin records v w old new (λ mid answers.
+ServesSegment begin records (Err stops.PutFailed) v w old new =
+    IsHandledAndPut begin records v w old new (λ mid answers.
     PutsBadly begin mid w answers v.turn.known.put_faults w.turn.known.put_faults)
 
 -- whether more records are served, by how the put of the answers ended, and by whether the history was full

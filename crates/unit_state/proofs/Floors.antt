@@ -10,7 +10,8 @@ use Rattle.sa_book.specs.SaRow.{HasHigh}
 use Rattle.unit_state.proofs.Found.{found_passes}
 use Rattle.unit_state.proofs.KeyRules.{equal_number}
 
-pub floor_fits : (keys : List KeyRow) (row : KeyRow) (direction : Direction) (held : Option ℕ) (key : ℕ) → direction ≡ Receive → held ≡ Some key
+pub floor_fits : (keys : List KeyRow) (row : KeyRow) (direction : Direction) (held : Option ℕ) (key : ℕ)
+    → direction ≡ Receive → held ≡ Some key
     → row_of keys key ≡ Some row → IsKeyRow row → HasHigh direction held row.floor
 floor_fits keys row direction held key receives holds is rules =
     let named : row.id ≡ key = equal_number row.id key (found_passes _ keys row is) in

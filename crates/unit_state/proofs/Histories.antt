@@ -6,7 +6,8 @@ use Rattle.unit_state.specs.Applied.{applied}
 use Rattle.unit_state.specs.Restart.{counts}
 use Rattle.unit_state.specs.History.{after, epoch_after, at_epoch}
 
-pub after_more : (state : State) (entries more : List Entry) → after state (entries ++ more) ≡ after (after state entries) more
+pub after_more : (state : State) (entries more : List Entry)
+    → after state (entries ++ more) ≡ after (after state entries) more
 after_more state [] more = refl
 after_more state (entry ∷ entries) more = after_more (applied state entry.change) entries more
 
@@ -24,10 +25,12 @@ reached_by true epoch rest h = omega arith
 reached_by false epoch rest h = omega arith
 
 -- an epoch that was reached keeps its state
-pub at_epoch_more : (state : State) (entries more : List Entry) (epoch : ℕ) → epoch ≤ epoch_after entries → at_epoch state (entries ++ more) epoch ≡ at_epoch state entries epoch
+pub at_epoch_more : (state : State) (entries more : List Entry) (epoch : ℕ) → epoch ≤ epoch_after entries
+    → at_epoch state (entries ++ more) epoch ≡ at_epoch state entries epoch
 at_epoch_more state [] [] zero reached = refl
 at_epoch_more state [] (entry ∷ more) zero reached = refl
 at_epoch_more state (entry ∷ entries) more zero reached = refl
 at_epoch_more state [] more (suc epoch) reached = absurd (omega arith)
 at_epoch_more state (entry ∷ entries) more (suc epoch) reached =
-    at_epoch_more (applied state entry.change) entries more (cond (counts entry.change) epoch (suc epoch)) (reached_by (counts entry.change) epoch (epoch_after entries) reached)
+    at_epoch_more (applied state entry.change) entries more (cond (counts entry.change) epoch (suc epoch))
+    (reached_by (counts entry.change) epoch (epoch_after entries) reached)

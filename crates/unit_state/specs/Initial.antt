@@ -1,5 +1,6 @@
 -- The state that the lines of a plan make, in their order, or the first line that the books refuse (profile).
-use Rattle.std.specs.Prelude.{◌≡◌, ⊤, Bool, false, nat_le, if◌then◌else◌, List, [], ◌∷◌, map, Option, Some, is_none, Result}
+use Rattle.std.specs.Prelude.{◌≡◌, ⊤, Bool, false, nat_le, if◌then◌else◌, List, [], ◌∷◌, map, Option, Some, is_none}
+use Rattle.std.specs.Prelude.{Result}
 use Rattle.std.specs.Prelude.{Ok, Err}
 use Rattle.std.specs.Option.{option_map_or}
 use Rattle.sdls_base.specs.declared.change.Change.TheVariants.{Load, KeyStates, Create, Rekey, SaTo}

@@ -89,7 +89,8 @@ counts (SetWindow spi window) = true
 counts (Accepted spi key number floor) = false
 counts Nothing = false
 
--- States that differ in marks, floors and accepted numbers alone: with marks and floors at 0, and each window begun at 0,
+-- States that differ in marks, floors and accepted numbers alone: with marks and floors at 0, and each window begun at
+-- 0,
 -- they are the same.
 abbrev pub still_key : KeyRow → KeyRow
 still_key row = record row { mark = 0; floor = 0 }

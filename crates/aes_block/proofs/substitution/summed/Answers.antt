@@ -2,7 +2,9 @@ use Rattle.std.proofs.Common.{ap, bit_xor, map, ◌∙◌}
 use Rattle.std.proofs.lemmas.Simd.{map-map, zip2_of_maps}
 use Rattle.aes_block.specs.Basis.{first_place, look, second_place}
 use Rattle.aes_block.specs.declared.substitution.TheConstants.{ONE_OVER, A_OVER}
-use Rattle.aes_block.proofs.BasisFacts.{lower_bits, lower_fits, upper_bits, upper_fits, both_are, both_fit, first_inner, first_inner_fits, second_inner, second_inner_fits, first_places, first_fits, second_places, second_fits}
+use Rattle.aes_block.proofs.BasisFacts.{lower_bits, lower_fits, upper_bits, upper_fits, both_are, both_fit, first_inner}
+use Rattle.aes_block.proofs.BasisFacts.{first_inner_fits, second_inner, second_inner_fits, first_places, first_fits}
+use Rattle.aes_block.proofs.BasisFacts.{second_places, second_fits}
 use Rattle.aes_block.proofs.substitution.summed.Goals as goal
 
 pub look_up-over_k-requires : goal.look_up-over_k-requires

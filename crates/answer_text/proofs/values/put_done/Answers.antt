@@ -17,7 +17,10 @@ returns c =
     let entry_text = c.put_named.new.text.items in
     let seen_text = c.put_drawn_of.new.text.items in
     let text = c.put_reply_values.new.text.items in
-    let last = two_put entry_text seen values seen_text text (seen ++ values) c.in_ok-put_drawn_of.ensures c.in_ok-put_reply_values.ensures refl in
-    let behind = two_put named_text entry (seen ++ values) entry_text text (entry ++ (seen ++ values)) c.in_ok-put_named.ensures last refl in
-    two_put c.args.text.now.items name (entry ++ (seen ++ values)) named_text text (parts_text form (done_parts c.args.answer.now c.args.reply.now))
+    let last = two_put entry_text seen values seen_text text (seen ++ values) c.in_ok-put_drawn_of.ensures
+    c.in_ok-put_reply_values.ensures refl in
+    let behind = two_put named_text entry (seen ++ values) entry_text text (entry ++ (seen ++ values))
+    c.in_ok-put_named.ensures last refl in
+    two_put c.args.text.now.items name (entry ++ (seen ++ values)) named_text text
+    (parts_text form (done_parts c.args.answer.now c.args.reply.now))
     c.in_ok-put_reply_name.ensures behind (done_text form c.args.answer.now c.args.reply.now)

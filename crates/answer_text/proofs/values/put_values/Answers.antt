@@ -23,6 +23,8 @@ returns-in-Clear-clause-put c =
     let old = c.args.text.now.items in
     let text = c.plain.new.text.items in
     let answer = c.args.answer.now in
-    ok_more c.plain.result (IsPlain answer × (text ≡ old ++ parts_text c.args.form (named (codes "position") answer.position ∷ [])))
+    ok_more c.plain.result
+    (IsPlain answer × (text ≡ old ++ parts_text c.args.form (named (codes "position") answer.position ∷ [])))
     (HasValues c.args.code answer (λ values. text ≡ old ++ parts_text c.args.form values))
-    (λ has. has_position c.args.code answer (λ values. text ≡ old ++ parts_text c.args.form values) c.in-Clear.is has) c.plain.ensures.put
+    (λ has. has_position c.args.code answer (λ values. text ≡ old ++ parts_text c.args.form values) c.in-Clear.is has)
+    c.plain.ensures.put

@@ -6,7 +6,8 @@ use Rattle.aos_frame.proofs.reading.read.Goals as goal
 
 pub returns-in-Some-clause-only : goal.returns-in-Some-clause-only
 returns-in-Some-clause-only c = λ parts is.
-    let none : first_fault c.args.layout.now c.args.frame.now ≡ None = (frame_parts c.args.layout.now parts c.args.frame.now is).0 in
+    let none : first_fault c.args.layout.now c.args.frame.now ≡ None =
+    (frame_parts c.args.layout.now parts c.args.frame.now is).0 in
     cc (c.in-Some.ensures)
 
 pub returns-in-None-clause-only : goal.returns-in-None-clause-only

@@ -10,7 +10,8 @@ pub returns-clause-found : goal.returns-clause-found
 returns-clause-found c =
     subst (λ p. AosFrame c.args.layout.now p c.args.frame.now)
     (sym (c.parts_of.ensures.parts ∙ ap (λ body. parts_in c.args.layout.now body) c.before_fecf.ensures))
-    (frame_at c.args.layout.now c.args.frame.now c.requires.layout (λ i. omega (arith, c.type_inv.frame i)) c.requires.faultless)
+    (frame_at c.args.layout.now c.args.frame.now c.requires.layout (λ i. omega (arith, c.type_inv.frame i))
+    c.requires.faultless)
 
 pub returns-clause-prefix : goal.returns-clause-prefix
 returns-clause-prefix c =
@@ -20,4 +21,6 @@ returns-clause-prefix c =
 pub returns-clause-whole : goal.returns-clause-whole
 returns-clause-whole c =
     (returns-clause-found c).spelled
-    ∙ ap (λ l. with_error_control c.args.layout.now.fecf (l ++ (view c.parts_of.result).room ++ unwrap_or (view c.parts_of.result).ocf [])) (sym (returns-clause-prefix c))
+    ∙ ap (λ l. with_error_control c.args.layout.now.fecf
+    (l ++ (view c.parts_of.result).room ++ unwrap_or (view c.parts_of.result).ocf []))
+    (sym (returns-clause-prefix c))

@@ -13,7 +13,9 @@ returns-in_err-item c =
     let left = c.args.count - c.loop.counter in
     let after = c.args.count - (c.loop.counter + 1) in
     let one : left ≡ suc after = omega (arith, c.loop-test.true) in
-    rw (p.1, p.2) (fails c.in_err-item.field-0.0 (λ are. items_head left after c.loop.at c.args.body.now one (c.loop.invariant.may.1 are)) c.in_err-item.ensures)
+    rw (p.1, p.2)
+    (fails c.in_err-item.field-0.0
+    (λ are. items_head left after c.loop.at c.args.body.now one (c.loop.invariant.may.1 are)) c.in_err-item.ensures)
 
 pub loop-preserved : goal.loop-preserved
 loop-preserved c =
@@ -23,11 +25,14 @@ loop-preserved c =
     let after = c.args.count - (c.loop.counter + 1) in
     let one : left ≡ suc after = omega (arith, c.loop-test.true) in
     let is = c.in_ok-item.ensures.0 in
-    let room : at + 35 ≤ length body = omega (arith, c.loop.invariant.place, c.loop-test.true, c.requires.room, c.requires.count) in
+    let room : at + 35 ≤ length body =
+    omega (arith, c.loop.invariant.place, c.loop-test.true, c.requires.room, c.requires.count) in
     let size : length c.as_slice.result.now ≡ octet_at (at + 2) body =
-    ap length c.as_slice.ensures ∙ ap (λ (item : KeyItem). length item.bytes) c.in_ok-item.ensures.1 ∙ item_length at body is room in
+    ap length c.as_slice.ensures ∙ ap (λ (item : KeyItem). length item.bytes) c.in_ok-item.ensures.1
+    ∙ item_length at body is room in
     let next : at + (3 + length c.as_slice.result.now) ≡ behind_item at body = omega (arith, size) in
-    let pushed : c.push.new.self.items ≡ c.loop.items.items ++ item_at at body ∷ [] = rw (c.in_ok-push.ensures.items, c.in_ok-item.ensures.1) in
+    let pushed : c.push.new.self.items ≡ c.loop.items.items ++ item_at at body ∷ [] =
+    rw (c.in_ok-push.ensures.items, c.in_ok-item.ensures.1) in
     record {
       place = omega (arith, next, item_end at body is, c.loop.invariant.place);
       may = subst (λ (k : ℕ). AreItems after k body ↔ AreItems c.args.count 4 body) (sym next)

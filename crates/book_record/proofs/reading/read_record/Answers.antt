@@ -12,17 +12,23 @@ returns-in_err-change-clause-only c =
 
 pub write_record-requires : goal.write_record-requires
 write_record-requires c =
-    subst HasRecord (sym c.in_ok-change.ensures.1) (has_record c.in-Some.kind c.args.body.now c.told-body c.in_ok-change.ensures.0)
+    subst HasRecord (sym c.in_ok-change.ensures.1)
+    (has_record c.in-Some.kind c.args.body.now c.told-body c.in_ok-change.ensures.0)
 
 pub returns-then-eq-clause-only : goal.returns-then-eq-clause-only
 returns-then-eq-clause-only c =
-    λ change is. c.in_ok-change.ensures.1 ∙ (record_says change c.args.body.now c.in-Some.kind (sym c.of.ensures ∙ c.in-Some.is) is).value
+    λ change is. c.in_ok-change.ensures.1
+    ∙ (record_says change c.args.body.now c.in-Some.kind (sym c.of.ensures ∙ c.in-Some.is) is).value
 
 pub returns-in_default-clause-only : goal.returns-in_default-clause-only
-returns-in_default-clause-only c = λ change is. absurd (no_kind change c.args.body.now (sym c.of.ensures ∙ c.in_default.is) is)
+returns-in_default-clause-only c =
+    λ change is. absurd (no_kind change c.args.body.now (sym c.of.ensures ∙ c.in_default.is) is)
 
 pub returns-else-eq-clause-only : goal.returns-else-eq-clause-only
 returns-else-eq-clause-only c =
     λ change is.
-    let same = c.in_ok-change.ensures.1 ∙ (record_says change c.args.body.now c.in-Some.kind (sym c.of.ensures ∙ c.in-Some.is) is).value in
-    absurd (unequal c.write_record.result c.args.body.now c.if-eq.ensures (c.write_record.ensures.spelled ∙ ap record_octets same ∙ sym is.spelled))
+    let same =
+    c.in_ok-change.ensures.1
+    ∙ (record_says change c.args.body.now c.in-Some.kind (sym c.of.ensures ∙ c.in-Some.is) is).value in
+    absurd (unequal c.write_record.result c.args.body.now c.if-eq.ensures
+    (c.write_record.ensures.spelled ∙ ap record_octets same ∙ sym is.spelled))

@@ -8,7 +8,9 @@ use Rattle.book_record.proofs.sa_rows.read_sa_row.Goals as goal
 pub returns-in_err-parts-clause-only : goal.returns-in_err-parts-clause-only
 returns-in_err-parts-clause-only c =
     let p = err_from_is_err_and c.from_residual.result c.from_residual.ensures.1 in
-    λ parts is. rw (p.1, p.2) (wants_memory c.in_err-parts.field-0.0 c.in_err-parts.ensures (sa_row_says parts c.args.row.now is).may)
+    λ parts is.
+    rw (p.1, p.2) (wants_memory c.in_err-parts.field-0.0 c.in_err-parts.ensures
+    (sa_row_says parts c.args.row.now is).may)
 
 pub returns-then-eq-clause-only : goal.returns-then-eq-clause-only
 returns-then-eq-clause-only c = λ parts is. c.in_ok-parts.ensures.1 ∙ (sa_row_says parts c.args.row.now is).value
@@ -17,4 +19,5 @@ pub returns-else-eq-clause-only : goal.returns-else-eq-clause-only
 returns-else-eq-clause-only c =
     λ parts is.
     let same = c.view.ensures ∙ c.in_ok-parts.ensures.1 ∙ (sa_row_says parts c.args.row.now is).value in
-    absurd (unequal c.write_sa_row.result c.args.row.now c.if-eq.ensures (c.write_sa_row.ensures.spelled ∙ ap sa_row_octets same ∙ sym is.spelled))
+    absurd (unequal c.write_sa_row.result c.args.row.now c.if-eq.ensures
+    (c.write_sa_row.ensures.spelled ∙ ap sa_row_octets same ∙ sym is.spelled))

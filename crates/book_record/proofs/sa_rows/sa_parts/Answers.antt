@@ -9,7 +9,8 @@ use Rattle.book_record.proofs.sa_rows.sa_parts.Goals as goal
 pub returns-in_err-count : goal.returns-in_err-count
 returns-in_err-count c =
     let p = err_from_is_err_and c.from_residual-in_err-count.result c.from_residual-in_err-count.ensures.1 in
-    rw (p.1, p.2) (fails c.in_err-count.field-0.0 (λ may. room_for c.args.row.now c.requires may.4) c.in_err-count.ensures)
+    rw (p.1, p.2) (fails c.in_err-count.field-0.0 (λ may. room_for c.args.row.now c.requires may.4)
+    c.in_err-count.ensures)
 
 pub returns : goal.returns
 returns c =
@@ -24,7 +25,13 @@ returns c =
     let state = c.in_ok-state.ensures in (
       (spi.0, direction.0, suite.0, state.0, subst AreChannels slice are),
       λ i. record {
-        sa = record { spi = spi.1 i; direction = direction.1 i; suite = suite.1 i; window = c.number_at.ensures i; channels = same i };
+        sa = record {
+          spi = spi.1 i;
+          direction = direction.1 i;
+          suite = suite.1 i;
+          window = c.number_at.ensures i;
+          channels = same i;
+        };
         state = state.1 i;
         key = c.held_key.ensures i;
       },

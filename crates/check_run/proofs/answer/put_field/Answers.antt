@@ -7,7 +7,8 @@ use Rattle.check_run.proofs.answer.put_field.Goals as goal
 pub returns-in_err-put_text-clause-delivered : goal.returns-in_err-put_text-clause-delivered
 returns-in_err-put_text-clause-delivered g c = λ told.
     let p = err_from_is_err_and c.from_residual.result c.from_residual.ensures.1 in
-    let cut = front_cut (codes "ok ") (encode_lower c.args.field.now ++ 10 ∷ []) _ _ (c.in_err-put_text.ensures.delivered told) in
+    let cut = front_cut (codes "ok ") (encode_lower c.args.field.now ++ 10 ∷ [])
+    _ _ (c.in_err-put_text.ensures.delivered told) in
     rw p.1 cut
 
 pub returns-in_err-put_hexadecimal-clause-delivered :
@@ -15,7 +16,8 @@ pub returns-in_err-put_hexadecimal-clause-delivered :
 returns-in_err-put_hexadecimal-clause-delivered g c = λ told.
     let r = c.from_residual-in_err-put_hexadecimal in
     let p = err_from_is_err_and r.result r.ensures.1 in
-    let cut = front_middle (codes "ok ") (encode_lower c.args.field.now) (10 ∷ []) _ _ _ (c.in_ok-put_text.ensures.delivered told)
+    let cut = front_middle (codes "ok ") (encode_lower c.args.field.now) (10 ∷ [])
+    _ _ _ (c.in_ok-put_text.ensures.delivered told)
     (c.in_err-put_hexadecimal.ensures.delivered told) in
     rw p.1 cut
 

@@ -36,7 +36,8 @@ returns-then-not-is_mac-clause-refused c =
         | Long ↦ λ below. before Long (omega arith)
         | Version ↦ λ below. before Version (omega arith)
         | Spare ↦ λ below. before Spare (omega arith)
-        | Spi ↦ λ below. not_reserved frame room c.has_reserved_spi.result behind c.if-has_reserved_spi.false c.has_reserved_spi.ensures.1
+        | Spi ↦ λ below. not_reserved frame room c.has_reserved_spi.result behind c.if-has_reserved_spi.false
+            c.has_reserved_spi.ensures.1
         | Mac ↦ λ below. absurd (omega arith)
       ];
     }
@@ -53,8 +54,11 @@ returns-clause-accepted c =
         | Long ↦ before Long (omega arith)
         | Version ↦ before Version (omega arith)
         | Spare ↦ before Spare (omega arith)
-        | Spi ↦ not_reserved frame room c.has_reserved_spi.result behind c.if-has_reserved_spi.false c.has_reserved_spi.ensures.1
-        | Mac ↦ λ wrong. wrong (c.is_mac.ensures.0 c.if-not-is_mac.false ∙ c.field_and_mac.ensures.mac ∙ trailer_in_room frame room behind long)
+        | Spi ↦ not_reserved frame room c.has_reserved_spi.result behind c.if-has_reserved_spi.false
+            c.has_reserved_spi.ensures.1
+        | Mac ↦ λ wrong.
+            wrong (c.is_mac.ensures.0 c.if-not-is_mac.false ∙ c.field_and_mac.ensures.mac
+            ∙ trailer_in_room frame room behind long)
       ],
       c.field_and_mac.ensures.field ∙ field_in_room frame room behind long,
     )

@@ -18,5 +18,6 @@ returns-in-Ok-clause-accepted c =
         | Spi ↦ λ below. absurd (omega arith)
         | Mac ↦ λ below. absurd (omega arith)
       ],
-      room_behind c.args.frame.now c.in-Ok.parts.prefix.now c.in-Ok.parts.room.now (view c.in-Ok.parts).ocf found.fits.ocf c.in-Ok.ensures.prefix_length c.in-Ok.ensures.whole,
+      room_behind c.args.frame.now c.in-Ok.parts.prefix.now c.in-Ok.parts.room.now (view c.in-Ok.parts).ocf
+          found.fits.ocf c.in-Ok.ensures.prefix_length c.in-Ok.ensures.whole,
     )

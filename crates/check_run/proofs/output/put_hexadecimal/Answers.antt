@@ -13,7 +13,8 @@ pub returns-in_err-put_piece-clause-delivered : goal.returns-in_err-put_piece-cl
 returns-in_err-put_piece-clause-delivered g c = λ told.
     let so_far = c.loop-rest.invariant.1 in
     let p = err_from_is_err_and c.from_residual.result c.from_residual.ensures.1 in
-    let parts = parts_of c.args.octets.now so_far.0 c.loop-rest.rest.now c.split_at.result.0.now c.split_at.result.1.now _
+    let parts = parts_of c.args.octets.now so_far.0 c.loop-rest.rest.now c.split_at.result.0.now c.split_at.result.1.now
+    _
     so_far.1 c.split_at.ensures.front c.split_at.ensures.back in
     let cut = spelled_cut c.args.octets.now so_far.0 c.split_at.result.0.now c.split_at.result.1.now _ _ _ parts
     (so_far.2 told) (c.in_err-put_piece.ensures.delivered told) in
@@ -27,6 +28,7 @@ loop-rest-preserved g c =
         so_far.0 ++ c.split_at.result.0.now,
         parts_of c.args.octets.now so_far.0 c.loop-rest.rest.now c.split_at.result.0.now c.split_at.result.1.now _
             so_far.1 c.split_at.ensures.front c.split_at.ensures.back,
-        λ told. spelled_more so_far.0 c.split_at.result.0.now _ _ _ (so_far.2 told) (c.in_ok-put_piece.ensures.delivered told),
+        λ told. spelled_more so_far.0 c.split_at.result.0.now _ _ _ (so_far.2 told)
+            (c.in_ok-put_piece.ensures.delivered told),
       ),
     )

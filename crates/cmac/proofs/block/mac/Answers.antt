@@ -13,7 +13,8 @@ returns c =
     let none : 0 + n ≡ n = omega arith in
     let last : n ≡ before_last (length text) = omega arith in
     c.closed.ensures
-    ∙ ap (λ (r : List ℕ). encrypted key (xored c.chained_over-chained.result (last_block key r))) (take_rest text (16 * n))
+    ∙ ap (λ (r : List ℕ). encrypted key (xored c.chained_over-chained.result (last_block key r)))
+    (take_rest text (16 * n))
     ∙ ap (λ (l : List ℕ). encrypted key (xored l (last_block key (drop (16 * n) text))))
     (c.chained_over-chained.ensures text 0 refl refl ∙ ap (chain key text) none)
     ∙ ap (λ (k : ℕ). encrypted key (xored (chain key text k) (last_block key (drop (16 * k) text)))) last

@@ -18,19 +18,25 @@ use Rattle.ep_codec.proofs.command_reading.create.Goals as goal
 abbrev Read : {X : Type 0} → Check ℕ → X → X → Type 0
 Read check read value = (first_failing (check ∷ []) ≡ None) × (read ≡ value)
 
-created : (o rest : List ℕ) (spi : ℕ) (direction : Direction) (suite : Suite) (window : ℕ) (channels : List ℕ) → rest ≡ drop 16 o
-    → Read (spi_check 3 o) spi (word_at 3 o) → Read (code_check 2 5 o) direction (direction_of (octet_at 5 o)) → Read (code_check 2 6 o) suite (suite_of (octet_at 6 o))
+created : (o rest : List ℕ) (spi : ℕ) (direction : Direction) (suite : Suite) (window : ℕ) (channels : List ℕ)
+    → rest ≡ drop 16 o
+    → Read (spi_check 3 o) spi (word_at 3 o) → Read (code_check 2 5 o) direction (direction_of (octet_at 5 o))
+    → Read (code_check 2 6 o) suite (suite_of (octet_at 6 o))
     → Read (window_check 7 o) window (number_at 7 o) → first_failing (count_check 15 o ∷ []) ≡ None
     → (first_failing (channel_checks 16 0 rest) ≡ None) × (channels ≡ rest)
     → (first_failing (command_checks procedures.Create o) ≡ None)
-    × (Create (record { spi = spi; direction = direction; suite = suite; window = window; channels = channels }) ≡ command_at procedures.Create o)
+    × (Create (record { spi = spi; direction = direction; suite = suite; window = window; channels = channels })
+    ≡ command_at procedures.Create o)
 unfolding command_checks command_at
 created o rest spi direction suite window channels is s d t w n h = (
-  six_passed (spi_check 3 o) (code_check 2 5 o) (code_check 2 6 o) (window_check 7 o) (count_check 15 o) (channel_checks 16 0 (drop 16 o)) s.0 d.0 t.0 w.0 n (rw is at h.0),
+  six_passed (spi_check 3 o) (code_check 2 5 o) (code_check 2 6 o) (window_check 7 o) (count_check 15 o)
+      (channel_checks 16 0 (drop 16 o)) s.0 d.0 t.0 w.0 n (rw is at h.0),
   rw (s.1, d.1, t.1, w.1, h.1, is) refl,
 )
 
 pub returns : goal.returns
 returns c =
-    created c.args.octets.now _ c.in_ok-spi.spi c.in_ok-direction.direction c.in_ok-suite.suite c.in_ok-window.window c.in_ok-channels.channels
-    (take_rest c.args.octets.now 16) c.in_ok-spi.ensures c.in_ok-direction.ensures c.in_ok-suite.ensures c.in_ok-window.ensures c.in_ok-count.ensures.0 c.in_ok-channels.ensures
+    created c.args.octets.now _ c.in_ok-spi.spi c.in_ok-direction.direction c.in_ok-suite.suite c.in_ok-window.window
+    c.in_ok-channels.channels
+    (take_rest c.args.octets.now 16) c.in_ok-spi.ensures c.in_ok-direction.ensures c.in_ok-suite.ensures
+    c.in_ok-window.ensures c.in_ok-count.ensures.0 c.in_ok-channels.ensures

@@ -7,9 +7,12 @@ use Rattle.ep_codec.proofs.field_lists.rows.Goals as goal
 pub loop-rest-preserved : goal.loop-rest-preserved
 loop-rest-preserved c =
     let rest = c.loop-rest.rest.now in
-    let pushed : c.push.new.self.items ≡ c.loop-rest.rows.items ++ (word_of rest, key_state_of (get_or rest 2 0)) ∷ [] = rw (c.in_ok-push.ensures.items, c.in_ok-key.ensures.1, c.in_ok-state.ensures.1, c.from_be_bytes.ensures) in
+    let pushed : c.push.new.self.items ≡ c.loop-rest.rows.items ++ (word_of rest, key_state_of (get_or rest 2 0)) ∷ [] =
+    rw (c.in_ok-push.ensures.items, c.in_ok-key.ensures.1, c.in_ok-state.ensures.1, c.from_be_bytes.ensures) in
     record {
       place = omega (arith, behind_three rest c.in-len3-up.len_at_least);
-      faults = rows_faults c.loop-rest.next rest c.in-len3-up.len_at_least (rw c.from_be_bytes.ensures at c.in_ok-key.ensures.0) c.in_ok-state.ensures.0 ∙ c.loop-rest.invariant.faults;
-      read = ap (λ items. items ++ rows_in (behind 3 rest)) pushed ∙ rows_read c.loop-rest.rows.items rest c.in-len3-up.len_at_least ∙ c.loop-rest.invariant.read;
+      faults = rows_faults c.loop-rest.next rest c.in-len3-up.len_at_least
+          (rw c.from_be_bytes.ensures at c.in_ok-key.ensures.0) c.in_ok-state.ensures.0 ∙ c.loop-rest.invariant.faults;
+      read = ap (λ items. items ++ rows_in (behind 3 rest)) pushed ∙ rows_read c.loop-rest.rows.items rest
+          c.in-len3-up.len_at_least ∙ c.loop-rest.invariant.read;
     }

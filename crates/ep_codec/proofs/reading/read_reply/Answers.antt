@@ -6,7 +6,9 @@ use Rattle.ep_codec.proofs.reading.read_reply.Goals as goal
 pub returns-in_err-procedure-clause-only : goal.returns-in_err-procedure-clause-only
 returns-in_err-procedure-clause-only c =
     let p = err_from_is_err_and c.from_residual.result c.from_residual.ensures.1 in
-    λ reply is. rw (p.1, p.2) (header_only c.args.octets.now c.in_err-procedure.field-0.0 c.in_err-procedure.ensures.judged reply is)
+    λ reply is.
+    rw (p.1, p.2) (header_only c.args.octets.now c.in_err-procedure.field-0.0 c.in_err-procedure.ensures.judged
+    reply is)
 
 pub returns-in_err-procedure-clause-fault : goal.returns-in_err-procedure-clause-fault
 returns-in_err-procedure-clause-fault c =
@@ -16,11 +18,13 @@ returns-in_err-procedure-clause-fault c =
 pub returns-clause-found : goal.returns-clause-found
 returns-clause-found c =
     let header = c.in_ok-procedure.ensures.judged in
-    fields_found c.args.octets.now c.in_ok-procedure.procedure c.reply.result (λ i. omega (arith, c.type_inv.octets i)) header.0 header.1 c.reply.ensures
+    fields_found c.args.octets.now c.in_ok-procedure.procedure c.reply.result (λ i. omega (arith, c.type_inv.octets i))
+    header.0 header.1 c.reply.ensures
 
 pub returns-clause-only : goal.returns-clause-only
 returns-clause-only c =
-    fields_only c.args.octets.now c.in_ok-procedure.procedure c.reply.result c.in_ok-procedure.ensures.judged.1 c.reply.ensures
+    fields_only c.args.octets.now c.in_ok-procedure.procedure c.reply.result c.in_ok-procedure.ensures.judged.1
+    c.reply.ensures
 
 pub returns-clause-fault : goal.returns-clause-fault
 returns-clause-fault c =

@@ -13,4 +13,5 @@ pub returns-in-Rekey : goal.returns-in-Rekey
 returns-in-Rekey c =
     rw c.in-Rekey.is
     (c.refuse_rekey.ensures
-    ∙ ap (λ (w : ℕ). first_told (rekey_checks c.args.state.now c.in-Rekey.spi c.in-Rekey.key c.in-Rekey.number w)) c.word_of.ensures)
+    ∙ ap (λ (w : ℕ). first_told (rekey_checks c.args.state.now c.in-Rekey.spi c.in-Rekey.key c.in-Rekey.number w))
+    c.word_of.ensures)

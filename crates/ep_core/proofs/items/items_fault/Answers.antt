@@ -1,4 +1,5 @@
-use Rattle.std.proofs.Common.{◌≡◌, ℕ, suc, ◌+◌, ◌-◌, ◌<◌, List, length, get_or, drop, None, sym, ap, ◌∙◌, arith, length-drop}
+use Rattle.std.proofs.Common.{◌≡◌, ℕ, suc, ◌+◌, ◌-◌, ◌<◌, List, length, get_or, drop, None, sym, ap, ◌∙◌, arith}
+use Rattle.std.proofs.Common.{length-drop}
 use Rattle.std.proofs.lemmas.List.{drop-drop, get_or-drop, take_rest}
 use Rattle.ep_core.specs.Sealed.{item_fault, items_fault}
 use Rattle.ep_core.proofs.ItemFacts.{whole, ninth, later}
@@ -25,6 +26,7 @@ loop-at-preserved c =
       left = omega arith;
       within = omega (arith, length-drop at text);
       same = sym (later left (left - 1) at s more some none
-          ∙ ap (λ (x : List ℕ). items_fault (left - 1) (at + (3 + get_or s 2 0)) x) (drop-drop (3 + get_or s 2 0) at text))
+          ∙ ap (λ (x : List ℕ). items_fault (left - 1) (at + (3 + get_or s 2 0)) x)
+          (drop-drop (3 + get_or s 2 0) at text))
           ∙ c.loop-at.invariant.same;
     })

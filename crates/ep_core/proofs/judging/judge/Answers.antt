@@ -6,4 +6,5 @@ use Rattle.ep_core.proofs.judging.judge.Goals as goal
 pub returns-in-Rekey : goal.returns-in-Rekey
 returns-in-Rekey c =
     rw c.in-Rekey.is
-    (c.unless_refused-in-Rekey.ensures ∙ (λ i. if is_some (c.refuse_rekey.ensures i) then Nothing else c.rekey_need.ensures i))
+    (c.unless_refused-in-Rekey.ensures ∙ (λ i. if is_some (c.refuse_rekey.ensures i) then Nothing
+    else c.rekey_need.ensures i))

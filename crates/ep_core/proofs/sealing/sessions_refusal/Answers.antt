@@ -14,7 +14,8 @@ loop-key-preserved c =
     let keys = c.args.keys.now in
     let i = c.loop-key.key-index in
     let within : i < length keys = rw (← c.as_slice-key-items.ensures) c.loop-key-test.true in
-    let read : c.key-item.result ≡ get_or keys i c.key-item.result = rw (← c.as_slice-key-items.ensures) c.key-item.is in
+    let read : c.key-item.result ≡ get_or keys i c.key-item.result =
+    rw (← c.as_slice-key-items.ensures) c.key-item.is in
     let first = sym c.session_refusal.ensures ∙ c.in_default.is in
     sym (sessions_from state keys i c.key-item.result within read
     ∙ ap (λ (o : Option Refusal). option_or o (first_told (flat_map (session_checks state) (drop (i + 1) keys)))) first)
@@ -26,7 +27,8 @@ returns-in-Some c =
     let keys = c.args.keys.now in
     let i = c.loop-key.key-index in
     let within : i < length keys = rw (← c.as_slice-key-items.ensures) c.loop-key-test.true in
-    let read : c.key-item.result ≡ get_or keys i c.key-item.result = rw (← c.as_slice-key-items.ensures) c.key-item.is in
+    let read : c.key-item.result ≡ get_or keys i c.key-item.result =
+    rw (← c.as_slice-key-items.ensures) c.key-item.is in
     let first = sym c.session_refusal.ensures ∙ c.in-Some.is in
     sym (sessions_from state keys i c.key-item.result within read
     ∙ ap (λ (o : Option Refusal). option_or o (first_told (flat_map (session_checks state) (drop (i + 1) keys)))) first)
@@ -37,4 +39,5 @@ returns c =
     let state = c.args.state.now in
     let keys = c.args.keys.now in
     let past : length keys ≤ c.loop-key.key-index = rw (← c.as_slice-key-items.ensures) c.loop-key-test.false in
-    sym (ap (λ (s : List ℕ). first_told (flat_map (session_checks state) s)) (drop_all c.loop-key.key-index keys past)) ∙ c.loop-key.invariant
+    sym (ap (λ (s : List ℕ). first_told (flat_map (session_checks state) s)) (drop_all c.loop-key.key-index keys past))
+    ∙ c.loop-key.invariant

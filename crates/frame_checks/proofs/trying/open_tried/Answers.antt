@@ -12,6 +12,7 @@ returns-clause-reply c =
     let o = c.requires.opener in
     let reply = c.judge_number.result in
     let same : c.in-Ok.row.now ≡ o.row = same_Some _ _ (sym c.in-Ok.ensures.row ∙ o.there) in
-    reply_tried a.plan.now a.state.now a.opener.now a.link a.octets.now o c.requires.tried.frame reply (field_in reply a.frame.now)
+    reply_tried a.plan.now a.state.now a.opener.now a.link a.octets.now o c.requires.tried.frame reply
+    (field_in reply a.frame.now)
     (subst (λ (row : SaRow). IsJudged row a.opener.now.binding a.octets.now reply (field_in reply a.frame.now)) same
     (c.judge_number.ensures.judged a.octets.now a.frame.now c.requires.tried.unshielded))

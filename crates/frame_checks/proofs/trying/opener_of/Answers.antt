@@ -5,11 +5,13 @@ use Rattle.frame_checks.proofs.trying.opener_of.Goals as goal
 
 pub binding_of-requires-clause-row : goal.binding_of-requires-clause-row
 binding_of-requires-clause-row c =
-    (named_keeps c.args.state.now c.in-Ok.ensures.found.room c.in-Ok.addressed.row.now c.requires c.in-Ok.ensures.found.named).rules
+    (named_keeps c.args.state.now c.in-Ok.ensures.found.room c.in-Ok.addressed.row.now c.requires
+    c.in-Ok.ensures.found.named).rules
 
 pub binding_of-requires-clause-key : goal.binding_of-requires-clause-key
 binding_of-requires-clause-key c =
-    (named_keeps c.args.state.now c.in-Ok.ensures.found.room c.in-Ok.addressed.row.now c.requires c.in-Ok.ensures.found.named).key
+    (named_keeps c.args.state.now c.in-Ok.ensures.found.room c.in-Ok.addressed.row.now c.requires
+    c.in-Ok.ensures.found.named).key
 
 pub returns : goal.returns
 returns c =
@@ -21,7 +23,8 @@ returns c =
       line = sym c.in_ok-line.ensures.line ∙ ap Some (sym bound.link);
       binding = c.binding_of.ensures.binding;
       row = row;
-      there = ap (association_row c.args.state.now) bound.index ∙ named_row c.args.state.now c.in-Ok.ensures.found.room row c.in-Ok.ensures.found.named;
+      there = ap (association_row c.args.state.now) bound.index ∙ named_row c.args.state.now c.in-Ok.ensures.found.room
+          row c.in-Ok.ensures.found.named;
       passes = sym c.refusal_of.ensures ∙ c.in_default-refusal_of.is;
       bound = bound_link c.args.plan.now c.args.state.now line row b c.binding_of.ensures.bound;
     }

@@ -21,13 +21,15 @@ returns-in_default-clause-none c = λ none n field o.
     let b : Binding = c.args.binding.now in
     let is = c.body_of-body.ensures in
     let parts : o.parts ≡ is.parts = one_frame b.link.layout o.parts is.parts c.args.frame.now o.framed is.framed in
-    c.in_default.ensures.only o.pieces (subst (λ (r : List ℕ). SplitsInto b.suite r o.pieces) (ap room_of parts ∙ sym is.room) o.secured.split)
+    c.in_default.ensures.only o.pieces
+    (subst (λ (r : List ℕ). SplitsInto b.suite r o.pieces) (ap room_of parts ∙ sym is.room) o.secured.split)
 
 pub new-requires-clause-prefix : goal.new-requires-clause-prefix
 new-requires-clause-prefix c =
     let b : Binding = c.args.binding.now in
     let is = c.body_of-body.ensures in
-    let bounds = prefix_bounds b.link.layout is.parts c.args.frame.now (bounded_insert b.link.layout c.requires.binding.link.layout) is.framed in
+    let bounds = prefix_bounds b.link.layout is.parts c.args.frame.now
+    (bounded_insert b.link.layout c.requires.binding.link.layout) is.framed in
     omega (arith, bounds.1, ap length is.prefix)
 
 pub returns-clause-found : goal.returns-clause-found
@@ -36,16 +38,20 @@ returns-clause-found c =
     let frame : List ℕ = c.args.frame.now in
     let body = c.body_of-body.result in
     let is = c.body_of-body.ensures in
-    let same : is.parts ≡ c.requires.frame.parts = one_frame b.link.layout is.parts c.requires.frame.parts frame is.framed c.requires.frame.framed in
+    let same : is.parts ≡ c.requires.frame.parts =
+    one_frame b.link.layout is.parts c.requires.frame.parts frame is.framed c.requires.frame.framed in
     let pieces : Pieces = view c.in-Some.pieces in
-    let split : SplitsInto b.suite (room_of is.parts) pieces = subst (λ (r : List ℕ). SplitsInto b.suite r pieces) is.room c.in-Some.ensures.found in
+    let split : SplitsInto b.suite (room_of is.parts) pieces =
+    subst (λ (r : List ℕ). SplitsInto b.suite r pieces) is.room c.in-Some.ensures.found in
     let enough : overhead_of b.suite ≤ length (room_of is.parts) =
     elim (cases_lt (length (room_of is.parts)) (overhead_of b.suite)) [
       | inl below ↦ absurd (false≢true (sym (c.in-Some.ensures.none.1 (omega (arith, below, ap length is.room)))))
       | inr enough ↦ enough
     ] in
     let header : pieces.header ≡ header_octets (header_of b pieces.vector) =
-    split.header ∙ ap (λ (l : List ℕ). l ++ vector_octets pieces.vector) (ap (λ (p : AnyParts). take 2 (room_of p)) same ∙ c.requires.frame.index (subst (λ (p : AnyParts). overhead_of b.suite ≤ length (room_of p)) same enough)) in
+    split.header ∙ ap (λ (l : List ℕ). l ++ vector_octets pieces.vector)
+    (ap (λ (p : AnyParts). take 2 (room_of p)) same ∙ c.requires.frame.index
+    (subst (λ (p : AnyParts). overhead_of b.suite ≤ length (room_of p)) same enough)) in
     let start : ℕ = length body.prefix.now + length pieces.header in
     let end : ℕ = start + length pieces.field in
     let place = ap (λ (l : List ℕ). length l + length pieces.header) is.prefix in

@@ -17,7 +17,8 @@ returns-then-not-open-clause-bad_mac c = (
       let b : Binding = c.args.binding.now in
       let found : Found = c.in-Some.found in
       let right = opens_sealed b c.args.frame.now found n field c.in-Some.ensures.found o in
-      c.if-not-open.ensures.refused field (ap (λ (l : List ℕ). sealed b.schedule found.vector l field) c.as_slice.ensures.text ∙ right),
+      c.if-not-open.ensures.refused field
+      (ap (λ (l : List ℕ). sealed b.schedule found.vector l field) c.as_slice.ensures.text ∙ right),
   λ none. refl,
 )
 
@@ -32,11 +33,14 @@ returns-clause-field c =
     let size : length text ≡ found.end - found.start = omega arith in
     let order : found.start ≤ found.end = omega (arith, is.end) in
     let within : found.start ≤ length old = omega (arith, is.within) in
-    let clear : slice_range new found.start found.end ≡ text = between-put_mid found.start (found.end - found.start) old text found.end within size in
+    let clear : slice_range new found.start found.end ≡ text =
+    between-put_mid found.start (found.end - found.start) old text found.end within size in
     let right = ap (λ (l : List ℕ). sealed b.schedule found.vector found.covered l) clear
-    ∙ ap (λ (l : List ℕ). sealed b.schedule found.vector l text) (sym c.as_slice.ensures.text) ∙ c.if-not-open.ensures.opened in
+    ∙ ap (λ (l : List ℕ). sealed b.schedule found.vector l text) (sym c.as_slice.ensures.text)
+    ∙ c.if-not-open.ensures.opened in
     record {
-      opens = found_opens b old found c.number_of-number.result (slice_range new found.start found.end) is c.number_of-number.ensures right;
+      opens = found_opens b old found c.number_of-number.result (slice_range new found.start found.end) is
+          c.number_of-number.ensures right;
       start = is.start;
       order = order;
       before = take-put_mid_below found.start (found.end - found.start) old text found.start (omega arith) within;

@@ -22,10 +22,13 @@ returns-clause-written c =
     ∙ ap (λ l. masked_octets l c.as_slice.result.now) c.put_prefix-room_start.ensures.written
     ∙ ap (λ l. masked_octets front l) c.as_slice.ensures in
     let same : c.put_prefix.result ≡ n = omega arith in
-    let again : take n c.put_prefix.new.out ≡ front = ap (λ k. take k c.put_prefix.new.out) (omega arith) ∙ c.put_prefix.ensures.written in
+    let again : take n c.put_prefix.new.out ≡ front =
+    ap (λ k. take k c.put_prefix.new.out) (omega arith) ∙ c.put_prefix.ensures.written in
     let kept : drop n c.put_prefix.new.out ≡ drop n c.put_room-room_end.new.out =
-    ap (λ k. drop k c.put_prefix.new.out) (omega arith) ∙ c.put_prefix.ensures.rest ∙ ap (λ k. drop k c.put_room-room_end.new.out) same in
-    front_again c.put_prefix.new.out c.put_room-room_end.new.out before (room_behind b c.args.vector (take n before) c.args.field.now) front n c.put_room-room_end.result
+    ap (λ k. drop k c.put_prefix.new.out) (omega arith) ∙ c.put_prefix.ensures.rest
+    ∙ ap (λ k. drop k c.put_room-room_end.new.out) same in
+    front_again c.put_prefix.new.out c.put_room-room_end.new.out before
+    (room_behind b c.args.vector (take n before) c.args.field.now) front n c.put_room-room_end.result
     (omega arith) (omega arith) again kept c.put_room-room_end.ensures.written
     ∙ ap (λ l. front ++ room_behind b c.args.vector l c.args.field.now) masked_is
 
@@ -35,7 +38,8 @@ returns-clause-rest c =
     let end : ℕ = c.put_room-room_end.result in
     let masked : List ℕ = c.mask_in_place.new.prefix in
     let here : length masked ≡ n = omega (arith, length-take-le n c.put_prefix-room_start.new.out (omega arith)) in
-    drop_later c.put_prefix.new.out c.put_room-room_end.new.out c.put_prefix.result end (omega arith) c.put_prefix.ensures.rest
+    drop_later c.put_prefix.new.out c.put_room-room_end.new.out c.put_prefix.result end (omega arith)
+    c.put_prefix.ensures.rest
     ∙ c.put_room-room_end.ensures.rest
     ∙ drop-append-drop n c.put_prefix-room_start.new.out masked end (omega arith) here
     ∙ drop_later c.put_prefix-room_start.new.out c.args.out.now n end (omega arith) c.put_prefix-room_start.ensures.rest

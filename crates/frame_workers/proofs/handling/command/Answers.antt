@@ -20,15 +20,18 @@ returns g c = record {
       takes_grows _ _ _ _ visits.takes;
   shares = c.command-commanded.ensures.shares;
   answered = λ layout begin segment b.
-      let v : View = view c.args.worker.now in let w : View = view c.command-commanded.new.worker in let task : Record = c.args.task.now in
+      let v : View = view c.args.worker.now in let w : View = view c.command-commanded.new.worker in
+      let task : Record = c.args.task.now in
       let (found, given, visits, told) = c.command-commanded.ensures.commanded in
       let handled = subst (λ (l : List ℕ). WithPosition c.command-commanded.result (known_of_book given)
       (λ answer. IsCommanded task.index l answer found given v.numbers w.numbers)) c.as_slice.ensures.octets told in
       subst (Answered layout begin segment v w task) (sym c.commanded_answer.ensures)
-      (commanding_answers g.O.Site.told begin layout segment task v w found given b c.requires.ready.free c.requires.kind
+      (commanding_answers g.O.Site.told begin layout segment task v w found given b c.requires.ready.free
+      c.requires.kind
       visits c.command-commanded.result handled);
   exactly = λ begin segment b.
-      let v : View = view c.args.worker.now in let w : View = view c.command-commanded.new.worker in let task : Record = c.args.task.now in
+      let v : View = view c.args.worker.now in let w : View = view c.command-commanded.new.worker in
+      let task : Record = c.args.task.now in
       let apart : Layout = record { lane_of = λ i. 0; segment_of = λ i. 0 } in
       let (found, given, visits, told) = c.command-commanded.ensures.commanded in
       let handled = subst (λ (l : List ℕ). WithPosition c.command-commanded.result (known_of_book given)

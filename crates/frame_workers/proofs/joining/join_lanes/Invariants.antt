@@ -15,9 +15,12 @@ invariant-lanes g l = record {
   ready : All (λ lane. IsReady l.unit.counters l.unit.plan lane.worker × (lane.number < LANES)) l.lanes.items;
   apart : AllPairs HaveOwnNumbers l.lanes.items;
   many : length l.parts ≡ LANES;
-  joined : meeting_all (view l.worker) (parts_of l.lanes.items) ≡ meeting_all (view l.initial.worker) (parts_of l.initial.lanes.items);
-  meet : MeetAll MOST_KEYS (view l.worker) (parts_of l.lanes.items) → MeetAll MOST_KEYS (view l.initial.worker) (parts_of l.initial.lanes.items);
-  parts : (number : ℕ) → answers_or number (parts_of l.lanes.items) (left_at number l.parts) ≡ answers_of number (parts_of l.initial.lanes.items);
+  joined : meeting_all (view l.worker) (parts_of l.lanes.items)
+      ≡ meeting_all (view l.initial.worker) (parts_of l.initial.lanes.items);
+  meet : MeetAll MOST_KEYS (view l.worker) (parts_of l.lanes.items)
+      → MeetAll MOST_KEYS (view l.initial.worker) (parts_of l.initial.lanes.items);
+  parts : (number : ℕ) → answers_or number (parts_of l.lanes.items) (left_at number l.parts)
+      ≡ answers_of number (parts_of l.initial.lanes.items);
 }
 
 abbrev pub decreases-lanes : goal.decreases-lanes

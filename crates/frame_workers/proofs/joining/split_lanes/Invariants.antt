@@ -18,7 +18,8 @@ invariant-rooms g l = record {
   split : All (IsSplit (IsReady l.unit.counters l.unit.plan) l.records (view l.initial.worker)) l.lanes.items;
   above : All (λ lane. length l.rooms.items ≤ lane.number) l.lanes.items;
   apart : AllPairs HaveOwnNumbers l.lanes.items;
-  each : (number : ℕ) → length l.rooms.items ≤ number → number < LANES → list_any (is_of_lane number) l.records ≡ true → IsThere number l.lanes.items;
+  each : (number : ℕ) → length l.rooms.items ≤ number → number < LANES → list_any (is_of_lane number) l.records ≡ true
+      → IsThere number l.lanes.items;
 }
 
 abbrev pub decreases-rooms : goal.decreases-rooms

@@ -21,10 +21,14 @@ invariant-loop-task g l = record {
   room : length l.records ≤ vec_capacity l.lane.answers;
   ascend : Ascend l.records;
   count : length l.lane.answers.items ≡ length (of_lane l.initial.lane.number (take l.task-index l.records));
-  handled : (begin : Begin) (layout : Layout) (segment : ℕ) → BeganWith g.O.Site.told begin (view l.initial.lane.worker).turn.known.opening
-      → Handled layout begin (view l.initial.lane.worker) (view l.lane.worker) (of_lane l.initial.lane.number (take l.task-index l.records))
+  handled : (begin : Begin) (layout : Layout) (segment : ℕ)
+      → BeganWith g.O.Site.told begin (view l.initial.lane.worker).turn.known.opening
+      → Handled layout begin (view l.initial.lane.worker) (view l.lane.worker)
+      (of_lane l.initial.lane.number (take l.task-index l.records))
       (deeds_of segment (of_lane l.initial.lane.number (take l.task-index l.records)) l.lane.answers.items);
-  exactly : (begin : Begin) (segment : ℕ) → BeganWith g.O.Site.told begin (view l.initial.lane.worker).turn.known.opening
-      → MovedInTurn begin (view l.initial.lane.worker) (view l.lane.worker) (length (of_lane l.initial.lane.number (take l.task-index l.records)))
+  exactly : (begin : Begin) (segment : ℕ)
+      → BeganWith g.O.Site.told begin (view l.initial.lane.worker).turn.known.opening
+      → MovedInTurn begin (view l.initial.lane.worker) (view l.lane.worker)
+      (length (of_lane l.initial.lane.number (take l.task-index l.records)))
       (deeds_of segment (of_lane l.initial.lane.number (take l.task-index l.records)) l.lane.answers.items);
 }

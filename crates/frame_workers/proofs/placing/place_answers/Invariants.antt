@@ -14,10 +14,12 @@ invariant-loop-task l = record {
   lanes : All (λ (task : Record). task.lane < LANES) l.records;
   room : length l.records ≤ vec_capacity l.answers;
   count : length l.answers.items ≡ l.task-index;
-  left : (deeds : List Deed) (segment : ℕ) → ((number : ℕ) → AreAmong deeds segment number l.records (left_at number l.initial.parts))
+  left : (deeds : List Deed) (segment : ℕ)
+      → ((number : ℕ) → AreAmong deeds segment number l.records (left_at number l.initial.parts))
       → ((number : ℕ) → AreAmong deeds segment number (drop l.task-index l.records) (left_at number l.parts))
       × All (Contains deeds) (deeds_of segment (take l.task-index l.records) l.answers.items);
   in_turn : (lane : ℕ) → All (λ (task : Record). task.lane ≡ lane) l.records
       → l.answers.items ++ left_at lane l.parts ≡ left_at lane l.initial.parts;
-  given : (number : ℕ) → length (left_at number l.parts) + length (of_lane number (take l.task-index l.records)) ≡ length (left_at number l.initial.parts);
+  given : (number : ℕ) → length (left_at number l.parts) + length (of_lane number (take l.task-index l.records))
+      ≡ length (left_at number l.initial.parts);
 }

@@ -6,11 +6,13 @@ use Rattle.image_content.proofs.associations.all_apart.Goals as goal
 
 pub loop-other-preserved : goal.loop-other-preserved
 loop-other-preserved c =
-    all_more (λ (other : SaRow). RowsAreApart other c.args.row.now) c.args.rows.now c.loop-other.other-index c.other-item.result
+    all_more (λ (other : SaRow). RowsAreApart other c.args.row.now) c.args.rows.now c.loop-other.other-index
+    c.other-item.result
     c.other-item.is c.loop-other-test.true c.loop-other.invariant (c.are_apart.ensures.0 c.if-not-are_apart.false)
 
 pub returns : goal.returns
 returns c = (
-  λ t. all_done (λ (other : SaRow). RowsAreApart other c.args.row.now) c.args.rows.now c.loop-other.other-index c.loop-other-test.false c.loop-other.invariant,
+  λ t. all_done (λ (other : SaRow). RowsAreApart other c.args.row.now) c.args.rows.now c.loop-other.other-index
+      c.loop-other-test.false c.loop-other.invariant,
   λ all. refl,
 )

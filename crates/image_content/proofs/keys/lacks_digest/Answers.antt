@@ -4,6 +4,8 @@ use Rattle.image_content.proofs.keys.lacks_digest.Goals as goal
 
 pub returns : goal.returns
 returns c = (
-  λ t. no_digest c.args.book.now c.args.digest.now (none_if_mapped (λ (row : KeyRow). row.id) _ c.twin.result _ c.twin.ensures c.is_none.ensures t),
-  λ all. true_if_mapped (λ (row : KeyRow). row.id) _ c.twin.result _ c.twin.ensures c.is_none.ensures (digest_nowhere c.args.book.now c.args.digest.now all),
+  λ t. no_digest c.args.book.now c.args.digest.now
+      (none_if_mapped (λ (row : KeyRow). row.id) _ c.twin.result _ c.twin.ensures c.is_none.ensures t),
+  λ all. true_if_mapped (λ (row : KeyRow). row.id) _ c.twin.result _ c.twin.ensures c.is_none.ensures
+      (digest_nowhere c.args.book.now c.args.digest.now all),
 )

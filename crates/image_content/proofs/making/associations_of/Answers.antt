@@ -6,7 +6,8 @@ use Rattle.image_content.proofs.making.associations_of.Goals as goal
 
 pub returns-then-not-may_follow_associations : goal.returns-then-not-may_follow_associations
 returns-then-not-may_follow_associations c = λ is.
-    let split = ap (λ (rest : List SaRow). c.loop-row.book ++ rest) (sym c.in-Some.ensures.steps.0) ∙ c.loop-row.invariant.all in
+    let split = ap (λ (rest : List SaRow). c.loop-row.book ++ rest) (sym c.in-Some.ensures.steps.0)
+    ∙ c.loop-row.invariant.all in
     let told = c.may_follow_associations.ensures.1
     (next_follows MayFollow c.loop-row.book c.next.new.self.rest.items c.args.rows.items c.in-Some.row split
     (λ i d inside. c.rows_may_follow.ensures c.args.rows.items i d is inside)) in

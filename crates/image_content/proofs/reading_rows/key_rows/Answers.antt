@@ -1,11 +1,13 @@
-use Rattle.std.proofs.Common.{◌≡◌, ℕ, ◌-◌, List, [], ◌∷◌, ◌++◌, take, refl, sym, ap, ◌∙◌, subst, arith, All, append_assoc}
+use Rattle.std.proofs.Common.{◌≡◌, ℕ, ◌-◌, List, [], ◌∷◌, ◌++◌, take, refl, sym, ap, ◌∙◌, subst, arith, All}
+use Rattle.std.proofs.Common.{append_assoc}
 use Rattle.std.proofs.lemmas.List.{flat_map_more, take-append-drop}
 use Rattle.std.proofs.lemmas.List.Elements.{All-nil, All-push}
 use Rattle.std.proofs.lemmas.Result.{err_from_is_err_and}
 use Rattle.key_book.specs.declared.key_row.KeyRow.{KeyRow}
 use Rattle.image_content.specs.Content.{key_rows}
 use Rattle.image_content.specs.Reading.{AreKeyRows}
-use Rattle.image_content.proofs.RowsRead.{IsKey, key_octets, SplitAt, head_of, split_more, whole_cause, key_sized, same_key}
+use Rattle.image_content.proofs.RowsRead.{IsKey, key_octets, SplitAt, head_of, split_more, whole_cause, key_sized}
+use Rattle.image_content.proofs.RowsRead.{same_key}
 use Rattle.image_content.proofs.reading_rows.key_rows.Goals as goal
 
 pub loop-rest-init : goal.loop-rest-init
@@ -26,11 +28,13 @@ loop-rest-preserved c =
     let items = c.in_ok-push.ensures.items in
     let before = c.loop-rest.invariant in
     let joined : first ++ behind ≡ c.loop-rest.rest.now =
-    ap (λ (s : List ℕ). s ++ behind) c.split_at.ensures.front ∙ ap (λ (s : List ℕ). take 96 c.loop-rest.rest.now ++ s) c.split_at.ensures.back
+    ap (λ (s : List ℕ). s ++ behind) c.split_at.ensures.front ∙ ap (λ (s : List ℕ). take 96 c.loop-rest.rest.now ++ s)
+    c.split_at.ensures.back
     ∙ take-append-drop 96 c.loop-rest.rest.now in
     record {
       each = subst (All (λ (row : KeyRow). IsKey row (key_octets row))) (sym items)
-          (All-push (λ (row : KeyRow). IsKey row (key_octets row)) rows row before.each (subst (IsKey row) is.spelled is));
+          (All-push (λ (row : KeyRow). IsKey row (key_octets row)) rows row before.each
+          (subst (IsKey row) is.spelled is));
       put = ap (λ (rows : List KeyRow). key_rows rows ++ behind) items
           ∙ ap (λ (s : List ℕ). s ++ behind) (sym (flat_map_more key_octets [] rows row))
           ∙ append_assoc (key_rows rows) (key_octets row) behind
@@ -38,12 +42,18 @@ loop-rest-preserved c =
           ∙ before.put;
       only = λ all are.
           let s = before.only all are in
-          let h = head_of key_octets IsKey 96 (omega arith) key_sized first behind (omega (arith, c.split_at.ensures.front_len)) s.others s.behind.each (joined ∙ s.behind.spelled) in
+          let h = head_of key_octets IsKey 96 (omega arith) key_sized first behind
+          (omega (arith, c.split_at.ensures.front_len)) s.others s.behind.each (joined ∙ s.behind.spelled) in
           let one = same_key row h.head first is h.is in
           subst (λ (rows : List KeyRow). SplitAt (λ others. AreKeyRows others behind) rows all) (sym items)
-          (split_more (λ others. AreKeyRows others c.loop-rest.rest.now) (λ others. AreKeyRows others behind) rows all row s h.tail
-          (h.rows_are ∙ ap (λ (head : KeyRow). head ∷ h.tail) (sym one)) (record { each = h.each; spelled = h.spelled }));
-      whole = (before.whole.0 - 1, omega (arith, before.whole.1, c.split_at.ensures.front_len, c.split_at.ensures.back_len));
+          (split_more (λ others. AreKeyRows others c.loop-rest.rest.now) (λ others. AreKeyRows others behind) rows all
+          row s h.tail
+          (h.rows_are ∙ ap (λ (head : KeyRow). head ∷ h.tail) (sym one))
+          (record { each = h.each; spelled = h.spelled }));
+      whole = (
+        before.whole.0 - 1,
+        omega (arith, before.whole.1, c.split_at.ensures.front_len, c.split_at.ensures.back_len),
+      );
     }
 
 pub returns-in_err-key_row-clause-fault : goal.returns-in_err-key_row-clause-fault
@@ -52,11 +62,13 @@ returns-in_err-key_row-clause-fault c =
     let first = c.split_at.result.0.now in
     let behind = c.split_at.result.1.now in
     let joined : first ++ behind ≡ c.loop-rest.rest.now =
-    ap (λ (s : List ℕ). s ++ behind) c.split_at.ensures.front ∙ ap (λ (s : List ℕ). take 96 c.loop-rest.rest.now ++ s) c.split_at.ensures.back
+    ap (λ (s : List ℕ). s ++ behind) c.split_at.ensures.front ∙ ap (λ (s : List ℕ). take 96 c.loop-rest.rest.now ++ s)
+    c.split_at.ensures.back
     ∙ take-append-drop 96 c.loop-rest.rest.now in
     rw (p.1, p.2) (whole_cause c.in_err-key_row.field-0.0
     (λ none all are.
     let s = c.loop-rest.invariant.only all are in
-    let h = head_of key_octets IsKey 96 (omega arith) key_sized first behind (omega (arith, c.split_at.ensures.front_len)) s.others s.behind.each (joined ∙ s.behind.spelled) in
+    let h = head_of key_octets IsKey 96 (omega arith) key_sized first behind
+    (omega (arith, c.split_at.ensures.front_len)) s.others s.behind.each (joined ∙ s.behind.spelled) in
     none h.head h.is)
     c.in_err-key_row.ensures.fault)

@@ -8,4 +8,5 @@ pub returns-clause-said : goal.returns-clause-said
 returns-clause-said c =
     let parts = c.args.parts in
     ap (λ (window : Window). record parts { sa = record parts.sa { window = field_of window } }) c.new.ensures
-    ∙ ap (λ (field : ℕ). record parts { sa = record parts.sa { window = field } }) (field_of-new_window c.args.high parts.sa.window)
+    ∙ ap (λ (field : ℕ). record parts { sa = record parts.sa { window = field } })
+    (field_of-new_window c.args.high parts.sa.window)

@@ -1,4 +1,5 @@
-use Rattle.std.proofs.Common.{◌≡◌, ℕ, ◌-◌, List, [], ◌∷◌, ◌++◌, take, refl, sym, ap, ◌∙◌, subst, arith, All, append_assoc}
+use Rattle.std.proofs.Common.{◌≡◌, ℕ, ◌-◌, List, [], ◌∷◌, ◌++◌, take, refl, sym, ap, ◌∙◌, subst, arith, All}
+use Rattle.std.proofs.Common.{append_assoc}
 use Rattle.std.proofs.lemmas.List.{flat_map_more, take-append-drop}
 use Rattle.std.proofs.lemmas.List.Elements.{All-nil, All-push}
 use Rattle.std.proofs.lemmas.Result.{err_from_is_err_and}
@@ -26,11 +27,13 @@ loop-rest-preserved c =
     let items = c.in_ok-push.ensures.items in
     let before = c.loop-rest.invariant in
     let joined : first ++ behind ≡ c.loop-rest.rest.now =
-    ap (λ (s : List ℕ). s ++ behind) c.split_at.ensures.front ∙ ap (λ (s : List ℕ). take 32 c.loop-rest.rest.now ++ s) c.split_at.ensures.back
+    ap (λ (s : List ℕ). s ++ behind) c.split_at.ensures.front ∙ ap (λ (s : List ℕ). take 32 c.loop-rest.rest.now ++ s)
+    c.split_at.ensures.back
     ∙ take-append-drop 32 c.loop-rest.rest.now in
     record {
       each = subst (All (λ (row : SaRow). (IsRestartedRow c.args.keys.now) row (sa_octets row))) (sym items)
-          (All-push (λ (row : SaRow). (IsRestartedRow c.args.keys.now) row (sa_octets row)) rows row before.each (subst ((IsRestartedRow c.args.keys.now) row) is.is_row.spelled is));
+          (All-push (λ (row : SaRow). (IsRestartedRow c.args.keys.now) row (sa_octets row)) rows row before.each
+          (subst ((IsRestartedRow c.args.keys.now) row) is.is_row.spelled is));
       put = ap (λ (rows : List SaRow). sa_rows rows ++ behind) items
           ∙ ap (λ (s : List ℕ). s ++ behind) (sym (flat_map_more sa_octets [] rows row))
           ∙ append_assoc (sa_rows rows) (sa_octets row) behind
@@ -38,12 +41,19 @@ loop-rest-preserved c =
           ∙ before.put;
       only = λ all are.
           let s = before.only all are in
-          let h = head_of sa_octets (IsRestartedRow c.args.keys.now) 32 (omega arith) (sa_sized c.args.keys.now) first behind (omega (arith, c.split_at.ensures.front_len)) s.others s.behind.each (joined ∙ s.behind.spelled) in
+          let h = head_of sa_octets (IsRestartedRow c.args.keys.now) 32 (omega arith) (sa_sized c.args.keys.now) first
+          behind (omega (arith, c.split_at.ensures.front_len)) s.others s.behind.each (joined ∙ s.behind.spelled) in
           let one = same_sa c.args.keys.now row h.head first is h.is in
-          subst (λ (rows : List SaRow). SplitAt (λ others. AreSaRows c.args.keys.now others behind) rows all) (sym items)
-          (split_more (λ others. AreSaRows c.args.keys.now others c.loop-rest.rest.now) (λ others. AreSaRows c.args.keys.now others behind) rows all row s h.tail
-          (h.rows_are ∙ ap (λ (head : SaRow). head ∷ h.tail) (sym one)) (record { each = h.each; spelled = h.spelled }));
-      whole = (before.whole.0 - 1, omega (arith, before.whole.1, c.split_at.ensures.front_len, c.split_at.ensures.back_len));
+          subst (λ (rows : List SaRow). SplitAt (λ others. AreSaRows c.args.keys.now others behind) rows all)
+          (sym items)
+          (split_more (λ others. AreSaRows c.args.keys.now others c.loop-rest.rest.now)
+          (λ others. AreSaRows c.args.keys.now others behind) rows all row s h.tail
+          (h.rows_are ∙ ap (λ (head : SaRow). head ∷ h.tail) (sym one))
+          (record { each = h.each; spelled = h.spelled }));
+      whole = (
+        before.whole.0 - 1,
+        omega (arith, before.whole.1, c.split_at.ensures.front_len, c.split_at.ensures.back_len),
+      );
     }
 
 pub returns-in_err-sa_row-clause-fault : goal.returns-in_err-sa_row-clause-fault
@@ -52,11 +62,13 @@ returns-in_err-sa_row-clause-fault c =
     let first = c.split_at.result.0.now in
     let behind = c.split_at.result.1.now in
     let joined : first ++ behind ≡ c.loop-rest.rest.now =
-    ap (λ (s : List ℕ). s ++ behind) c.split_at.ensures.front ∙ ap (λ (s : List ℕ). take 32 c.loop-rest.rest.now ++ s) c.split_at.ensures.back
+    ap (λ (s : List ℕ). s ++ behind) c.split_at.ensures.front ∙ ap (λ (s : List ℕ). take 32 c.loop-rest.rest.now ++ s)
+    c.split_at.ensures.back
     ∙ take-append-drop 32 c.loop-rest.rest.now in
     rw (p.1, p.2) (whole_cause c.in_err-sa_row.field-0.0
     (λ none all are.
     let s = c.loop-rest.invariant.only all are in
-    let h = head_of sa_octets (IsRestartedRow c.args.keys.now) 32 (omega arith) (sa_sized c.args.keys.now) first behind (omega (arith, c.split_at.ensures.front_len)) s.others s.behind.each (joined ∙ s.behind.spelled) in
+    let h = head_of sa_octets (IsRestartedRow c.args.keys.now) 32 (omega arith) (sa_sized c.args.keys.now) first behind
+    (omega (arith, c.split_at.ensures.front_len)) s.others s.behind.each (joined ∙ s.behind.spelled) in
     none h.head h.is)
     c.in_err-sa_row.ensures.fault)

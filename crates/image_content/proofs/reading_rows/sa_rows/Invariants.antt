@@ -12,6 +12,7 @@ abbrev pub invariant-loop-rest : goal.invariant-loop-rest
 invariant-loop-rest l = record {
   each : All (λ (row : SaRow). (IsRestartedRow l.keys) row (sa_octets row)) l.rows.items;
   put : sa_rows l.rows.items ++ l.rest ≡ l.octets;
-  only : (all : List SaRow) → AreSaRows l.keys all l.octets → SplitAt (λ others. AreSaRows l.keys others l.rest) l.rows.items all;
+  only : (all : List SaRow) → AreSaRows l.keys all l.octets
+      → SplitAt (λ others. AreSaRows l.keys others l.rest) l.rows.items all;
   whole : (count : ℕ) × (length l.rest ≡ 32 * count);
 }

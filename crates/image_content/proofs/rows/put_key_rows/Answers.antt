@@ -1,4 +1,5 @@
-use Rattle.std.proofs.Common.{◌≡◌, ℕ, ◌+◌, List, [], ◌∷◌, ◌++◌, length, take, sym, ap, ◌∙◌, subst, arith, All, append_assoc}
+use Rattle.std.proofs.Common.{◌≡◌, ℕ, ◌+◌, List, [], ◌∷◌, ◌++◌, length, take, sym, ap, ◌∙◌, subst, arith, All}
+use Rattle.std.proofs.Common.{append_assoc}
 use Rattle.std.proofs.lemmas.List.{flat_map_more, take_all, take_more}
 use Rattle.std.proofs.lemmas.List.Elements.{All-push}
 use Rattle.key_book.specs.declared.key_row.KeyRow.{KeyRow}
@@ -18,16 +19,24 @@ loop-row-preserved c =
     let more : take (i + 1) rows ≡ take i rows ++ row ∷ [] =
     take_more rows i row c.loop-row-test.true ∙ ap (λ (last : KeyRow). take i rows ++ last ∷ []) (sym c.row-item.is) in
     record {
-      place = omega (arith, before.place, c.put-end.ensures.place, ap length spelled, key_sized row c.spell_key_row.ensures.types);
+      place = omega (
+        arith,
+        before.place,
+        c.put-end.ensures.place,
+        ap length spelled,
+        key_sized row c.spell_key_row.ensures.types,
+      );
       written = c.put-end.ensures.written
           ∙ ap (λ (s : List ℕ). s ++ c.spell_key_row.result) before.written
           ∙ ap (λ (s : List ℕ). (front ++ key_rows (take i rows)) ++ s) spelled
           ∙ append_assoc front (key_rows (take i rows)) (key_octets row)
           ∙ ap (λ (s : List ℕ). front ++ s) (flat_map_more key_octets [] (take i rows) row)
           ∙ ap (λ (all : List KeyRow). front ++ key_rows all) (sym more);
-      types = subst (All IsTypedKey) (sym more) (All-push IsTypedKey (take i rows) row before.types c.spell_key_row.ensures.types);
+      types = subst (All IsTypedKey) (sym more)
+          (All-push IsTypedKey (take i rows) row before.types c.spell_key_row.ensures.types);
     }
 
 pub returns-clause-types : goal.returns-clause-types
 returns-clause-types c =
-    subst (All IsTypedKey) (take_all c.loop-row.row-index c.args.rows.now c.loop-row-test.false) c.loop-row.invariant.types
+    subst (All IsTypedKey) (take_all c.loop-row.row-index c.args.rows.now c.loop-row-test.false)
+    c.loop-row.invariant.types

@@ -1,4 +1,5 @@
-use Rattle.std.proofs.Common.{◌≡◌, ℕ, ◌+◌, List, [], ◌∷◌, ◌++◌, length, take, sym, ap, ◌∙◌, subst, arith, All, append_assoc}
+use Rattle.std.proofs.Common.{◌≡◌, ℕ, ◌+◌, List, [], ◌∷◌, ◌++◌, length, take, sym, ap, ◌∙◌, subst, arith, All}
+use Rattle.std.proofs.Common.{append_assoc}
 use Rattle.std.proofs.lemmas.List.{flat_map_more, take_all, take_more}
 use Rattle.std.proofs.lemmas.List.Elements.{All-push}
 use Rattle.book_record.proofs.Rows.{sa_row_length}
@@ -19,16 +20,24 @@ loop-row-preserved c =
     let more : take (i + 1) rows ≡ take i rows ++ row ∷ [] =
     take_more rows i row c.loop-row-test.true ∙ ap (λ (last : SaRow). take i rows ++ last ∷ []) (sym c.row-item.is) in
     record {
-      place = omega (arith, before.place, c.put-end.ensures.place, ap length spelled, sa_row_length (sa_parts row) (sa_octets row) c.spell_sa_row.ensures.types);
+      place = omega (
+        arith,
+        before.place,
+        c.put-end.ensures.place,
+        ap length spelled,
+        sa_row_length (sa_parts row) (sa_octets row) c.spell_sa_row.ensures.types,
+      );
       written = c.put-end.ensures.written
           ∙ ap (λ (s : List ℕ). s ++ c.spell_sa_row.result) before.written
           ∙ ap (λ (s : List ℕ). (front ++ sa_rows (take i rows)) ++ s) spelled
           ∙ append_assoc front (sa_rows (take i rows)) (sa_octets row)
           ∙ ap (λ (s : List ℕ). front ++ s) (flat_map_more sa_octets [] (take i rows) row)
           ∙ ap (λ (all : List SaRow). front ++ sa_rows all) (sym more);
-      types = subst (All IsTypedSa) (sym more) (All-push IsTypedSa (take i rows) row before.types c.spell_sa_row.ensures.types);
+      types = subst (All IsTypedSa) (sym more)
+          (All-push IsTypedSa (take i rows) row before.types c.spell_sa_row.ensures.types);
     }
 
 pub returns-clause-types : goal.returns-clause-types
 returns-clause-types c =
-    subst (All IsTypedSa) (take_all c.loop-row.row-index c.args.rows.now c.loop-row-test.false) c.loop-row.invariant.types
+    subst (All IsTypedSa) (take_all c.loop-row.row-index c.args.rows.now c.loop-row-test.false)
+    c.loop-row.invariant.types

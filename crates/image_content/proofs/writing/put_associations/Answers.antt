@@ -12,8 +12,11 @@ returns-clause-written c =
     let same = ap length c.rows-rows.ensures.rows in
     let put = c.put_sa_rows-end.ensures in
     let size : length (sa_rows rows) ≡ 32 * length rows =
-    put_width c.args.out.now c.put_sa_rows-end.new.out (sa_rows rows) c.args.at c.put_sa_rows-end.result (32 * length rows) put.place (omega arith) (omega (arith, put.place, same, c.requires.fits)) put.written in
-    padded_put front (sa_rows rows) (take c.put_sa_rows-end.result c.put_sa_rows-end.new.out) (take c.put_zeros.result c.put_zeros.new.out)
+    put_width c.args.out.now c.put_sa_rows-end.new.out (sa_rows rows) c.args.at c.put_sa_rows-end.result
+    (32 * length rows) put.place (omega arith) (omega (arith, put.place, same, c.requires.fits)) put.written in
+    padded_put front (sa_rows rows) (take c.put_sa_rows-end.result c.put_sa_rows-end.new.out)
+    (take c.put_zeros.result c.put_zeros.new.out)
     (sa_room_of c.args.version) (32 * length rows) size put.written
-    (c.put_zeros.ensures.written ∙ ap (λ (width : ℕ). take c.put_sa_rows-end.result c.put_sa_rows-end.new.out ++ replicate (width - 32 * length rows) 0) c.sa_room.ensures)
+    (c.put_zeros.ensures.written ∙ ap (λ (width : ℕ). take c.put_sa_rows-end.result c.put_sa_rows-end.new.out
+    ++ replicate (width - 32 * length rows) 0) c.sa_room.ensures)
     ∙ ap (λ (own : List SaRow). front ++ padded (sa_room_of c.args.version) (sa_rows own)) c.rows-rows.ensures.rows

@@ -12,8 +12,11 @@ returns-clause-written c =
     let same = ap length c.rows-rows.ensures.rows in
     let put = c.put_key_rows-end.ensures in
     let size : length (key_rows rows) ≡ 96 * length rows =
-    put_width c.args.out.now c.put_key_rows-end.new.out (key_rows rows) c.args.at c.put_key_rows-end.result (96 * length rows) put.place (omega arith) (omega (arith, put.place, same, c.requires.fits)) put.written in
-    padded_put front (key_rows rows) (take c.put_key_rows-end.result c.put_key_rows-end.new.out) (take c.put_zeros.result c.put_zeros.new.out)
+    put_width c.args.out.now c.put_key_rows-end.new.out (key_rows rows) c.args.at c.put_key_rows-end.result
+    (96 * length rows) put.place (omega arith) (omega (arith, put.place, same, c.requires.fits)) put.written in
+    padded_put front (key_rows rows) (take c.put_key_rows-end.result c.put_key_rows-end.new.out)
+    (take c.put_zeros.result c.put_zeros.new.out)
     (key_room_of c.args.version) (96 * length rows) size put.written
-    (c.put_zeros.ensures.written ∙ ap (λ (width : ℕ). take c.put_key_rows-end.result c.put_key_rows-end.new.out ++ replicate (width - 96 * length rows) 0) c.key_room.ensures)
+    (c.put_zeros.ensures.written ∙ ap (λ (width : ℕ). take c.put_key_rows-end.result c.put_key_rows-end.new.out
+    ++ replicate (width - 96 * length rows) 0) c.key_room.ensures)
     ∙ ap (λ (own : List KeyRow). front ++ padded (key_room_of c.args.version) (key_rows own)) c.rows-rows.ensures.rows

@@ -11,7 +11,14 @@ returns-clause-written c =
     let keys = padded (key_room_of version) (key_rows c.args.state.now.keys) in
     let associations = padded (sa_room_of version) (sa_rows c.args.state.now.associations) in
     let whole : length c.put_associations.new.out ≤ c.put_associations.result =
-    omega (arith, c.requires.sized, whole_length version, c.put_associations.ensures.place, c.put_keys-associations_at.ensures.place, c.put_counts-keys_at.ensures.place) in
+    omega (
+      arith,
+      c.requires.sized,
+      whole_length version,
+      c.put_associations.ensures.place,
+      c.put_keys-associations_at.ensures.place,
+      c.put_counts-keys_at.ensures.place,
+    ) in
     sym (take_all c.put_associations.result c.put_associations.new.out whole)
     ∙ c.put_associations.ensures.written
     ∙ ap (λ (s : List ℕ). s ++ associations) c.put_keys-associations_at.ensures.written

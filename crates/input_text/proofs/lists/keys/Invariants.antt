@@ -4,7 +4,8 @@ use Rattle.input_text.proofs.NumberLists.{Taken}
 use Rattle.input_text.proofs.lists.keys.Given as goal
 
 abbrev pub invariant-words : goal.invariant-words
-invariant-words l = Taken (λ key. IsTrue (is_key key)) l.fn.fields l.fields l.keys.items × (1 ≤ length l.keys.items) × (length l.keys.items ≤ 8)
+invariant-words l = Taken (λ key. IsTrue (is_key key)) l.fn.fields l.fields l.keys.items × (1 ≤ length l.keys.items)
+    × (length l.keys.items ≤ 8)
 
 abbrev pub decreases-words : goal.decreases-words
 decreases-words l = 8 - length l.keys.items

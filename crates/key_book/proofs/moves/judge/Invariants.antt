@@ -4,4 +4,5 @@ use Rattle.key_book.proofs.moves.judge.Given as goal
 
 abbrev pub invariant-loop-i : goal.invariant-loop-i
 invariant-loop-i l =
-    moves_refusal l.table.rows.items l.ids l.to l.in_use ≡ moves_refusal (moved l.table.rows.items (take l.i l.ids) l.to) (drop l.i l.ids) l.to l.in_use
+    moves_refusal l.table.rows.items l.ids l.to l.in_use
+    ≡ moves_refusal (moved l.table.rows.items (take l.i l.ids) l.to) (drop l.i l.ids) l.to l.in_use

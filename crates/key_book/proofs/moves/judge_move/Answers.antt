@@ -9,7 +9,8 @@ use Rattle.key_book.proofs.moves.judge_move.Goals.{then-contains, else-contains}
 
 pub returns-in_default : goal.returns-in_default
 returns-in_default c =
-    sym (move_refusal-unknown c.args.table.now.rows.items c.args.done.now c.args.id c.args.to c.args.in_use.now (sym c.in_default.ensures))
+    sym (move_refusal-unknown c.args.table.now.rows.items c.args.done.now c.args.id c.args.to c.args.in_use.now
+    (sym c.in_default.ensures))
 
 pub returns : goal.returns
 returns c =
@@ -17,11 +18,15 @@ returns c =
     let judged = c.judge_state.ensures ∙ ap (state_refusal c.if-contains.from c.args.to) c.lowest_holder.ensures in
     judged ∙ elim c.if-contains.branch [
       | then-contains w ↦
-          let again : list_any (λ other. nat_eq other c.args.id) c.args.done.now ≡ true = sym c.contains.ensures.value ∙ w.if-contains.true in
+          let again : list_any (λ other. nat_eq other c.args.id) c.args.done.now ≡ true =
+          sym c.contains.ensures.value ∙ w.if-contains.true in
           ap (λ (from : KeyState). state_refusal from c.args.to (lowest_holder c.args.in_use.now c.args.id)) w.from-is
-          ∙ sym (move_refusal-again c.args.table.now.rows.items c.args.done.now c.args.id c.in-Some.i c.args.to c.args.in_use.now place again)
+          ∙ sym (move_refusal-again c.args.table.now.rows.items c.args.done.now c.args.id c.in-Some.i c.args.to
+          c.args.in_use.now place again)
       | else-contains w ↦
-          let first : list_any (λ other. nat_eq other c.args.id) c.args.done.now ≡ false = sym c.contains.ensures.value ∙ w.if-contains.false in
+          let first : list_any (λ other. nat_eq other c.args.id) c.args.done.now ≡ false =
+          sym c.contains.ensures.value ∙ w.if-contains.false in
           ap (λ (from : KeyState). state_refusal from c.args.to (lowest_holder c.args.in_use.now c.args.id)) w.from-is
-          ∙ sym (move_refusal-first c.args.table.now.rows.items c.args.done.now c.args.id c.in-Some.i c.args.to c.args.in_use.now w.index.result.now place w.index.ensures first)
+          ∙ sym (move_refusal-first c.args.table.now.rows.items c.args.done.now c.args.id c.in-Some.i c.args.to
+          c.args.in_use.now w.index.result.now place w.index.ensures first)
     ]

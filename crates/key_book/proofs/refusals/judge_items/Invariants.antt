@@ -5,4 +5,5 @@ use Rattle.key_book.proofs.refusals.judge_items.Given as goal
 
 abbrev pub invariant-loop-i : goal.invariant-loop-i
 invariant-loop-i l =
-    items_refusal l.table.rows.items l.items ≡ items_refusal (l.table.rows.items ++ map new_row (take l.i l.items)) (drop l.i l.items)
+    items_refusal l.table.rows.items l.items ≡ items_refusal (l.table.rows.items ++ map new_row (take l.i l.items))
+    (drop l.i l.items)

@@ -11,6 +11,7 @@ returns c = λ image runs kept end life few says.
     let once = c.recorded_life_repeats_nothing.ensures.once image runs kept found.0 life found.1.runs_are in (
       found.0,
       found.1.runs_are,
-      c.audit_says_one.ensures (recording (sunk_by kept runs)) end (Clean (length (sunk_by kept runs)) (uses_in found.0) (acceptances_in found.0)) says
+      c.audit_says_one.ensures (recording (sunk_by kept runs)) end
+          (Clean (length (sunk_by kept runs)) (uses_in found.0) (acceptances_in found.0)) says
           (sunk_by kept runs, found.0, found.1, once, refl, refl, refl),
     )

@@ -7,7 +7,8 @@ use Rattle.law_runs.proofs.repeated.one_input_is_handled_alike.Goals as goal
 pub returns : goal.returns
 returns c = λ call other run again same status told tells left.
     let (end, told_is, reads, handled, answered) = all_read call run status in
-    let (ends, retold_is, rereads, rehandled, reanswered) = all_read other again (subst (λ n. (n ≡ 0) ⊎ (n ≡ 3)) (sym same) status) in
+    let (ends, retold_is, rereads, rehandled, reanswered) =
+    all_read other again (subst (λ n. (n ≡ 0) ⊎ (n ≡ 3)) (sym same) status) in
     let both = c.input_reads_once.ensures call.source.left run.account.items again.account.items end ends
     (reads told)
     (subst (λ input. IsInput input again.account.items ends) left (rereads tells)) in (

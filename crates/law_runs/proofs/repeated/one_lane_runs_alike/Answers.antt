@@ -13,12 +13,16 @@ stood : (call : CallSeen) (run : RunEnds call) → call.status ≡ DONE → IsUn
 stood call run zero = unfailed call run (λ five. absurd (let z = zero in omega arith)) (all_done call run zero).no_fault
 
 pub returns : goal.returns
-returns c = λ call other run again plan state ends source_told source_tells told tells left image shows one wants rewants.
-    let whole : (call.status ≡ DONE) ⊎ (call.status ≡ MALFORMED) → other.status ≡ call.status → IsUnfailed call → IsUnfailed other
+returns c = λ call other run again plan state ends source_told source_tells told tells left image shows one wants
+    rewants.
+    let whole : (call.status ≡ DONE) ⊎ (call.status ≡ MALFORMED) → other.status ≡ call.status → IsUnfailed call
+    → IsUnfailed other
     → RunsAlike call other run.account again.account =
     λ status same still restill.
-    let (handled, each, reach, retold) = c.one_input_is_handled_alike.ensures call other run again same status source_told source_tells left in
-    let alike = c.one_lane_answers_alike.ensures call other run again plan state each reach told tells image shows handled one
+    let (handled, each, reach, retold) =
+    c.one_input_is_handled_alike.ensures call other run again same status source_told source_tells left in
+    let alike = c.one_lane_answers_alike.ensures call other run again plan state each reach told tells image shows
+    handled one
     (none_fails call run still wants) (none_fails other again restill rewants) in
     record { answers = alike.answers; entries = alike.entries still restill; due = alike.due still restill retold } in
     elim ends [
@@ -28,7 +32,8 @@ returns c = λ call other run again plan state ends source_told source_tells tol
         | inr four ↦
             let (told_is, each) = source_failed call run four.status_is in
             let (retold_is, reach) = source_failed other again four.same_status in
-            let alike = c.one_lane_answers_alike.ensures call other run again plan state each reach told tells image shows four.handled one
+            let alike = c.one_lane_answers_alike.ensures call other run again plan state each reach told tells image
+            shows four.handled one
             (none_fails call run four.still wants) (none_fails other again four.still_again rewants) in
             let made : RunsAlike call other run.account again.account = record {
               answers = alike.answers;

@@ -4,4 +4,5 @@ use Rattle.plan_text.proofs.put.put_notes.Given as goal
 
 -- the lines put, and those of the notes that are left, are all lines
 abbrev pub invariant-loop-note : goal.invariant-loop-note
-invariant-loop-note l = l.text.items ++ note_lines (drop l.note-index l.notes) ≡ l.initial.text.items ++ note_lines l.notes
+invariant-loop-note l = l.text.items ++ note_lines (drop l.note-index l.notes)
+    ≡ l.initial.text.items ++ note_lines l.notes

@@ -29,8 +29,12 @@ returns-then-head-gt-MOST_BODY-clause-stands g c told =
     let taken = c.in-Ok.ensures.collected told in
     let filled : length c.collect.new.buffer ≤ c.in-Ok.count = search rules in
     let left = filled_left _ _ _ _ taken filled in
-    let rest = g.S.Source.left c.collect.new.source in
-    (header_said c.answer_head-head.result, rest, left ∙ ap (λ xs. xs ++ rest) c.answer_head-head.ensures.spelled, c.if-head-gt-MOST_BODY.true)
+    let rest = g.S.Source.left c.collect.new.source in (
+      header_said c.answer_head-head.result,
+      rest,
+      left ∙ ap (λ xs. xs ++ rest) c.answer_head-head.ensures.spelled,
+      c.if-head-gt-MOST_BODY.true,
+    )
 
 pub returns-else-head-gt-MOST_BODY-clause-stands : goal.returns-else-head-gt-MOST_BODY-clause-stands
 returns-else-head-gt-MOST_BODY-clause-stands g c told =
@@ -43,5 +47,6 @@ returns-else-head-gt-MOST_BODY-clause-stands g c told =
     let new = g.S.Source.left c.take_body.new.source in
     let front = left ∙ ap (λ xs. xs ++ middle) c.answer_head-head.ensures.spelled in
     ok_more c.take_body.result (StandsBehind header middle new) (Stands old new)
-    (λ next behind. stands_behind header old middle new next c.answer_head-head.ensures.widths c.if-head-gt-MOST_BODY.false front behind)
+    (λ next behind. stands_behind header old middle new next c.answer_head-head.ensures.widths
+    c.if-head-gt-MOST_BODY.false front behind)
     (c.take_body.ensures.stands told)

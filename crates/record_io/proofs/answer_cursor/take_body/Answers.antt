@@ -23,5 +23,6 @@ returns-in-Ok-2-clause-stands g c told =
     let filled : length c.collect.new.buffer ≤ c.in-Ok.count = search rules in
     let left = filled_left _ _ _ _ taken filled in
     let whole : length c.collect.new.buffer ≡ c.in_ok-body.body.len = search rules in
-    let body : c.new.result ≡ c.collect.new.buffer = c.new.ensures ∙ take_at c.collect.new.buffer _ c.in_ok-body.body.len whole in
+    let body : c.new.result ≡ c.collect.new.buffer =
+    c.new.ensures ∙ take_at c.collect.new.buffer _ c.in_ok-body.body.len whole in
     (search rules, search (rules, left))

@@ -24,7 +24,8 @@ returns-in-Ok-2-clause-stands g c told =
     let filled : length c.collect.new.buffer ≤ c.in-Ok.count = search rules in
     let left = filled_left _ _ _ _ taken filled in
     let whole : length c.collect.new.buffer ≡ c.in_ok-octets.octets.len = search rules in
-    let body : c.new.result ≡ c.collect.new.buffer = c.new.ensures ∙ take_at c.collect.new.buffer _ c.in_ok-octets.octets.len whole in
+    let body : c.new.result ≡ c.collect.new.buffer =
+    c.new.ensures ∙ take_at c.collect.new.buffer _ c.in_ok-octets.octets.len whole in
     let new = g.S.Source.left c.collect.new.source in
     let long : length c.collect.new.buffer ≡ c.args.head.len = search rules in
     found_item c.args.header c.new.result _ new c.args.head c.requires (ap length body ∙ long)

@@ -12,16 +12,21 @@ pub loop-row-preserved : goal.loop-row-preserved
 loop-row-preserved c =
     let g : SaRow → SaRow = λ row. cond (receives_with c.args.key row) (with_floor row c.args.floor) row in
     let row : SaRow = get_or c.loop-row.row-items c.loop-row.row-index c.row-item.result in
-    let more = map_over_more g c.deref_mut-row-items.result.now c.loop-row.row-items c.loop-row.row-index c.row-item.result c.loop-row-test.true c.loop-row.invariant c.row-item.is in
+    let more = map_over_more g c.deref_mut-row-items.result.now c.loop-row.row-items c.loop-row.row-index
+    c.row-item.result c.loop-row-test.true c.loop-row.invariant c.row-item.is in
     elim c.if-receives_with.branch [
       | then-receives_with w ↦
           let test : receives_with c.args.key row ≡ true = sym c.receives_with.ensures ∙ w.if-receives_with.true in
-          let new : with_floor row c.args.floor ≡ g c.row-item.result = sym (chosen _ (with_floor row c.args.floor) row test) ∙ ap g (sym c.row-item.is) in
-          let is : c.if-receives_with.row-items ≡ set c.loop-row.row-items c.loop-row.row-index (record row { window = w.lower.new.self }) = w.row-items-is in
-          is ∙ ap (λ (v : Window). set c.loop-row.row-items c.loop-row.row-index (record row { window = v })) w.lower.ensures
+          let new : with_floor row c.args.floor ≡ g c.row-item.result =
+          sym (chosen _ (with_floor row c.args.floor) row test) ∙ ap g (sym c.row-item.is) in
+          let is : c.if-receives_with.row-items ≡ set c.loop-row.row-items c.loop-row.row-index
+          (record row { window = w.lower.new.self }) = w.row-items-is in
+          is ∙ ap (λ (v : Window). set c.loop-row.row-items c.loop-row.row-index (record row { window = v }))
+          w.lower.ensures
           ∙ ap (set c.loop-row.row-items c.loop-row.row-index) new ∙ more
       | else-receives_with w ↦
           let test : receives_with c.args.key row ≡ false = sym c.receives_with.ensures ∙ w.if-receives_with.false in
-          let same : row ≡ g c.row-item.result = sym (left_out _ (with_floor row c.args.floor) row test) ∙ ap g (sym c.row-item.is) in
+          let same : row ≡ g c.row-item.result =
+          sym (left_out _ (with_floor row c.args.floor) row test) ∙ ap g (sym c.row-item.is) in
           w.row-items-is ∙ ap (set c.loop-row.row-items c.loop-row.row-index) same ∙ more
     ]

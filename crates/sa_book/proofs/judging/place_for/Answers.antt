@@ -6,4 +6,5 @@ use Rattle.sa_book.proofs.judging.place_for.Goals as goal
 
 pub returns : goal.returns
 returns c =
-    c.unwrap_or.ensures ∙ ap (λ o. unwrap_or o (length c.args.rows.now)) c.higher.ensures ∙ or_end (λ (other : SaRow). nat_lt c.args.spi other.spi) c.args.rows.now
+    c.unwrap_or.ensures ∙ ap (λ o. unwrap_or o (length c.args.rows.now)) c.higher.ensures
+    ∙ or_end (λ (other : SaRow). nat_lt c.args.spi other.spi) c.args.rows.now

@@ -7,4 +7,5 @@ use Rattle.sdls_base.proofs.error_control.and_seven_of_zeros.Goals as goal
 
 pub returns : goal.returns
 unfolding times_x after_octet
-returns c = value_at (λ x. fold after_octet 0 (x ∷ 0 ∷ 0 ∷ 0 ∷ 0 ∷ 0 ∷ 0 ∷ 0 ∷ [])) 256 c.args.octet _ refl c.ranges.octet.fits
+returns c = value_at (λ x. fold after_octet 0 (x ∷ 0 ∷ 0 ∷ 0 ∷ 0 ∷ 0 ∷ 0 ∷ 0 ∷ [])) 256 c.args.octet _ refl
+    c.ranges.octet.fits

@@ -17,4 +17,5 @@ returns-clause-remainder c =
     (frame_error_control-remainder c.args.octets.now (λ i. omega (arith, c.type_inv.octets i)))
 
 pub returns-clause-only : goal.returns-clause-only
-returns-clause-only c = λ r is. one_remainder (dividend c.args.octets.now) r c.fold.result is (returns-clause-remainder c)
+returns-clause-only c = λ r is. one_remainder (dividend c.args.octets.now) r c.fold.result is
+    (returns-clause-remainder c)

@@ -15,5 +15,6 @@ returns c =
       c.to_be_bytes.ensures,
     )
     (by_eight_look_ups c.args.register c.args.a c.args.b c.args.c c.args.d c.args.e c.args.f c.args.g c.args.h
-    c.ranges.register.fits c.ranges.a.fits c.ranges.b.fits c.ranges.c.fits c.ranges.d.fits c.ranges.e.fits c.ranges.f.fits
+    c.ranges.register.fits c.ranges.a.fits c.ranges.b.fits c.ranges.c.fits c.ranges.d.fits c.ranges.e.fits
+    c.ranges.f.fits
     c.ranges.g.fits c.ranges.h.fits)

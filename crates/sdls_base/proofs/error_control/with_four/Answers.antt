@@ -10,5 +10,6 @@ returns c =
       c.from_zeros.ensures,
       c.to_be_bytes.ensures,
     )
-    (by_four_look_ups c.args.register c.args.a c.args.b c.args.c c.args.d c.ranges.register.fits c.ranges.a.fits c.ranges.b.fits
+    (by_four_look_ups c.args.register c.args.a c.args.b c.args.c c.args.d c.ranges.register.fits c.ranges.a.fits
+    c.ranges.b.fits
     c.ranges.c.fits c.ranges.d.fits)

@@ -4,4 +4,5 @@ use Rattle.sdls_header.proofs.mask.mask_in_place.Goals as goal
 
 pub returns-clause-text : goal.returns-clause-text
 returns-clause-text c =
-    masked_from_places c.args.prefix.now c.args.mask.now c.rest.prefix (omega arith) (λ k h. c.rest.invariant.done k (omega arith))
+    masked_from_places c.args.prefix.now c.args.mask.now c.rest.prefix (omega arith)
+    (λ k h. c.rest.invariant.done k (omega arith))

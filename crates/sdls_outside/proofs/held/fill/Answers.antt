@@ -13,7 +13,8 @@ use Rattle.sdls_outside.proofs.held.fill.Goals.{then-is_inside, else-is_inside}
 -- the test at this answer
 at : (ranges : List (ℕ × ℕ)) (i : ℕ) (answer : Bool) → answer ≡ list_any (covers i) ranges
     → MatchBool answer (Inside ranges i) (Outside ranges i)
-at ranges i answer same = subst (λ (b : Bool). MatchBool b (Inside ranges i) (Outside ranges i)) (sym same) (sides ranges i)
+at ranges i answer same = subst (λ (b : Bool). MatchBool b (Inside ranges i) (Outside ranges i)) (sym same)
+    (sides ranges i)
 
 pub loop-i-preserved : goal.loop-i-preserved
 loop-i-preserved c =
@@ -24,7 +25,8 @@ loop-i-preserved c =
     let P : List ℕ → Type 0 = λ image. IsFilledBelow (i + 1) c.args.octet ranges c.args.image.now image in
     elim c.if-is_inside.branch [
       | then-is_inside w ↦ subst P (sym w.image-is)
-          (fills i c.args.octet ranges c.args.image.now c.loop-i.image kept within (at ranges i true w.if-is_inside.ensures))
+          (fills i c.args.octet ranges c.args.image.now c.loop-i.image kept within
+          (at ranges i true w.if-is_inside.ensures))
       | else-is_inside w ↦ subst P (sym (w.image-is ∙ set-get_or c.loop-i.image i 0))
           (leaves i c.args.octet ranges c.args.image.now c.loop-i.image kept (at ranges i false w.if-is_inside.ensures))
     ]

@@ -4,4 +4,5 @@ use Rattle.sdls_outside.specs.Moments.{clock}
 use Rattle.sdls_outside.proofs.laws.crash_is_a_moment.Goals as goal
 
 pub returns : goal.returns
-returns c = λ how trace image stays left. moment_now trace (clock trace) image (left-leaves how trace.now image stays left)
+returns c = λ how trace image stays left.
+    moment_now trace (clock trace) image (left-leaves how trace.now image stays left)

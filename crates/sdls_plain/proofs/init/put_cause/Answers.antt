@@ -7,14 +7,16 @@ use Rattle.sdls_plain.proofs.init.put_cause.Goals as goal
 pub returns-in_err-put_text-clause-delivered : goal.returns-in_err-put_text-clause-delivered
 returns-in_err-put_text-clause-delivered g c = λ told.
     let p = err_from_is_err_and c.from_residual.result c.from_residual.ensures.1 in
-    let cut = front_cut (codes " ") (cause_word c.args.cause ++ codes "\n") _ _ (c.in_err-put_text.ensures.delivered told) in
+    let cut = front_cut (codes " ") (cause_word c.args.cause ++ codes "\n")
+    _ _ (c.in_err-put_text.ensures.delivered told) in
     rw p.1 cut
 
 pub returns-in_err-put_word-clause-delivered : goal.returns-in_err-put_word-clause-delivered
 returns-in_err-put_word-clause-delivered g c = λ told.
     let r = c.from_residual-in_err-put_word in
     let p = err_from_is_err_and r.result r.ensures.1 in
-    let cut = front_middle (codes " ") (cause_word c.args.cause) (codes "\n") _ _ _ (c.in_ok-put_text.ensures.delivered told)
+    let cut = front_middle (codes " ") (cause_word c.args.cause) (codes "\n")
+    _ _ _ (c.in_ok-put_text.ensures.delivered told)
     (c.in_err-put_word.ensures.delivered told) in
     rw p.1 cut
 

@@ -9,6 +9,7 @@ returns-in-Ok-clause-told g c = (
   c.deref.result.now,
   c.deref.ensures.value ∙ c.in-Ok.ensures ∙ ap (λ state. status_text state c.used.result c.slots.result) c.state.ensures
       ∙ ap (λ used. status_text c.args.book.now.state used c.slots.result) c.used.ensures
-      ∙ ap (λ slots. status_text c.args.book.now.state c.args.book.now.journal.used slots) (c.slots.ensures.line ∙ ap (λ plan. plan.slots) c.plan.ensures),
+      ∙ ap (λ slots. status_text c.args.book.now.state c.args.book.now.journal.used slots)
+      (c.slots.ensures.line ∙ ap (λ plan. plan.slots) c.plan.ensures),
   c.put_through.ensures.put,
 )

@@ -7,7 +7,9 @@ use Rattle.sdls_plain.proofs.stat.tell_state.Goals as goal
 
 pub returns-clause-moments : goal.returns-clause-moments
 returns-clause-moments g c =
-    subst (λ (o : SiteSeen). IsTrue g.O.Site.told → EachMoment c.args.book.site.trace o.trace (λ image sunk. ShowsAlone c.args.book.start image))
+    subst (λ (o : SiteSeen). IsTrue g.O.Site.told
+    → EachMoment c.args.book.site.trace o.trace (λ image sunk. ShowsAlone c.args.book.start image))
     c.into_site-site.ensures.site
-    (book_moments g.O.Site.told c.args.book c.put_state-status.new.book c.put_state-status.ensures.made.0 c.put_state-status.ensures.made.1
+    (book_moments g.O.Site.told c.args.book c.put_state-status.new.book c.put_state-status.ensures.made.0
+    c.put_state-status.ensures.made.1
     c.requires.first.0 c.requires.first.1 c.put_state-status.ensures.kept)

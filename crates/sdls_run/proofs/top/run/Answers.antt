@@ -13,7 +13,8 @@ returns-in-Drill-clause-other_lives g c = λ other.
     let site = c.args.site in let last = c.drill.result.site in let ends = c.drill.ensures.ends in
     let call : CallSeen =
     call_seen (source_seen g.S.Source.told g.S.Source.left g.S.Source.faults)
-    (site_seen g.O.Site.trace g.O.Site.faults g.O.Site.put_faults) g.O.Site.told c.args.source.now c.args.source.now site last
+    (site_seen g.O.Site.trace g.O.Site.faults g.O.Site.put_faults) g.O.Site.told c.args.source.now c.args.source.now
+    site last
     c.drill.result.status c.drill.result.entries.items in
     c.sinking_keeps_lives.ensures call c.drill.ensures.no_history
     (λ told there. ends_only_sinks g.O.Site.told (g.O.Site.trace site) (g.O.Site.trace last)
@@ -24,7 +25,8 @@ returns-in-LinkDrill-clause-other_lives g c = λ other.
     let site = c.args.site in let last = c.drill_link.result.site in let ends = c.drill_link.ensures.ends in
     let call : CallSeen =
     call_seen (source_seen g.S.Source.told g.S.Source.left g.S.Source.faults)
-    (site_seen g.O.Site.trace g.O.Site.faults g.O.Site.put_faults) g.O.Site.told c.args.source.now c.args.source.now site last
+    (site_seen g.O.Site.trace g.O.Site.faults g.O.Site.put_faults) g.O.Site.told c.args.source.now c.args.source.now
+    site last
     c.drill_link.result.status c.drill_link.result.entries.items in
     c.sinking_keeps_lives.ensures call c.drill_link.ensures.no_history
     (λ told there. ends_only_sinks g.O.Site.told (g.O.Site.trace site) (g.O.Site.trace last)
@@ -35,7 +37,8 @@ returns-in_default g c =
     let plain = c.run_plain.ensures in let asked = c.command_of.ensures.asked in
     let call : CallSeen =
     call_seen (source_seen g.S.Source.told g.S.Source.left g.S.Source.faults)
-    (site_seen g.O.Site.trace g.O.Site.faults g.O.Site.put_faults) g.O.Site.told c.args.source.now c.run_plain.new.source
+    (site_seen g.O.Site.trace g.O.Site.faults g.O.Site.put_faults) g.O.Site.told c.args.source.now
+    c.run_plain.new.source
     c.args.site c.run_plain.result.site c.run_plain.result.status c.run_plain.result.entries.items in
     record {
       run = λ is. absurd (c.in_default.not-Run (asked ∙ is));

@@ -14,7 +14,8 @@ loop-row-preserved c =
     let all = inv.all in let size = inv.size in
     let below : row < length old = omega arith in
     let there = place_there items row key (omega arith) c.index_mut-key.ensures.value in
-    let more = mapped_more synced old items row (synced key) inv.size below (λ (d : Key). ap synced (sym (place_value items row key d there))) inv.done inv.rest in
+    let more = mapped_more synced old items row (synced key) inv.size below
+    (λ (d : Key). ap synced (sym (place_value items row key d there))) inv.done inv.rest in
     record { all = inv.all; size = length-set items row (synced key) ∙ inv.size; done = more.0; rest = more.1 }
 
 pub returns : goal.returns

@@ -11,12 +11,16 @@ unreachable-requires-in_default-row_of g c =
     let plan = c.args.shelf.now.plan in
     let state = c.args.shelf.now.state in
     let bound : protect_check plan state c.args.link c.args.clear.now ≡ Ok (Some b) =
-    sym c.binding.ensures.checked ∙ c.in-Ok-Some.is ∙ ap (λ (o : Option Binding). let a : Answer = Ok o in a) c.in-Ok-Some.field-0-is in
+    sym c.binding.ensures.checked ∙ c.in-Ok-Some.is ∙ ap (λ (o : Option Binding). let a : Answer = Ok o in
+    a) c.in-Ok-Some.field-0-is in
     let on = bound_channel plan state c.args.link c.args.clear.now b bound in
     let row = there_place state.keys b.key (bound_there plan state c.args.link c.args.clear.now on.0 b on.1 bound) in
     c.in_default-row_of.not-Some row.0 (c.row_of.ensures ∙ row.1)
 
 pub returns-in-Ok-None-clause-permits : goal.returns-in-Ok-None-clause-permits
 returns-in-Ok-None-clause-permits g c =
-    let none : c.binding.result ≡ Ok None = c.in-Ok-None.is ∙ ap (λ (o : Option Binding). let a : Answer = Ok o in a) c.in-Ok-None.field-0-is in
-    (clear_channel c.args.shelf.now.plan c.args.link c.args.clear.now (c.binding.ensures.clear.0 none), sym c.binding.ensures.checked ∙ none)
+    let none : c.binding.result ≡ Ok None =
+    c.in-Ok-None.is ∙ ap (λ (o : Option Binding). let a : Answer = Ok o in a) c.in-Ok-None.field-0-is in (
+      clear_channel c.args.shelf.now.plan c.args.link c.args.clear.now (c.binding.ensures.clear.0 none),
+      sym c.binding.ensures.checked ∙ none,
+    )

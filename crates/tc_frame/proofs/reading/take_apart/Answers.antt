@@ -20,4 +20,5 @@ returns-clause-prefix c =
 pub returns-clause-whole : goal.returns-clause-whole
 returns-clause-whole c =
     (returns-clause-found c).spelled
-    ∙ ap (λ l. with_error_control c.args.layout.now.fecf (l ++ (view c.parts_of.result).room)) (sym (returns-clause-prefix c))
+    ∙ ap (λ l. with_error_control c.args.layout.now.fecf (l ++ (view c.parts_of.result).room))
+    (sym (returns-clause-prefix c))

@@ -16,7 +16,8 @@ returns-in-Protect-clause-bounds c is = (
   (let all = c.well_formed in search rules),
   record {
     each = rw c.as_slice.ensures at c.hold_octets.ensures;
-    few = short c.args.recorded.octets c.new-octets.result 2048 (c.new-octets.ensures ∙ c.into_vec.ensures.octets) is.short;
+    few = short c.args.recorded.octets c.new-octets.result 2048 (c.new-octets.ensures ∙ c.into_vec.ensures.octets)
+        is.short;
   },
 )
 
@@ -27,7 +28,8 @@ returns-in-Open-clause-bounds c is = (
   (let all = c.well_formed in search rules),
   record {
     each = rw c.as_slice.ensures at c.hold_octets.ensures;
-    few = short c.args.recorded.octets c.new-octets.result 2048 (c.new-octets.ensures ∙ c.into_vec.ensures.octets) is.short;
+    few = short c.args.recorded.octets c.new-octets.result 2048 (c.new-octets.ensures ∙ c.into_vec.ensures.octets)
+        is.short;
   },
 )
 
@@ -38,7 +40,8 @@ returns-in-Command-clause-bounds c is =
       (let laned = is.lane in rw c.in-Command.is at laned),
       record {
         each = rw c.as_slice.ensures at c.hold_octets.ensures;
-        few = short c.args.recorded.octets c.new-octets.result 2048 (c.new-octets.ensures ∙ c.into_vec.ensures.octets) is.short;
+        few = short c.args.recorded.octets c.new-octets.result 2048 (c.new-octets.ensures ∙ c.into_vec.ensures.octets)
+            is.short;
       },
     )
 

@@ -8,12 +8,16 @@ pub returns-in-Ok-put-clause-copied : goal.returns-in-Ok-put-clause-copied
 returns-in-Ok-put-clause-copied g c =
     let room = c.collect.new.buffer in
     let sized : length room ≡ length c.args.room.now = search rules in
-    let all : take c.in-Ok.count room ≡ room = take_all c.in-Ok.count room (let enough = c.if-count-room.false in omega arith) in (
+    let all : take c.in-Ok.count room ≡ room =
+    take_all c.in-Ok.count room (let enough = c.if-count-room.false in omega arith) in (
       room,
       sized,
       record {
-        moved = λ told. (c.in-Ok.ensures.collected told).moved ∙ ap (λ l. l ++ g.S.Source.left c.collect.new.source) all;
-        sinks = λ told. rw c.in-Ok-put.is at (delivers_put room c.put.result (g.O.Site.trace c.args.sink.now) (g.O.Site.trace c.put.new.self)
+        moved = λ told. (c.in-Ok.ensures.collected told).moved ∙ ap (λ l. l ++ g.S.Source.left c.collect.new.source)
+            all;
+        sinks = λ told.
+            rw c.in-Ok-put.is at (delivers_put room c.put.result (g.O.Site.trace c.args.sink.now)
+            (g.O.Site.trace c.put.new.self)
             (c.put.ensures.put told));
       },
     )

@@ -17,10 +17,12 @@ pub returns-clause-written : goal.returns-clause-written
 returns-clause-written g c =
     let copied = c.in_ok-copy.ensures.copied in
     let short_is : c.in-Ok.short ≡ c.args.len = search rules in
-    let text_is : c.to_be_bytes.result ≡ to_be_bytes w32 (length copied.0) = c.to_be_bytes.ensures ∙ ap (to_be_bytes w32) (short_is ∙ sym copied.1) in
+    let text_is : c.to_be_bytes.result ≡ to_be_bytes w32 (length copied.0) =
+    c.to_be_bytes.ensures ∙ ap (to_be_bytes w32) (short_is ∙ sym copied.1) in
     let short : c.args.len < 2 ^ 32 = search rules in
     if_ended c.end.result g.S.Source.told (g.S.Source.left c.copy.new.source)
-    (IsWritten g.S.Source.told g.O.Site.told c.args.len (g.S.Source.left c.args.source.now) (g.O.Site.trace c.args.sink.now) (g.O.Site.trace c.copy.new.sink))
+    (IsWritten g.S.Source.told g.O.Site.told c.args.len (g.S.Source.left c.args.source.now)
+    (g.O.Site.trace c.args.sink.now) (g.O.Site.trace c.copy.new.sink))
     c.end.ensures.ended
     (λ none. record {
       octets = copied.0;
@@ -28,8 +30,10 @@ returns-clause-written g c =
       size = copied.1;
       short = short;
       sinks = λ told. sinks_then (to_be_bytes w32 (length copied.0)) copied.0 _ _ _
-          (subst (λ (text : List ℕ). Sinks text (g.O.Site.trace c.args.sink.now) (g.O.Site.trace c.put.new.self)) text_is
-          (rw c.in-Ok-put.is at (delivers_put c.to_be_bytes.result c.put.result (g.O.Site.trace c.args.sink.now) (g.O.Site.trace c.put.new.self)
+          (subst (λ (text : List ℕ). Sinks text (g.O.Site.trace c.args.sink.now) (g.O.Site.trace c.put.new.self))
+          text_is
+          (rw c.in-Ok-put.is at (delivers_put c.to_be_bytes.result c.put.result (g.O.Site.trace c.args.sink.now)
+          (g.O.Site.trace c.put.new.self)
           (c.put.ensures.put told))))
           (copied.2.sinks told);
     })

@@ -6,5 +6,6 @@ returns-in-Err-clause-put g c told sunk = nothing_put _ _ _ (c.in-Err.ensures.fr
 
 pub returns-clause-put : goal.returns-clause-put
 returns-clause-put g c told sunk =
-    puts_records _ _ _ _ _ _ _ _ (c.in_default.ensures.put sunk) (rw c.new-out.ensures.items at (c.read_lines-end.ensures.reads told sunk))
+    puts_records _ _ _ _ _ _ _ _ (c.in_default.ensures.put sunk)
+    (rw c.new-out.ensures.items at (c.read_lines-end.ensures.reads told sunk))
     (c.put_rest.ensures.put sunk)

@@ -4,7 +4,8 @@ use Rattle.text_streams.proofs.show.put_lines.Goals as goal
 
 pub returns-in-Some-put_next-clause-put : goal.returns-in-Some-put_next-clause-put
 returns-in-Some-put_next-clause-put g c told sunk =
-    inl (ends_as c.in-Some-put_next.end _ _ _ _ _ _ _ (c.items.invariant.2 told sunk) (c.in-Some-put_next.ensures.fails told sunk))
+    inl (ends_as c.in-Some-put_next.end _ _ _ _ _ _ _ (c.items.invariant.2 told sunk)
+    (c.in-Some-put_next.ensures.fails told sunk))
 
 pub items-preserved : goal.items-preserved
 items-preserved g c = (

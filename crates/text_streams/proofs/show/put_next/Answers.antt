@@ -22,7 +22,8 @@ returns-in-Ok-clause-puts g c told sunk =
     let is : c.in-Ok-Item.field-0 ≡ nexts.Item found = search rules in
     let stands = item_stands _ _ c.in-Ok-Item.field-0 found is (c.in-Ok-Item.ensures.stands told) in
     let adds = c.in_default.ensures stands.1 in
-    let line : c.as_slice.result.now ≡ adds.0 = c.as_slice.ensures.value ∙ line_is _ _ _ c.new-line.ensures.items adds.2 in (
+    let line : c.as_slice.result.now ≡ adds.0 =
+    c.as_slice.ensures.value ∙ line_is _ _ _ c.new-line.ensures.items adds.2 in (
       adds.0,
       record {
         item = item_found found;
@@ -40,7 +41,8 @@ returns-clause-fails g c told sunk =
     let is : c.in-Ok-Item.field-0 ≡ nexts.Item found = search rules in
     let stands = item_stands _ _ c.in-Ok-Item.field-0 found is (c.in-Ok-Item.ensures.stands told) in
     let adds = c.in_default.ensures stands.1 in
-    let line : c.as_slice.result.now ≡ adds.0 = c.as_slice.ensures.value ∙ line_is _ _ _ c.new-line.ensures.items adds.2 in (
+    let line : c.as_slice.result.now ≡ adds.0 =
+    c.as_slice.ensures.value ∙ line_is _ _ _ c.new-line.ensures.items adds.2 in (
       c.offset_behind-behind.result,
       g.S.Source.left c.next_item.new.source,
       adds.0,

@@ -7,5 +7,6 @@ returns-clause-read c = read_as c.line_of.result c.args.text.now c.of.result c.o
 
 pub returns-clause-only : goal.returns-clause-only
 returns-clause-only c line is same =
-    read_each c.line_of.result c.of.result c.line_of.ensures.slots c.line_of.ensures.key c.line_of.ensures.association line is
+    read_each c.line_of.result c.of.result c.line_of.ensures.slots c.line_of.ensures.key c.line_of.ensures.association
+    line is
     (c.of.ensures ∙ words_are c.args.text.now line is same)

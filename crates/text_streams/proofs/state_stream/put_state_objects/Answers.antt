@@ -12,6 +12,9 @@ lines-preserved g c = (
   (let low = c.lines.invariant.0 in let more = c.put_next.ensures.later in omega arith),
   (let low = c.lines.invariant.1 in let more = c.put_next.ensures.later_sink in omega arith),
   λ told sunk.
-      let so_far = c.lines.invariant.2 told sunk in
-      (so_far.0 + 1, ap (λ n. n + 1) so_far.1, forth _ _ _ _ _ _ so_far.0 so_far.2 (c.in_default.ensures.puts told sunk)),
+      let so_far = c.lines.invariant.2 told sunk in (
+        so_far.0 + 1,
+        ap (λ n. n + 1) so_far.1,
+        forth _ _ _ _ _ _ so_far.0 so_far.2 (c.in_default.ensures.puts told sunk),
+      ),
 )

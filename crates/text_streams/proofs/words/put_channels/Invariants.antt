@@ -6,4 +6,5 @@ use Rattle.text_streams.proofs.words.put_channels.Given as goal
 -- what was put, and what is left, are all of them
 abbrev pub invariant-loop-channel : goal.invariant-loop-channel
 invariant-loop-channel l =
-    l.text.items ++ all_spaced (map decimal (drop l.channel-index l.channels)) ≡ l.initial.text.items ++ all_spaced (map decimal l.channels)
+    l.text.items ++ all_spaced (map decimal (drop l.channel-index l.channels))
+    ≡ l.initial.text.items ++ all_spaced (map decimal l.channels)

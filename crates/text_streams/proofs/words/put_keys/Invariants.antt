@@ -6,4 +6,5 @@ use Rattle.text_streams.proofs.words.put_keys.Given as goal
 -- what was put, and what is left, are all of them
 abbrev pub invariant-loop-key : goal.invariant-loop-key
 invariant-loop-key l =
-    l.text.items ++ all_spaced (map decimal (drop l.key-index l.keys)) ≡ l.initial.text.items ++ all_spaced (map decimal l.keys)
+    l.text.items ++ all_spaced (map decimal (drop l.key-index l.keys)) ≡ l.initial.text.items
+    ++ all_spaced (map decimal l.keys)

@@ -10,14 +10,36 @@ pub returns : goal.returns
 returns c =
     let p = view c.args.parts.now in
     let ocf : c.from-2.result ≡ bit (is_some p.ocf) =
-    c.from-2.ensures ∙ bool_byte_is c.is_some.result ∙ ap bit (c.is_some.ensures ∙ sym (is_some-option_map (λ field. field.now) c.args.parts.now.ocf)) in
+    c.from-2.ensures ∙ bool_byte_is c.is_some.result
+    ∙ ap bit (c.is_some.ensures ∙ sym (is_some-option_map (λ field. field.now) c.args.parts.now.ocf)) in
     let small = bit_small (is_some p.ocf) in
-    let low = low_word c.from.result c.from-2.result (omega (arith, c.from.ensures, c.requires.channel)) (omega (arith, ocf, small)) in
-    let first = first_word p.spacecraft (bit_or (c.from.result * 2 ^ 1 % 2 ^ 16) c.from-2.result) c.requires.spacecraft (omega (arith, low, ocf, small, c.from.ensures, c.requires.channel)) in
-    rw (header_cells p c.requires.spacecraft c.requires.channel c.requires.master_count c.requires.channel_count c.requires.status)
+    let low = low_word c.from.result c.from-2.result (omega (arith, c.from.ensures, c.requires.channel))
+    (omega (arith, ocf, small)) in
+    let first = first_word p.spacecraft (bit_or (c.from.result * 2 ^ 1 % 2 ^ 16) c.from-2.result) c.requires.spacecraft
+    (omega (arith, low, ocf, small, c.from.ensures, c.requires.channel)) in
+    rw (header_cells p c.requires.spacecraft c.requires.channel c.requires.master_count c.requires.channel_count
+    c.requires.status)
     (cells_six
-    (ap (λ l. get_or l 0 0) c.to_be_bytes.ensures ∙ omega (arith, first, low, ocf, small, c.from.ensures, c.requires.spacecraft, c.requires.channel))
-    (ap (λ l. get_or l 1 0) c.to_be_bytes.ensures ∙ omega (arith, first, low, ocf, small, c.from.ensures, c.requires.spacecraft, c.requires.channel))
+    (ap (λ l. get_or l 0 0) c.to_be_bytes.ensures ∙ omega (
+      arith,
+      first,
+      low,
+      ocf,
+      small,
+      c.from.ensures,
+      c.requires.spacecraft,
+      c.requires.channel,
+    ))
+    (ap (λ l. get_or l 1 0) c.to_be_bytes.ensures ∙ omega (
+      arith,
+      first,
+      low,
+      ocf,
+      small,
+      c.from.ensures,
+      c.requires.spacecraft,
+      c.requires.channel,
+    ))
     refl
     refl
     (ap (λ l. get_or l 0 0) c.to_be_bytes-2.ensures ∙ omega (arith, c.requires.status))

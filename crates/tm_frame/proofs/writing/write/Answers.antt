@@ -8,4 +8,5 @@ pub returns-clause-written : goal.returns-clause-written
 returns-clause-written c =
     let p = view c.args.parts.now in
     c.put_frame.ensures.written
-    ∙ ap (λ l. with_error_control c.args.layout.now.fecf ((l ++ p.secondary) ++ p.room ++ unwrap_or p.ocf []) ++ drop c.put_frame.result c.args.out.now) c.header_of.ensures
+    ∙ ap (λ l. with_error_control c.args.layout.now.fecf ((l ++ p.secondary) ++ p.room ++ unwrap_or p.ocf [])
+    ++ drop c.put_frame.result c.args.out.now) c.header_of.ensures

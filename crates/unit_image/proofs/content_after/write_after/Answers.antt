@@ -18,7 +18,8 @@ returns-in-Some-clause-content c =
     subst (λ o. MatchOption o (IsLight c.args.change.now) (λ n. n.now ≡ next)) c.in-Some.is c.requires.next in
     subst (IsContent Two (restarted next)) (sym (c.write_content_two.ensures.written ∙ ap (content_of Two) is))
     (left_content next (restarted_twice next) (c.restart_leaves_content.ensures Two next)
-    (rules_kept c.args.state.now c.args.change.now c.requires.rules c.requires.allowed) (subst (HasRows Two) is c.write_content_two.ensures.rows))
+    (rules_kept c.args.state.now c.args.change.now c.requires.rules c.requires.allowed)
+    (subst (HasRows Two) is c.write_content_two.ensures.rows))
 
 pub returns-in-None-clause-content : goal.returns-in-None-clause-content
 returns-in-None-clause-content c =

@@ -22,7 +22,8 @@ returns-in-Ok-bring_up-clause-any_moment g c = λ told.
     let old = g.O.Site.trace c.args.site.now in
     let mid = g.O.Site.trace c.show.new.site in
     let brings = c.in-Ok-bring_up.ensures.brings told in
-    opening_then old mid (g.O.Site.trace c.bring_up.new.site) c.in-Ok-show.opened.state brings.next (c.in-Ok-show.ensures.holds told)
+    opening_then old mid (g.O.Site.trace c.bring_up.new.site) c.in-Ok-show.opened.state brings.next
+    (c.in-Ok-show.ensures.holds told)
     (c.in-Ok-show.ensures.shows told).0 brings.is c.in-Ok-show.opened.journal (c.in-Ok-show.ensures.settled told)
     (c.in-Ok-show.ensures.any_moment told) brings.moments
 
@@ -31,7 +32,8 @@ returns-clause-any_moment g c = λ told.
     let old = g.O.Site.trace c.args.site.now in
     let mid = g.O.Site.trace c.show.new.site in
     let brings = c.bring_up.ensures.brings told in
-    opening_then old mid (g.O.Site.trace c.bring_up.new.site) c.in-Ok-show.opened.state brings.next (c.in-Ok-show.ensures.holds told)
+    opening_then old mid (g.O.Site.trace c.bring_up.new.site) c.in-Ok-show.opened.state brings.next
+    (c.in-Ok-show.ensures.holds told)
     (c.in-Ok-show.ensures.shows told).0 brings.is c.in-Ok-show.opened.journal (c.in-Ok-show.ensures.settled told)
     (c.in-Ok-show.ensures.any_moment told) brings.moments
 
@@ -40,7 +42,8 @@ returns-clause-left g c = λ told.
     let old = g.O.Site.trace c.args.site.now in
     let new = g.O.Site.trace c.bring_up.new.site in
     subst (LeavesShown old new) (sym c.open_fault.ensures)
-    (left_by_fault c.refused_with_one.ensures.none old new c.in-Ok-show.opened.state _ _ c.in-Err-bring_up.fault (c.in-Ok-show.ensures.shows told).0
+    (left_by_fault c.refused_with_one.ensures.none old new c.in-Ok-show.opened.state _ _ c.in-Err-bring_up.fault
+    (c.in-Ok-show.ensures.shows told).0
     c.in-Err-bring_up.ensures.fault.cause)
 
 pub returns-in-Ok-bring_up-clause-outside : goal.returns-in-Ok-bring_up-clause-outside
@@ -50,5 +53,6 @@ returns-in-Ok-bring_up-clause-outside g c = λ told.
 pub returns-in-Ok-bring_up-clause-same_plan : goal.returns-in-Ok-bring_up-clause-same_plan
 returns-in-Ok-bring_up-clause-same_plan g c = λ told.
     let brings = c.in-Ok-bring_up.ensures.brings told in
-    brought_plan c.in-Ok-show.opened.state (g.O.Site.trace c.args.site.now).now.image (g.O.Site.trace c.show.new.site).now.image
+    brought_plan c.in-Ok-show.opened.state (g.O.Site.trace c.args.site.now).now.image
+    (g.O.Site.trace c.show.new.site).now.image
     (g.O.Site.trace c.bring_up.new.site).now.image brings.next (c.in-Ok-show.ensures.holds told) brings.is brings.done.1

@@ -8,5 +8,6 @@ returns-in-Err-settle-clause-left g c = λ told.
     let old = g.O.Site.trace c.args.site.now in
     let new = g.O.Site.trace c.settle.new.site in
     subst (LeavesShown old new) (sym c.open_fault.ensures)
-    (left_by_fault c.refused_with_one.ensures.none old new c.in-Ok.opened.state _ _ c.in-Err-settle.fault (c.in-Ok.ensures.shows told)
+    (left_by_fault c.refused_with_one.ensures.none old new c.in-Ok.opened.state _ _ c.in-Err-settle.fault
+    (c.in-Ok.ensures.shows told)
     c.in-Err-settle.ensures.fault.cause)

@@ -11,6 +11,7 @@ invariant-loop-index g l = record {
   puts : g.O.Site.put_faults l.site ≡ g.O.Site.put_faults l.initial.site;
   same : IsTrue g.O.Site.told → g.O.Site.trace l.site ≡ g.O.Site.trace l.initial.site;
   run : IsTrue g.O.Site.told → IsRunOf (g.O.Site.trace l.initial.site).now.image l.run;
-  led : IsTrue g.O.Site.told → LeadTo l.initial.state (take l.index (records (g.O.Site.trace l.initial.site).now.image)) l.state;
+  led : IsTrue g.O.Site.told → LeadTo l.initial.state (take l.index (records (g.O.Site.trace l.initial.site).now.image))
+      l.state;
   rules : KeepsRules l.state;
 }

@@ -7,7 +7,8 @@ use Rattle.unit_plan.proofs.association_line.are_channel_ids.Goals as goal
 
 pub returns-then-are_channels-clause-tested : goal.returns-then-are_channels-clause-tested
 returns-then-are_channels-clause-tested c =
-    channel_ids_then c.args.numbers.now c.are_channels.result c.are_ids.result c.are_channels.ensures c.are_ids.ensures c.if-are_channels.true
+    channel_ids_then c.args.numbers.now c.are_channels.result c.are_ids.result c.are_channels.ensures c.are_ids.ensures
+    c.if-are_channels.true
 
 pub returns-else-are_channels-clause-tested : goal.returns-else-are_channels-clause-tested
 returns-else-are_channels-clause-tested c =
@@ -16,7 +17,8 @@ returns-else-are_channels-clause-tested c =
 pub returns-then-are_channels-clause-bounds : goal.returns-then-are_channels-clause-bounds
 returns-then-are_channels-clause-bounds c =
     let ns = c.args.numbers.now in
-    let tested = channel_ids_then ns c.are_channels.result c.are_ids.result c.are_channels.ensures c.are_ids.ensures c.if-are_channels.true in
+    let tested = channel_ids_then ns c.are_channels.result c.are_ids.result c.are_channels.ensures c.are_ids.ensures
+    c.if-are_channels.true in
     subst (λ (b : Bool). IsTrue b ↔ (AreChannels ns × All (λ n. n ≤ 63) ns)) (sym tested) (channel_ids_iff ns)
 
 pub returns-else-are_channels-clause-bounds : goal.returns-else-are_channels-clause-bounds

@@ -1,4 +1,5 @@
-use Rattle.std.proofs.Common.{◌≡◌, ◌++◌, ◌∙◌, ℕ, List, [], length, take, drop, sym, ap, refl, arith, append_assoc, length-append}
+use Rattle.std.proofs.Common.{◌≡◌, ◌++◌, ◌∙◌, ℕ, List, [], length, take, drop, sym, ap, refl, arith, append_assoc}
+use Rattle.std.proofs.Common.{length-append}
 use Rattle.std.specs.List.{flat_map}
 use Rattle.std.specs.Prelude.{filter, if◌then◌else◌}
 use Rattle.std.proofs.lemmas.List.{drop-drop}
@@ -9,7 +10,8 @@ use Rattle.unit_plan.proofs.bare.write_bare_plan.Goals as goal
 
 pub loop-line-init : goal.loop-line-init
 loop-line-init c =
-    let same : c.into_iter-line-iterator.result ≡ lines_of c.args.text.now = c.into_iter-line-iterator.ensures.into_iter_gives ∙ c.of-line-items.ensures in
+    let same : c.into_iter-line-iterator.result ≡ lines_of c.args.text.now =
+    c.into_iter-line-iterator.ensures.into_iter_gives ∙ c.of-line-items.ensures in
     let room = lines_room c.args.text.now in
     rw same (record { written = refl; rest = refl; room = omega arith })
 
@@ -32,6 +34,7 @@ loop-line-preserved c =
           ∙ ap (λ (s : List ℕ). front ++ s) (kept_on line lines)
           ∙ ap (λ (all : List (List ℕ)). front ++ flat_map ended (filter is_bare all)) (sym steps)
           ∙ c.loop-line.invariant.written;
-      rest = put.rest ∙ sym (behind c.loop-line.out) ∙ ap (λ (s : List ℕ). drop (length more) s) c.loop-line.invariant.rest ∙ behind c.args.out.now;
+      rest = put.rest ∙ sym (behind c.loop-line.out) ∙ ap (λ (s : List ℕ). drop (length more) s)
+          c.loop-line.invariant.rest ∙ behind c.args.out.now;
       room = omega (arith, left, both, short, put.place, c.loop-line.invariant.room);
     }

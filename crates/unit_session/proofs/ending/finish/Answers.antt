@@ -12,9 +12,11 @@ returns g c = record {
     risen = c.release-released.ensures.risen;
     same_puts = c.release-released.ensures.puts;
     end = c.told_end-told.result;
-    end_is = subst (λ (last : ℕ). IsToldEnd c.args.before last c.release-released.new.self.site.faults c.args.came c.release-released.result c.told_end-told.result)
+    end_is = subst (λ (last : ℕ). IsToldEnd c.args.before last c.release-released.new.self.site.faults c.args.came
+        c.release-released.result c.told_end-told.result)
         c.faults-last.ensures
-        (subst (λ (now : ℕ). IsToldEnd c.args.before c.faults-last.result now c.args.came c.release-released.result c.told_end-told.result) c.faults.ensures c.told_end-told.ensures);
+        (subst (λ (now : ℕ). IsToldEnd c.args.before c.faults-last.result now c.args.came c.release-released.result
+        c.told_end-told.result) c.faults.ensures c.told_end-told.ensures);
     last = c.put_end-status.new.book;
     kept = c.put_end-status.ensures.kept;
     puts_end = c.put_end-status.ensures.ends;

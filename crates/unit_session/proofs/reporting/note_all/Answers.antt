@@ -1,4 +1,5 @@
-use Rattle.std.proofs.Common.{◌≡◌, ◌+◌, ℕ, suc, List, [], ◌∷◌, ◌++◌, take, sym, ◌∙◌, ap, arith, append-nil, append_assoc}
+use Rattle.std.proofs.Common.{◌≡◌, ◌+◌, ℕ, suc, List, [], ◌∷◌, ◌++◌, take, sym, ◌∙◌, ap, arith, append-nil}
+use Rattle.std.proofs.Common.{append_assoc}
 use Rattle.std.specs.Prelude.{map}
 use Rattle.std.proofs.lemmas.List.{take_all}
 use Rattle.fsr_log.specs.Noted.{Noted}
@@ -13,7 +14,8 @@ use Rattle.unit_session.proofs.reporting.note_all.Goals as goal
 
 pub loop-place-init : goal.loop-place-init
 loop-place-init c = λ notes number is.
-    is ∙ ap report_of (sym (append-nil notes)) ∙ ap (λ (ds : List Deed). report_of (notes ++ map noted_of ds)) (sym (deeds_none number c.args.records.now))
+    is ∙ ap report_of (sym (append-nil notes)) ∙ ap (λ (ds : List Deed). report_of (notes ++ map noted_of ds))
+    (sym (deeds_none number c.args.records.now))
 
 pub loop-place-preserved : goal.loop-place-preserved
 loop-place-preserved c = λ notes number is.
@@ -23,7 +25,8 @@ loop-place-preserved c = λ notes number is.
     let so_far : List Noted = map noted_of (deeds_of number records (take place answers)) in
     let next : Noted = noted_of (deed_of number c.index-records-place.result c.index-answers-place.result) in
     let more = notes_more number records answers place c.index-records-place.result c.index-answers-place.result
-    (let a = c.loop-place-test.true in let b = c.requires.few in omega arith) c.loop-place-test.true c.index-records-place.is c.index-answers-place.is in
+    (let a = c.loop-place-test.true in let b = c.requires.few in omega arith) c.loop-place-test.true
+    c.index-records-place.is c.index-answers-place.is in
     let one : suc place ≡ place + 1 = omega arith in
     c.note.ensures (notes ++ so_far) (c.loop-place.invariant notes number is)
     ∙ ap report_of (append_assoc notes so_far (next ∷ []) ∙ ap (λ (l : List Noted). notes ++ l) (sym more)
@@ -31,6 +34,7 @@ loop-place-preserved c = λ notes number is.
 
 pub returns : goal.returns
 returns c = λ notes number is.
-    let all : take c.loop-place.place c.args.answers.now ≡ c.args.answers.now = take_all c.loop-place.place c.args.answers.now (omega arith) in
+    let all : take c.loop-place.place c.args.answers.now ≡ c.args.answers.now =
+    take_all c.loop-place.place c.args.answers.now (omega arith) in
     c.loop-place.invariant notes number is
     ∙ ap (λ (l : List Answer). report_of (notes ++ map noted_of (deeds_of number c.args.records.now l))) all

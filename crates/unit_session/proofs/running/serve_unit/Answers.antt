@@ -18,5 +18,6 @@ returns g c =
       kept = c.close-book.ensures.kept;
       closes = c.close-book.ensures.closes;
       finishes = subst (λ (words : List ℕ). Finishes told c.args.before words c.serve_with_log-unit.result.2
-          c.close-book.result.0 (site_seen g.O.Site.trace g.O.Site.faults g.O.Site.put_faults c.finish.result.site) c.finish.result.entries.items c.finish.result.status) c.deref.ensures.value c.finish.ensures.finishes;
+          c.close-book.result.0 (site_seen g.O.Site.trace g.O.Site.faults g.O.Site.put_faults c.finish.result.site)
+          c.finish.result.entries.items c.finish.result.status) c.deref.ensures.value c.finish.ensures.finishes;
     }

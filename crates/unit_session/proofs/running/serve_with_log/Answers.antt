@@ -7,7 +7,11 @@ use Rattle.unit_session.proofs.running.serve_with_log.Goals as goal
 
 pub returns-in_default-clause-comes : goal.returns-in_default-clause-comes
 returns-in_default-clause-comes g c = λ begin began.
-    let start : SourceSeen = record { told = g.S.Source.told; left = g.S.Source.left c.args.source.now; faults = g.S.Source.faults c.args.source.now } in
+    let start : SourceSeen = record {
+      told = g.S.Source.told;
+      left = g.S.Source.left c.args.source.now;
+      faults = g.S.Source.faults c.args.source.now;
+    } in
     let first : View = view c.args.worker in
     let loses : Loses start start [] = record {
       more = [];
@@ -21,5 +25,7 @@ returns-in_default-clause-comes g c = λ begin began.
         no_whole = lacks_none [];
       };
     } in
-    wants_reading start start start first_standing begin first first first.turn.known.put_faults first.turn.known.put_faults first.turn.known.standing
-    (begins_way start begin first first.turn.known.put_faults first.turn.known.standing c.requires.no_log c.requires.none_made) loses
+    wants_reading start start start first_standing begin first first first.turn.known.put_faults
+    first.turn.known.put_faults first.turn.known.standing
+    (begins_way start begin first first.turn.known.put_faults first.turn.known.standing c.requires.no_log
+    c.requires.none_made) loses

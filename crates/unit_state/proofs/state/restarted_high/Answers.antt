@@ -12,4 +12,5 @@ returns-in-Some-clause-fits c = λ _.
     let holds : c.args.row.now.key ≡ Some key = search rules in
     let found : row_of c.args.keys.now key ≡ Some c.in-Some.held.now = search rules in
     let is_row : IsKeyRow c.in-Some.held.now = search rules in
-    floor_fits c.args.keys.now c.in-Some.held.now c.args.row.now.direction c.args.row.now.key key receives holds found is_row
+    floor_fits c.args.keys.now c.in-Some.held.now c.args.row.now.direction c.args.row.now.key key receives holds found
+    is_row

@@ -1,4 +1,5 @@
-use Rattle.std.proofs.Common.{◌≡◌, ◌<◌, ◌≤◌, ◌++◌, List, length, map, drop, get_or, set, sym, ap, subst, ◌∙◌, refl, arith}
+use Rattle.std.proofs.Common.{◌≡◌, ◌<◌, ◌≤◌, ◌++◌, List, length, map, drop, get_or, set, sym, ap, subst, ◌∙◌, refl}
+use Rattle.std.proofs.Common.{arith}
 use Rattle.std.proofs.lemmas.List.{append-nil, drop_all, get_or_default, length-set, take_all}
 use Rattle.std.proofs.lemmas.List.Edits.{map_over_more}
 use Rattle.sa_book.specs.declared.sa_row.SaRow.{SaRow}
@@ -29,10 +30,12 @@ begin_window-requires-clause-high c = λ row is.
     let place = c.loop-place.place in
     let own : SaRow = c.index-rows-place.result in
     let there : place < length rows = begin_window-requires-clause-there c in
-    let read : own ≡ get_or rows place own = c.index-rows-place.is ∙ ap (λ (some : List SaRow). get_or some place own) c.rows.ensures.rows in
+    let read : own ≡ get_or rows place own =
+    c.index-rows-place.is ∙ ap (λ (some : List SaRow). get_or some place own) c.rows.ensures.rows in
     let same : own ≡ row = read ∙ get_or_default rows place own row there ∙ sym is in
     let rules : IsSaRow own = subst IsSaRow (sym read) (c.rows.ensures.rules.each place own there) in
-    subst (λ (some : SaRow). HasHigh some.direction some.key c.restarted_high-high.result) same (c.restarted_high-high.ensures.fits rules)
+    subst (λ (some : SaRow). HasHigh some.direction some.key c.restarted_high-high.result) same
+    (c.restarted_high-high.ensures.fits rules)
 
 pub loop-place-preserved : goal.loop-place-preserved
 loop-place-preserved c =
@@ -41,14 +44,18 @@ loop-place-preserved c =
     let own : SaRow = c.index-rows-place.result in
     let end = ap (λ (some : List SaRow). length some) c.rows-place-end.ensures.rows in
     let low : place < length c.args.associations.now = omega (arith, end, c.loop-place-test.true) in
-    let read : own ≡ get_or rows place own = c.index-rows-place.is ∙ ap (λ (some : List SaRow). get_or some place own) c.rows.ensures.rows in
+    let read : own ≡ get_or rows place own =
+    c.index-rows-place.is ∙ ap (λ (some : List SaRow). get_or some place own) c.rows.ensures.rows in
     let there : place < length rows = omega (arith, low, c.loop-place.invariant.many) in
     let new = c.begin_window.ensures own read in
     record {
       set = new
           ∙ ap (λ high. set rows place (with_high own high)) c.restarted_high-high.ensures.high
-          ∙ map_over_more (restarted_row c.args.keys.now) c.args.associations.now rows place own low c.loop-place.invariant.set read;
-      rules = λ _. subst IsSaBook (sym new) (IsSaBook-begin rows place own c.restarted_high-high.result c.rows.ensures.rules there read
+          ∙ map_over_more (restarted_row c.args.keys.now) c.args.associations.now rows place own low
+          c.loop-place.invariant.set read;
+      rules = λ _.
+          subst IsSaBook (sym new) (IsSaBook-begin rows place own c.restarted_high-high.result c.rows.ensures.rules
+          there read
           (c.restarted_high-high.ensures.fits (subst IsSaRow (sym read) (c.rows.ensures.rules.each place own there))));
       many = ap (λ (some : List SaRow). length some) new
           ∙ length-set rows place (with_high own c.restarted_high-high.result) ∙ c.loop-place.invariant.many;

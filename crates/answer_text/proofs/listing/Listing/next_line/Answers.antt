@@ -10,7 +10,12 @@ returns-in-Ok-clause-adds g c told =
     let answer = c.in-Ok-Answer.answer in
     let is : c.in-Ok-Answer.field-0 ≡ nexts.Answer answer = search rules in
     let taken = answer_stands _ _ c.in-Ok-Answer.field-0 answer is (c.in-Ok-Answer.ensures.stands told) in
-    record { answer = answer; taken = taken; put = search (rules, c.in-Ok.ensures.put); passed = search (rules, c.pass.ensures) }
+    record {
+      answer = answer;
+      taken = taken;
+      put = search (rules, c.in-Ok.ensures.put);
+      passed = search (rules, c.pass.ensures);
+    }
 
 pub returns-in-Err-NoAnswer-clause-ends : goal.returns-in-Err-NoAnswer-clause-ends
 returns-in-Err-NoAnswer-clause-ends g c told =

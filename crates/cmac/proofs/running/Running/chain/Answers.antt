@@ -1,4 +1,5 @@
-use Rattle.std.proofs.Common.{◌≡◌, List, ℕ, take, sym, subst, refl, ap, ◌∙◌, ◌+◌, ◌-◌, ◌*◌, ◌/◌, ◌++◌, length, arith, min}
+use Rattle.std.proofs.Common.{◌≡◌, List, ℕ, take, sym, subst, refl, ap, ◌∙◌, ◌+◌, ◌-◌, ◌*◌, ◌/◌, ◌++◌, length, arith}
+use Rattle.std.proofs.Common.{min}
 use Rattle.std.proofs.lemmas.List.{length-take, take_rest}
 use Rattle.aes_block.specs.Aes.{encrypted}
 use Rattle.cmac.specs.Cmac.{before_last, xored}

@@ -8,7 +8,8 @@ pub returns-then-piece-room-clause-more : goal.returns-then-piece-room-clause-mo
 returns-then-piece-room-clause-more c = λ m holds.
     let s = c.self.inside in
     let count : length c.args.self.now.rest ≡ s.used =
-    sym (ap (λ (k : Kept). length k.rest) c.self.view_is) ∙ length-take-le s.used s.held (omega (arith, c.self.told.1, c.self.invariant)) in
+    sym (ap (λ (k : Kept). length k.rest) c.self.view_is) ∙ length-take-le s.used s.held
+    (omega (arith, c.self.told.1, c.self.invariant)) in
     subst (λ (k : Kept). Holds k (m ++ c.args.piece.now)) (sym c.hold.ensures)
     (holds_more c.args.self.now m c.args.piece.now holds (omega (arith, c.if-piece-room.true, c.self.invariant)))
 
@@ -18,7 +19,8 @@ returns-clause-more c = λ m holds.
     let piece : List ℕ = c.args.piece.now in
     let room : ℕ = 16 - s.used in
     let count : length c.args.self.now.rest ≡ s.used =
-    sym (ap (λ (k : Kept). length k.rest) c.self.view_is) ∙ length-take-le s.used s.held (omega (arith, c.self.told.1, c.self.invariant)) in
+    sym (ap (λ (k : Kept). length k.rest) c.self.view_is) ∙ length-take-le s.used s.held
+    (omega (arith, c.self.told.1, c.self.invariant)) in
     let fill : length (take room piece) ≡ room = length-take-le room piece (omega (arith, c.if-piece-room.false)) in
     let filled : Holds c.hold-2.new.self (m ++ take room piece) =
     subst (λ (k : Kept). Holds k (m ++ take room piece)) (sym c.hold-2.ensures)

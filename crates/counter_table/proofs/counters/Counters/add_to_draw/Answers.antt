@@ -9,5 +9,8 @@ fetch_add-requires g c =
     let told = c.requires.told in
     let row = c.requires.row in
     let at : c.next_word-at.result ≡ next_at g.T.Told.of_row = c.next_word-at.ensures ∙ ap next_at told in
-    let below : g.T.Told.of_row < c.args.self.now.table.shared.key = omega arith in
-    (search rules, search rules, rw at (draw_allows _ _ _ _ _ g.T.Told.of_row below c.args.worker.now.alive (c.requires.armed ∙ ap Some told)))
+    let below : g.T.Told.of_row < c.args.self.now.table.shared.key = omega arith in (
+      search rules,
+      search rules,
+      rw at (draw_allows _ _ _ _ _ g.T.Told.of_row below c.args.worker.now.alive (c.requires.armed ∙ ap Some told)),
+    )

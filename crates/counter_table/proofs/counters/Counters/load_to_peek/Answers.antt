@@ -11,5 +11,8 @@ load-requires g c =
     let at : c.limit_word-at.result ≡ limit_at g.T.Told.of_row = c.limit_word-at.ensures ∙ ap limit_at told.0 in
     let below : g.T.Told.of_row < c.args.self.now.table.shared.key = omega arith in
     let last : c.args.worker.now.seat.me.0.numbers.last ≡ Some (g.T.Told.of_row, g.T.Told.number) =
-    c.requires.last ∙ λ i. Some (told.0 i, told.1 i) in
-    (search rules, search rules, rw at (peek_allows _ _ _ _ _ g.T.Told.of_row below c.args.worker.now.alive g.T.Told.number last))
+    c.requires.last ∙ λ i. Some (told.0 i, told.1 i) in (
+      search rules,
+      search rules,
+      rw at (peek_allows _ _ _ _ _ g.T.Told.of_row below c.args.worker.now.alive g.T.Told.number last),
+    )

@@ -15,6 +15,9 @@ swap-requires g c =
     let told = g.B.Counted.told in (
       search rules,
       search rules,
-      subst (λ (k : ℕ). Allows (IsKept told table.key) table.table_id.slots seat.id seat.me 0 (λ _. c.loop.taken) (takes told k seat.me)) rows
-          (take_allows _ _ _ _ c.loop.taken c.loop.invariant.some seat.me (subst (λ (k : ℕ). 0 < k) (sym (ap (λ m. m.0.numbers.shares) same)) c.requires.alive) (ap (λ m. m.0.turn.filled) same ∙ c.requires.filled)),
+      subst (λ (k : ℕ). Allows (IsKept told table.key) table.table_id.slots seat.id seat.me 0 (λ _. c.loop.taken)
+          (takes told k seat.me)) rows
+          (take_allows _ _ _ _ c.loop.taken c.loop.invariant.some seat.me
+          (subst (λ (k : ℕ). 0 < k) (sym (ap (λ m. m.0.numbers.shares) same)) c.requires.alive)
+          (ap (λ m. m.0.turn.filled) same ∙ c.requires.filled)),
     )

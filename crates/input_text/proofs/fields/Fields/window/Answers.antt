@@ -10,7 +10,8 @@ use Rattle.input_text.proofs.fields.Fields.window.Goals as goal
 
 pub returns-in_err-width-clause-only : goal.returns-in_err-width-clause-only
 returns-in_err-width-clause-only c window rest is none spelled =
-    let memory = c.in_err-width.ensures.only (width_of window) (back_words (back_of window) ++ rest) is.width.least is.width.most spelled in
+    let memory = c.in_err-width.ensures.only (width_of window) (back_words (back_of window) ++ rest) is.width.least
+    is.width.most spelled in
     search rules
 
 pub returns-then-not-takes_back-clause-read : goal.returns-then-not-takes_back-clause-read
@@ -18,7 +19,8 @@ returns-then-not-takes_back-clause-read c =
     let read = c.in_ok-width.ensures.read in
     let bounds : IsWidth c.in_ok-width.width = record { least = read.1; most = read.2 } in
     let left = c.takes_back.ensures.left (search rules) in (
-      read.0 ∙ (ap (λ rest. decimal c.in_ok-width.width ∷ rest) (sym left) ∙ sym (width_words c.in_ok-width.width _ bounds)),
+      read.0 ∙ (ap (λ rest. decimal c.in_ok-width.width ∷ rest) (sym left)
+          ∙ sym (width_words c.in_ok-width.width _ bounds)),
       width_field c.in_ok-width.width bounds,
     )
 
@@ -27,7 +29,8 @@ returns-then-not-takes_back-clause-only c window rest is none spelled =
     let behind = back_words (back_of window) ++ rest in
     let same = c.in_ok-width.ensures.only (width_of window) behind is.width.least is.width.most spelled in
     let left = tail_is _ _ _ _ _ c.in_ok-width.ensures.read.0 spelled in
-    without_back window c.in_ok-width.width _ rest same left (λ words taken. let back = c.takes_back.ensures.only words taken in search rules)
+    without_back window c.in_ok-width.width _ rest same left (λ words taken. let back =
+    c.takes_back.ensures.only words taken in search rules)
 
 pub returns-in_err-back-clause-only : goal.returns-in_err-back-clause-only
 returns-in_err-back-clause-only c window rest is none spelled =
@@ -47,7 +50,8 @@ returns-clause-read c =
     rw c.window_field.ensures (
       first.0
           ∙ (ap (λ rest. decimal c.in_ok-width.width ∷ rest) (taken ∙ ap (λ rest. codes "back" ∷ rest) second.0)
-          ∙ sym (field_words c.in_ok-back.back c.in_ok-width.width _ (omega (arith, second.1)) (omega (arith, first.2)))),
+          ∙ sym (field_words c.in_ok-back.back c.in_ok-width.width _ (omega (arith, second.1))
+          (omega (arith, first.2)))),
       IsWindowField-field c.in_ok-back.back c.in_ok-width.width low bounds,
     )
 

@@ -10,9 +10,11 @@ no_item = record { id = 0; bytes = [] }
 
 pub returns-then-eq : goal.returns-then-eq
 returns-then-eq c =
-    sym (position-at (λ (item : KeyItem). bytes_eq (sha256 item.bytes) c.args.own.now) c.args.items.now c.loop-i.i no_item c.loop-i-test.true
+    sym (position-at (λ (item : KeyItem). bytes_eq (sha256 item.bytes) c.args.own.now) c.args.items.now c.loop-i.i
+    no_item c.loop-i-test.true
     (λ k low. c.loop-i.invariant k no_item low)
-    (ap (λ (digest : List ℕ). bytes_eq digest c.args.own.now) (sym (c.at.ensures no_item)) ∙ sym c.eq.ensures ∙ c.if-eq.true))
+    (ap (λ (digest : List ℕ). bytes_eq digest c.args.own.now) (sym (c.at.ensures no_item)) ∙ sym c.eq.ensures
+    ∙ c.if-eq.true))
 
 pub returns : goal.returns
 returns c =

@@ -14,7 +14,9 @@ pub returns : goal.returns
 returns c = record {
   total = c.len-total.ensures ∙ (omega (arith, c.in_ok-keys.keys.ok.0)) ∙ ap length c.in_ok-keys.ensures;
   sorted = c.sort_by_key.new.self.items;
-  permutation = subst (λ keys. IsPermutation keys c.sort_by_key.new.self.items) c.in_ok-keys.ensures c.in_ok-sort_by_key.ensures.permutation;
-  ascending = IsNonDecreasingBy-from_sort_by_key (λ key. key.0) _ c.in_ok-sort_by_key.ensures.sorted (λ a r q k. search rules);
+  permutation = subst (λ keys. IsPermutation keys c.sort_by_key.new.self.items) c.in_ok-keys.ensures
+      c.in_ok-sort_by_key.ensures.permutation;
+  ascending = IsNonDecreasingBy-from_sort_by_key (λ key. key.0) _ c.in_ok-sort_by_key.ensures.sorted
+      (λ a r q k. search rules);
   front = c.new.ensures ∙ c.truncate.ensures.items;
 }

@@ -13,12 +13,17 @@ returns-in_err-i-clause-row c =
 
 pub returns-clause-row : goal.returns-clause-row
 returns-clause-row c =
-    let placed : place_of c.args.self.now c.args.id ≡ Some c.in_ok-i.i = cc (c.in_ok-i.was, c.place.ensures, c.self.view_is) in
-    let read : c.index.result.now ≡ get_or c.args.self.now c.in_ok-i.i c.index.result.now = cc (c.index.ensures, c.self.view_is) in
-    ap Some read ∙ sym (find_placed (λ (row : KeyRow). nat_eq row.id c.args.id) c.args.self.now c.in_ok-i.i c.index.result.now placed)
+    let placed : place_of c.args.self.now c.args.id ≡ Some c.in_ok-i.i =
+    cc (c.in_ok-i.was, c.place.ensures, c.self.view_is) in
+    let read : c.index.result.now ≡ get_or c.args.self.now c.in_ok-i.i c.index.result.now =
+    cc (c.index.ensures, c.self.view_is) in
+    ap Some read ∙ sym (find_placed (λ (row : KeyRow). nat_eq row.id c.args.id) c.args.self.now c.in_ok-i.i
+    c.index.result.now placed)
 
 pub returns-clause-rules : goal.returns-clause-rules
 returns-clause-rules c =
     let rows = c.self.inside.table.rows.items in
     let placed : place_of rows c.args.id ≡ Some c.in_ok-i.i = cc (c.in_ok-i.was, c.place.ensures) in
-    subst IsKeyRow (sym c.index.ensures) (c.self.invariant.0.rules.each c.in_ok-i.i c.index.result.now (position-Some (λ (row : KeyRow). nat_eq row.id c.args.id) rows c.in_ok-i.i c.index.result.now placed).0)
+    subst IsKeyRow (sym c.index.ensures)
+    (c.self.invariant.0.rules.each c.in_ok-i.i c.index.result.now
+    (position-Some (λ (row : KeyRow). nat_eq row.id c.args.id) rows c.in_ok-i.i c.index.result.now placed).0)

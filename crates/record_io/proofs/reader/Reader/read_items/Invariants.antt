@@ -12,7 +12,8 @@ invariant-items g l =
     (length l.records.items ≤ SEGMENT_RECORDS)
     × AreNumbered l.initial.self.records l.records.items
     × (l.self.records ≡ l.initial.self.records + length l.records.items)
-    × Took g.S.Source.told (items_of l.records.items) [] l.initial.self.taken (g.S.Source.left l.initial.source) (g.S.Source.left l.source)
+    × Took g.S.Source.told (items_of l.records.items) [] l.initial.self.taken (g.S.Source.left l.initial.source)
+    (g.S.Source.left l.source)
     × (l.self.taken ≡ l.initial.self.taken + length (items_octets (items_of l.records.items)))
     × (g.S.Source.faults l.source ≡ g.S.Source.faults l.initial.source)
     × All (λ (r : Record). r.kind ≢ Monitor) l.records.items

@@ -20,4 +20,5 @@ returns c =
     ∙ ap (λ (b : Bool). b && nat_eq one.back other.back) (c.and_eq-2.ensures
     ∙ ap (λ (b : Bool). b && nat_eq one.base other.base) (c.and_eq.ensures
     ∙ ap (λ (b : Bool). b && nat_eq one.width other.width) c.eq.ensures)))
-    ∙ grouped (nat_eq one.high other.high) (nat_eq one.width other.width) (nat_eq one.base other.base) (nat_eq one.back other.back) (nat_eq one.taken other.taken))
+    ∙ grouped (nat_eq one.high other.high) (nat_eq one.width other.width) (nat_eq one.base other.base)
+    (nat_eq one.back other.back) (nat_eq one.taken other.taken))

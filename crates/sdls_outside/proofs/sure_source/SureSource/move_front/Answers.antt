@@ -20,8 +20,10 @@ returns-clause-moved c =
     let count = c.min-count.result in
     let shown : ℕ → List ℕ → List ℕ = λ n xs. take n (take (length xs - source.taken) (drop source.taken xs)) in
     let within : source.taken ≤ length source.octets.items = source.within in
-    let same : count ≡ min c.min.result (length (take (length source.octets.items - source.taken) (drop source.taken source.octets.items))) =
-    c.min-count.ensures ∙ ap (λ (xs : List ℕ). min c.min.result (length (take (length xs - source.taken) (drop source.taken xs)))) c.deref.ensures.value in
+    let same : count ≡ min c.min.result
+    (length (take (length source.octets.items - source.taken) (drop source.taken source.octets.items))) =
+    c.min-count.ensures ∙ ap (λ (xs : List ℕ).
+    min c.min.result (length (take (length xs - source.taken) (drop source.taken xs)))) c.deref.ensures.value in
     let fits : count + source.taken ≤ length source.octets.items = grind (arith, common_steps) in
     front source.octets.items _ _ source.taken count fits
     (c.copy_from_slice.ensures.after ∙ ap (shown count) c.deref.ensures.value)

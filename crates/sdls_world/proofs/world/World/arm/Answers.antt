@@ -14,5 +14,6 @@ returns-clause-ok c =
     let a' = c.arm-2.new.self in
     let moved = ap (λ (z : Core). let r : Core = record z { actors = set z.actors place a' } in r) c.self.view_is in
     let open_to : c.in-Some.key.next < end_of c.in-Some.key.id = let e = c.end.ensures in omega arith in
-    moved ∙ arm_is core c.args.actor place c.in-Some-actor.field-0-1.now b c.in-Some-actor.ensures.found c.in-Some-actor.ensures.there.1 reached
+    moved ∙ arm_is core c.args.actor place c.in-Some-actor.field-0-1.now b c.in-Some-actor.ensures.found
+    c.in-Some-actor.ensures.there.1 reached
     c.args.key c.in-Some.row c.in-Some.key a' (sym c.in-Some.ensures.found) open_to c.arm-2.ensures

@@ -6,4 +6,6 @@ use Rattle.sdls_world.proofs.world.World.change_all.Goals as goal
 pub loop-step-preserved : goal.loop-step-preserved
 loop-step-preserved c =
     let step = c.step-item.result in
-    c.in_ok-change.ensures.ok ∙ (ap (λ (w : Core). after w step) c.loop-step.invariant ∙ sym (after_more c.args.self.now c.args.steps.now c.loop-step.step-index step (omega arith) c.step-item.is))
+    c.in_ok-change.ensures.ok
+    ∙ (ap (λ (w : Core). after w step) c.loop-step.invariant
+    ∙ sym (after_more c.args.self.now c.args.steps.now c.loop-step.step-index step (omega arith) c.step-item.is))

@@ -19,7 +19,12 @@ returns-clause-ok c =
     let same_length = ap (λ (xs : List Key). length xs) keys in
     let a' = c.draw.new.self in
     let next = c.in-Some-checked_add.next in
-    let moved = ap (λ (z : Core). let r : Core = record z { keys = set z.keys row (record key { next = next }); actors = set z.actors place a' } in r) c.self.view_is in
+    let moved =
+    ap (λ (z : Core). let r : Core = record z {
+      keys = set z.keys row (record key { next = next });
+      actors = set z.actors place a';
+    } in r) c.self.view_is in
     let next_is : next ≡ key.next + 1 = search rules in
-    moved ∙ draw_is core c.args.actor place c.in-Some.found.now b c.in-Some.ensures.found c.in-Some.ensures.there.1 reached
+    moved ∙ draw_is core c.args.actor place c.in-Some.found.now b c.in-Some.ensures.found c.in-Some.ensures.there.1
+    reached
     row next key a' (sym c.armed.ensures ∙ c.in-Some-armed.is) (omega arith) key_is next_is c.in_ok-draw.ensures.ok

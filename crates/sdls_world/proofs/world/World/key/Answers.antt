@@ -12,15 +12,18 @@ returns-then-eq c =
     let key = c.key-item.result in
     let below : row < length items = omega arith in
     let hit : eqb key.id c.args.id ≡ true = sym c.eq.ensures ∙ c.if-eq.true in
-    let found = found_first (λ (k : Key). eqb k.id c.args.id) items row key below c.key-item.is hit c.loop-row.invariant in
+    let found = found_first (λ (k : Key). eqb k.id c.args.id) items row key below c.key-item.is hit
+    c.loop-row.invariant in
     record {
       found = subst (λ (z : List Key). Some (row, key) ≡ key_of c.args.id z) keys (sym found);
-      there = subst (λ (z : List Key). (row < length z) × (slice_get z row ≡ Some key)) keys (below, place_there items row key below c.key-item.is);
+      there = subst (λ (z : List Key). (row < length z) × (slice_get z row ≡ Some key)) keys
+          (below, place_there items row key below c.key-item.is);
     }
 
 pub loop-row-preserved : goal.loop-row-preserved
 loop-row-preserved c =
-    more_places (λ (k : Key). eqb k.id c.args.id) c.deref-key-items.result.now c.loop-row.row c.key-item.result (omega arith) c.key-item.is (sym c.eq.ensures ∙ c.if-eq.false) c.loop-row.invariant
+    more_places (λ (k : Key). eqb k.id c.args.id) c.deref-key-items.result.now c.loop-row.row c.key-item.result
+    (omega arith) c.key-item.is (sym c.eq.ensures ∙ c.if-eq.false) c.loop-row.invariant
 
 pub returns : goal.returns
 returns c =

@@ -21,5 +21,7 @@ returns-clause-ok c =
     let a' = c.fund.new.self in
     let moved = ap (λ (z : Core). let r : Core = record z { actors = set z.actors place a' } in r) c.self.view_is in
     let below : number < key.limit = omega arith in
-    moved ∙ peek_is core c.args.actor place c.in-Some.found.now b c.in-Some.ensures.found c.in-Some.ensures.there.1 reached
-    (row, number) key a' (sym c.last.ensures ∙ c.in-Some-last.is) (sym c.is_funded.ensures ∙ c.if-is_funded.false) (omega arith) key_is below c.in_ok-fund.ensures.ok
+    moved ∙ peek_is core c.args.actor place c.in-Some.found.now b c.in-Some.ensures.found c.in-Some.ensures.there.1
+    reached
+    (row, number) key a' (sym c.last.ensures ∙ c.in-Some-last.is) (sym c.is_funded.ensures ∙ c.if-is_funded.false)
+    (omega arith) key_is below c.in_ok-fund.ensures.ok

@@ -11,5 +11,8 @@ returns-then-mark-end c =
     let key = c.in-Some.key in
     let holder : holds_turn c.args.actor core.holder ≡ true = sym c.is_holder.ensures ∙ c.if-not-is_holder.false in
     let high : c.args.mark ≤ end_of key.id = let e = c.end.ensures in let t = c.if-mark-end.true in omega arith in
-    let moved = ap (λ (z : Core). let r : Core = record z { keys = set z.keys row (record key { mark = c.args.mark }) } in r) c.self.view_is in
-    moved ∙ write_is core c.args.actor c.args.key row key holder (sym c.in-Some.ensures.found) c.args.mark c.if-key-mark.true high
+    let moved =
+    ap (λ (z : Core). let r : Core = record z { keys = set z.keys row (record key { mark = c.args.mark }) } in
+    r) c.self.view_is in
+    moved ∙ write_is core c.args.actor c.args.key row key holder (sym c.in-Some.ensures.found) c.args.mark
+    c.if-key-mark.true high

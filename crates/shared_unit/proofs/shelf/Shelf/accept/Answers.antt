@@ -7,4 +7,5 @@ use Rattle.shared_unit.proofs.shelf.Shelf.accept.Goals as goal
 pub returns-clause-goes_on : goal.returns-clause-goes_on
 returns-clause-goes_on g c =
     subst (λ (b : BookView). GoesUp b c.accept.new.self) (c.deref_mut.ensures.value ∙ c.self.view_is)
-    (goes_up c.deref_mut.result.now c.accept.new.self c.accept.ensures.goes_on c.accept.ensures.marks c.accept.ensures.puts c.accept.ensures.calm)
+    (goes_up c.deref_mut.result.now c.accept.new.self c.accept.ensures.goes_on c.accept.ensures.marks
+    c.accept.ensures.puts c.accept.ensures.calm)

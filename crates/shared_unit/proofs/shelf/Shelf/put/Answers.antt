@@ -8,4 +8,6 @@ use Rattle.shared_unit.proofs.shelf.Shelf.put.Goals as goal
 pub returns-clause-goes_on : goal.returns-clause-goes_on
 returns-clause-goes_on g c =
     subst (λ (b : BookView). GoesUp b c.put.new.self) (c.deref_mut.ensures.value ∙ c.self.view_is)
-    (goes_up_put (sunk_between c.deref_mut.result.now.site.trace c.put.new.self.site.trace) c.put.result c.deref_mut.result.now c.put.new.self c.put.ensures.goes_on c.put.ensures.marks (ap (λ (b : BookView). b.log) c.put.ensures.made) c.put.ensures.puts c.put.ensures.stood)
+    (goes_up_put (sunk_between c.deref_mut.result.now.site.trace c.put.new.self.site.trace) c.put.result
+    c.deref_mut.result.now c.put.new.self c.put.ensures.goes_on c.put.ensures.marks
+    (ap (λ (b : BookView). b.log) c.put.ensures.made) c.put.ensures.puts c.put.ensures.stood)

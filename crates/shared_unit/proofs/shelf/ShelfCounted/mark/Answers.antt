@@ -12,9 +12,14 @@ pub returns-then-row-rows : goal.returns-then-row-rows
 returns-then-row-rows g c =
     let first : c.deref.result.now ≡ c.self.inside.book.value = c.deref.ensures in
     let second : c.deref-then-row-rows.result.now ≡ c.self.inside.book.value = c.deref-then-row-rows.ensures in
-    let at : c.mark_at.result ≡ get_or (map (λ (held : KeyRow). held.mark) c.deref-then-row-rows.result.now.state.keys) c.from-row.result 1 =
+    let at : c.mark_at.result ≡ get_or (map (λ (held : KeyRow). held.mark) c.deref-then-row-rows.result.now.state.keys)
+    c.from-row.result 1 =
     c.mark_at.ensures some_row
-    ∙ sym (get_or-map (λ (held : KeyRow). held.mark) c.deref-then-row-rows.result.now.state.keys c.from-row.result some_row 1
-    (low _ _ _ (c.rows.ensures ∙ ap (λ (b : BookView). length b.state.keys) (first ∙ sym second)) c.if-row-rows.true)) in
-    at ∙ ap (λ (r : ℕ). get_or (map (λ (held : KeyRow). held.mark) c.deref-then-row-rows.result.now.state.keys) r 1) c.from-row.ensures
-    ∙ ap (λ (b : BookView). get_or (map (λ (held : KeyRow). held.mark) b.state.keys) c.args.row 1) (second ∙ c.self.view_is)
+    ∙ sym (get_or-map (λ (held : KeyRow). held.mark) c.deref-then-row-rows.result.now.state.keys c.from-row.result
+    some_row 1
+    (low _ _ _ (c.rows.ensures ∙ ap (λ (b : BookView). length b.state.keys) (first ∙ sym second))
+    c.if-row-rows.true)) in
+    at ∙ ap (λ (r : ℕ). get_or (map (λ (held : KeyRow). held.mark) c.deref-then-row-rows.result.now.state.keys) r 1)
+    c.from-row.ensures
+    ∙ ap (λ (b : BookView). get_or (map (λ (held : KeyRow). held.mark) b.state.keys) c.args.row 1)
+    (second ∙ c.self.view_is)

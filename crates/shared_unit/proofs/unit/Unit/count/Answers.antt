@@ -15,8 +15,10 @@ pub returns-clause-counted : goal.returns-clause-counted
 returns-clause-counted g c =
     let found : BookView = c.take-held.result.book in (
       found,
-      visits g.O.Site.told found found (view c.args.worker.now).turn (view c.take-held.new.worker).turn (view c.give.new.worker).turn
-          c.count-count.ensures.kept c.count-count.ensures.kept c.take-held.ensures.follows (goes_itself found) c.take-held.ensures.turn c.give.ensures.turn,
+      visits g.O.Site.told found found (view c.args.worker.now).turn (view c.take-held.new.worker).turn
+          (view c.give.new.worker).turn
+          c.count-count.ensures.kept c.count-count.ensures.kept c.take-held.ensures.follows (goes_itself found)
+          c.take-held.ensures.turn c.give.ensures.turn,
       c.count-count.ensures.count,
       c.take-held.ensures.as_known,
     )
@@ -25,6 +27,9 @@ pub returns-clause-ready : goal.returns-clause-ready
 returns-clause-ready g c =
     let found : BookView = c.take-held.result.book in
     ready_after g.O.Site.told _ _ c.args.worker.now c.give.new.worker found found c.requires.ready
-    (same_twice c.args.worker.now c.take-held.new.worker c.give.new.worker c.take-held.ensures.same.0 c.give.ensures.same.0)
-    (visits g.O.Site.told found found (view c.args.worker.now).turn (view c.take-held.new.worker).turn (view c.give.new.worker).turn
-    c.count-count.ensures.kept c.count-count.ensures.kept c.take-held.ensures.follows (goes_itself found) c.take-held.ensures.turn c.give.ensures.turn)
+    (same_twice c.args.worker.now c.take-held.new.worker c.give.new.worker c.take-held.ensures.same.0
+    c.give.ensures.same.0)
+    (visits g.O.Site.told found found (view c.args.worker.now).turn (view c.take-held.new.worker).turn
+    (view c.give.new.worker).turn
+    c.count-count.ensures.kept c.count-count.ensures.kept c.take-held.ensures.follows (goes_itself found)
+    c.take-held.ensures.turn c.give.ensures.turn)

@@ -15,8 +15,17 @@ returns-clause-seen g c =
     let f = c.in_ok-funded.ensures.funded in
     let same : c.number.result ≡ c.in-Ok.ticket.1 = c.number.ensures ∙ ap (λ (p : ℕ × ℕ). p.1) f.0 in
     let uses = holder_uses _ _ _ _ _ _ d.3 f.2 in
-    let for_ticket : DrawsFor c.args.key c.in-Ok.ticket.1 found given (view c.args.worker.now).numbers (view c.reserve_and_spend.new.worker).numbers =
-    record { row = c.row_in-row.result; place = c.row_in-row.ensures.row; below = (let b = d.1 in omega arith); mark = f.1.0; reserved = f.1.1; uses = uses } in (
-      subst (λ (n : ℕ). DrawsFor c.args.key n found given (view c.args.worker.now).numbers (view c.reserve_and_spend.new.worker).numbers) (sym same) for_ticket,
+    let for_ticket : DrawsFor c.args.key c.in-Ok.ticket.1 found given (view c.args.worker.now).numbers
+    (view c.reserve_and_spend.new.worker).numbers =
+    record {
+      row = c.row_in-row.result;
+      place = c.row_in-row.ensures.row;
+      below = (let b = d.1 in omega arith);
+      mark = f.1.0;
+      reserved = f.1.1;
+      uses = uses;
+    } in (
+      subst (λ (n : ℕ). DrawsFor c.args.key n found given (view c.args.worker.now).numbers
+          (view c.reserve_and_spend.new.worker).numbers) (sym same) for_ticket,
       inr (f.3 ∙ ap (learning (marks_of given.state)) c.draw_below.ensures.same.1),
     )

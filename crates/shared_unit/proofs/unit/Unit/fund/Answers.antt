@@ -14,7 +14,8 @@ use Rattle.shared_unit.proofs.unit.Unit.fund.Goals as goal
 
 pub reserve_and_spend-requires-clause-place : goal.reserve_and_spend-requires-clause-place
 reserve_and_spend-requires-clause-place g c =
-    row_held c.args.permit.now (view c.args.worker.now).turn c.take-held.result.book c.take-held.ensures.follows c.requires.permit
+    row_held c.args.permit.now (view c.args.worker.now).turn c.take-held.result.book c.take-held.ensures.follows
+    c.requires.permit
     (level_of g.O.Site.told c.take-held.result.book c.look.ensures)
 
 pub give-requires-clause-book : goal.give-requires-clause-book
@@ -22,7 +23,8 @@ give-requires-clause-book g c =
     let found : BookView = c.take-held.result.book in
     let given : BookView = c.reserve_and_spend.new.held.book in
     let f = c.in-Err.ensures.funded in
-    may_give _ found given (ap (λ (t : Turn). t.known) (f.2 ∙ c.take-held.ensures.turn)) c.reserve_and_spend.ensures.goes_on
+    may_give _ found given (ap (λ (t : Turn). t.known) (f.2 ∙ c.take-held.ensures.turn))
+    c.reserve_and_spend.ensures.goes_on
     (reserves_changes c.args.permit.now.binding.key c.args.ticket.1 (Err c.in-Err.fault) found given f.0)
 
 pub give-requires-2-clause-book : goal.give-requires-2-clause-book
@@ -31,7 +33,8 @@ give-requires-2-clause-book g c =
     let given : BookView = c.reserve_and_spend.new.held.book in
     let f = c.in-Ok.ensures.funded in
     may_give_learned _ found given
-    (ap (λ (t : Turn). t.known) f.3 ∙ ap (λ (t : Turn). (learning (marks_of given.state) t).known) c.take-held.ensures.turn) c.reserve_and_spend.ensures.goes_on
+    (ap (λ (t : Turn). t.known) f.3 ∙ ap (λ (t : Turn). (learning (marks_of given.state) t).known)
+    c.take-held.ensures.turn) c.reserve_and_spend.ensures.goes_on
     (reserves_changes c.args.permit.now.binding.key c.args.ticket.1 (Ok f.1.0) found given f.1.1)
 
 pub returns-in-Err-clause-step : goal.returns-in-Err-clause-step
@@ -43,8 +46,10 @@ returns-in-Err-clause-step g c =
       (
         found,
         given,
-        visits g.O.Site.told found given (view c.args.worker.now).turn (view c.reserve_and_spend.new.worker).turn (view c.give.new.worker).turn
-            c.reserve_and_spend.ensures.was_kept c.reserve_and_spend.ensures.kept c.take-held.ensures.follows c.reserve_and_spend.ensures.goes_on (f.2 ∙ c.take-held.ensures.turn) c.give.ensures.turn,
+        visits g.O.Site.told found given (view c.args.worker.now).turn (view c.reserve_and_spend.new.worker).turn
+            (view c.give.new.worker).turn
+            c.reserve_and_spend.ensures.was_kept c.reserve_and_spend.ensures.kept c.take-held.ensures.follows
+            c.reserve_and_spend.ensures.goes_on (f.2 ∙ c.take-held.ensures.turn) c.give.ensures.turn,
         f.0,
         c.count-count.ensures.count,
       ),
@@ -57,9 +62,12 @@ returns-in-Err-clause-ready g c =
     let f = c.in-Err.ensures.funded in
     ready_after g.O.Site.told _ _ c.args.worker.now c.give.new.worker found given c.requires.ready
     (same_twice c.args.worker.now c.reserve_and_spend.new.worker c.give.new.worker
-    (same_twice c.args.worker.now c.take-held.new.worker c.reserve_and_spend.new.worker c.take-held.ensures.same.0 c.reserve_and_spend.ensures.same) c.give.ensures.same.0)
-    (visits g.O.Site.told found given (view c.args.worker.now).turn (view c.reserve_and_spend.new.worker).turn (view c.give.new.worker).turn
-    c.reserve_and_spend.ensures.was_kept c.reserve_and_spend.ensures.kept c.take-held.ensures.follows c.reserve_and_spend.ensures.goes_on (f.2 ∙ c.take-held.ensures.turn) c.give.ensures.turn)
+    (same_twice c.args.worker.now c.take-held.new.worker c.reserve_and_spend.new.worker c.take-held.ensures.same.0
+    c.reserve_and_spend.ensures.same) c.give.ensures.same.0)
+    (visits g.O.Site.told found given (view c.args.worker.now).turn (view c.reserve_and_spend.new.worker).turn
+    (view c.give.new.worker).turn
+    c.reserve_and_spend.ensures.was_kept c.reserve_and_spend.ensures.kept c.take-held.ensures.follows
+    c.reserve_and_spend.ensures.goes_on (f.2 ∙ c.take-held.ensures.turn) c.give.ensures.turn)
 
 pub returns-clause-step : goal.returns-clause-step
 returns-clause-step g c =
@@ -69,15 +77,24 @@ returns-clause-step g c =
     let same : c.number-number.result ≡ c.args.ticket.1 = c.number-number.ensures ∙ ap (λ (p : ℕ × ℕ). p.1) f.0 in
     let row = c.args.permit.now.row in (
       same,
-      record { key = refl; epoch = refl; below = (let b = c.requires.ticket.1 in omega arith); count = c.shield-length.ensures.count; frame = c.shield-length.ensures.protected },
+      record {
+        key = refl;
+        epoch = refl;
+        below = (let b = c.requires.ticket.1 in omega arith);
+        count = c.shield-length.ensures.count;
+        frame = c.shield-length.ensures.protected;
+      },
       subst (λ (k : Numbers). Lifts row c.args.ticket.1 k (view c.give-2.new.worker).numbers) c.take-held.ensures.same.1
-          (subst (λ (k : Numbers). Lifts row c.args.ticket.1 (view c.take-held.new.worker).numbers k) (sym c.give-2.ensures.same.1) f.2),
+          (subst (λ (k : Numbers). Lifts row c.args.ticket.1 (view c.take-held.new.worker).numbers k)
+          (sym c.give-2.ensures.same.1) f.2),
       (
         found,
         given,
         f.1.0,
-        visits_learned g.O.Site.told found given (view c.args.worker.now).turn (view c.reserve_and_spend.new.worker).turn (view c.give-2.new.worker).turn
-            c.reserve_and_spend.ensures.was_kept c.reserve_and_spend.ensures.kept c.take-held.ensures.follows c.reserve_and_spend.ensures.goes_on
+        visits_learned g.O.Site.told found given (view c.args.worker.now).turn
+            (view c.reserve_and_spend.new.worker).turn (view c.give-2.new.worker).turn
+            c.reserve_and_spend.ensures.was_kept c.reserve_and_spend.ensures.kept c.take-held.ensures.follows
+            c.reserve_and_spend.ensures.goes_on
             (f.3 ∙ ap (learning (marks_of given.state)) c.take-held.ensures.turn) c.give-2.ensures.turn,
         f.1.1,
       ),
@@ -90,9 +107,12 @@ returns-clause-ready g c =
     let f = c.in-Ok.ensures.funded in
     ready_after g.O.Site.told _ _ c.args.worker.now c.give-2.new.worker found given c.requires.ready
     (same_twice c.args.worker.now c.reserve_and_spend.new.worker c.give-2.new.worker
-    (same_twice c.args.worker.now c.take-held.new.worker c.reserve_and_spend.new.worker c.take-held.ensures.same.0 c.reserve_and_spend.ensures.same) c.give-2.ensures.same.0)
-    (visits_learned g.O.Site.told found given (view c.args.worker.now).turn (view c.reserve_and_spend.new.worker).turn (view c.give-2.new.worker).turn
-    c.reserve_and_spend.ensures.was_kept c.reserve_and_spend.ensures.kept c.take-held.ensures.follows c.reserve_and_spend.ensures.goes_on
+    (same_twice c.args.worker.now c.take-held.new.worker c.reserve_and_spend.new.worker c.take-held.ensures.same.0
+    c.reserve_and_spend.ensures.same) c.give-2.ensures.same.0)
+    (visits_learned g.O.Site.told found given (view c.args.worker.now).turn (view c.reserve_and_spend.new.worker).turn
+    (view c.give-2.new.worker).turn
+    c.reserve_and_spend.ensures.was_kept c.reserve_and_spend.ensures.kept c.take-held.ensures.follows
+    c.reserve_and_spend.ensures.goes_on
     (f.3 ∙ ap (learning (marks_of given.state)) c.take-held.ensures.turn) c.give-2.ensures.turn)
 
 pub returns-in-Err-clause-covered : goal.returns-in-Err-clause-covered
@@ -103,8 +123,10 @@ returns-in-Err-clause-covered g c =
     record {
       found = found;
       given = given;
-      visits = visits g.O.Site.told found given (view c.args.worker.now).turn (view c.reserve_and_spend.new.worker).turn (view c.give.new.worker).turn
-          c.reserve_and_spend.ensures.was_kept c.reserve_and_spend.ensures.kept c.take-held.ensures.follows c.reserve_and_spend.ensures.goes_on (f.2 ∙ c.take-held.ensures.turn) c.give.ensures.turn;
+      visits = visits g.O.Site.told found given (view c.args.worker.now).turn (view c.reserve_and_spend.new.worker).turn
+          (view c.give.new.worker).turn
+          c.reserve_and_spend.ensures.was_kept c.reserve_and_spend.ensures.kept c.take-held.ensures.follows
+          c.reserve_and_spend.ensures.goes_on (f.2 ∙ c.take-held.ensures.turn) c.give.ensures.turn;
       covered = rw c.args.self.now.rows at c.take-held.ensures.covered;
     }
 
@@ -116,8 +138,10 @@ returns-clause-covered g c =
     record {
       found = found;
       given = given;
-      visits = visits_learned g.O.Site.told found given (view c.args.worker.now).turn (view c.reserve_and_spend.new.worker).turn (view c.give-2.new.worker).turn
-          c.reserve_and_spend.ensures.was_kept c.reserve_and_spend.ensures.kept c.take-held.ensures.follows c.reserve_and_spend.ensures.goes_on
+      visits = visits_learned g.O.Site.told found given (view c.args.worker.now).turn
+          (view c.reserve_and_spend.new.worker).turn (view c.give-2.new.worker).turn
+          c.reserve_and_spend.ensures.was_kept c.reserve_and_spend.ensures.kept c.take-held.ensures.follows
+          c.reserve_and_spend.ensures.goes_on
           (f.3 ∙ ap (learning (marks_of given.state)) c.take-held.ensures.turn) c.give-2.ensures.turn;
       covered = rw c.args.self.now.rows at c.take-held.ensures.covered;
     }

@@ -14,11 +14,13 @@ pub give-requires-clause-book : goal.give-requires-clause-book
 give-requires-clause-book g c =
     let found : BookView = c.take-held.result.book in
     let given : BookView = c.open_in-result.new.shelf in
-    may_give _ found given (ap (λ (t : Turn). t.known) c.take-held.ensures.turn) c.open_in-result.ensures.goes_on c.open_in-result.ensures.changes
+    may_give _ found given (ap (λ (t : Turn). t.known) c.take-held.ensures.turn) c.open_in-result.ensures.goes_on
+    c.open_in-result.ensures.changes
 
 pub open_in-result-requires-clause-kept : goal.open_in-result-requires-clause-kept
 open_in-result-requires-clause-kept g c =
-    opens_found g.O.Site.told c.args.kept.now (view c.args.worker.now).turn c.take-held.result.book c.take-held.ensures.follows c.look.ensures c.requires.kept
+    opens_found g.O.Site.told c.args.kept.now (view c.args.worker.now).turn c.take-held.result.book
+    c.take-held.ensures.follows c.look.ensures c.requires.kept
 
 pub returns-in-Ok-clause-opened : goal.returns-in-Ok-clause-opened
 returns-in-Ok-clause-opened g c =
@@ -28,9 +30,12 @@ returns-in-Ok-clause-opened g c =
     let frame = c.open_in-result.new.frame in (
       found,
       given,
-      visits g.O.Site.told found given (view c.args.worker.now).turn (view c.take-held.new.worker).turn (view c.give.new.worker).turn
-          c.open_in-result.ensures.was_kept c.open_in-result.ensures.is_kept c.take-held.ensures.follows c.open_in-result.ensures.goes_on c.take-held.ensures.turn c.give.ensures.turn,
-      subst (λ (l : List ℕ). OpensWithEntry c.args.index c.args.link l (field_in answer.0 frame) found given answer.0 answer.1 × LeavesOctets answer.0 l frame)
+      visits g.O.Site.told found given (view c.args.worker.now).turn (view c.take-held.new.worker).turn
+          (view c.give.new.worker).turn
+          c.open_in-result.ensures.was_kept c.open_in-result.ensures.is_kept c.take-held.ensures.follows
+          c.open_in-result.ensures.goes_on c.take-held.ensures.turn c.give.ensures.turn,
+      subst (λ (l : List ℕ). OpensWithEntry c.args.index c.args.link l (field_in answer.0 frame) found given answer.0
+          answer.1 × LeavesOctets answer.0 l frame)
           c.requires.octets c.in-Ok.ensures.made,
     )
 
@@ -39,18 +44,24 @@ returns-in-Ok-clause-ready g c =
     let found : BookView = c.take-held.result.book in
     let given : BookView = c.open_in-result.new.shelf in
     ready_after g.O.Site.told _ _ c.args.worker.now c.give.new.worker found given c.requires.ready
-    (same_twice c.args.worker.now c.take-held.new.worker c.give.new.worker c.take-held.ensures.same.0 c.give.ensures.same.0)
-    (visits g.O.Site.told found given (view c.args.worker.now).turn (view c.take-held.new.worker).turn (view c.give.new.worker).turn
-    c.open_in-result.ensures.was_kept c.open_in-result.ensures.is_kept c.take-held.ensures.follows c.open_in-result.ensures.goes_on c.take-held.ensures.turn c.give.ensures.turn)
+    (same_twice c.args.worker.now c.take-held.new.worker c.give.new.worker c.take-held.ensures.same.0
+    c.give.ensures.same.0)
+    (visits g.O.Site.told found given (view c.args.worker.now).turn (view c.take-held.new.worker).turn
+    (view c.give.new.worker).turn
+    c.open_in-result.ensures.was_kept c.open_in-result.ensures.is_kept c.take-held.ensures.follows
+    c.open_in-result.ensures.goes_on c.take-held.ensures.turn c.give.ensures.turn)
 
 pub returns-in-Ok-clause-kept : goal.returns-in-Ok-clause-kept
 returns-in-Ok-clause-kept g c =
     let found : BookView = c.take-held.result.book in
     let given : BookView = c.open_in-result.new.shelf in
-    true_after g.O.Site.told _ _ found (known_of_book given) (view c.args.worker.now).turn (view c.give.new.worker).turn c.open_in-result.ensures.renewed
+    true_after g.O.Site.told _ _ found (known_of_book given) (view c.args.worker.now).turn (view c.give.new.worker).turn
+    c.open_in-result.ensures.renewed
     c.open_in-result.ensures.was_kept
-    (visits g.O.Site.told found given (view c.args.worker.now).turn (view c.take-held.new.worker).turn (view c.give.new.worker).turn
-    c.open_in-result.ensures.was_kept c.open_in-result.ensures.is_kept c.take-held.ensures.follows c.open_in-result.ensures.goes_on c.take-held.ensures.turn c.give.ensures.turn).takes
+    (visits g.O.Site.told found given (view c.args.worker.now).turn (view c.take-held.new.worker).turn
+    (view c.give.new.worker).turn
+    c.open_in-result.ensures.was_kept c.open_in-result.ensures.is_kept c.take-held.ensures.follows
+    c.open_in-result.ensures.goes_on c.take-held.ensures.turn c.give.ensures.turn).takes
     c.requires.kept
 
 pub returns-in-Err-clause-opened : goal.returns-in-Err-clause-opened
@@ -59,10 +70,13 @@ returns-in-Err-clause-opened g c =
     let given : BookView = c.open_in-result.new.shelf in (
       found,
       given,
-      visits g.O.Site.told found given (view c.args.worker.now).turn (view c.take-held.new.worker).turn (view c.give.new.worker).turn
-          c.open_in-result.ensures.was_kept c.open_in-result.ensures.is_kept c.take-held.ensures.follows c.open_in-result.ensures.goes_on c.take-held.ensures.turn c.give.ensures.turn,
+      visits g.O.Site.told found given (view c.args.worker.now).turn (view c.take-held.new.worker).turn
+          (view c.give.new.worker).turn
+          c.open_in-result.ensures.was_kept c.open_in-result.ensures.is_kept c.take-held.ensures.follows
+          c.open_in-result.ensures.goes_on c.take-held.ensures.turn c.give.ensures.turn,
       (
-        subst (λ (l : List ℕ). RefusesFrame c.args.index c.args.link l found given c.in-Err.fault) c.requires.octets c.in-Err.ensures.made,
+        subst (λ (l : List ℕ). RefusesFrame c.args.index c.args.link l found given c.in-Err.fault) c.requires.octets
+            c.in-Err.ensures.made,
         c.count-count.ensures.count,
       ),
     )
@@ -72,18 +86,24 @@ returns-in-Err-clause-ready g c =
     let found : BookView = c.take-held.result.book in
     let given : BookView = c.open_in-result.new.shelf in
     ready_after g.O.Site.told _ _ c.args.worker.now c.give.new.worker found given c.requires.ready
-    (same_twice c.args.worker.now c.take-held.new.worker c.give.new.worker c.take-held.ensures.same.0 c.give.ensures.same.0)
-    (visits g.O.Site.told found given (view c.args.worker.now).turn (view c.take-held.new.worker).turn (view c.give.new.worker).turn
-    c.open_in-result.ensures.was_kept c.open_in-result.ensures.is_kept c.take-held.ensures.follows c.open_in-result.ensures.goes_on c.take-held.ensures.turn c.give.ensures.turn)
+    (same_twice c.args.worker.now c.take-held.new.worker c.give.new.worker c.take-held.ensures.same.0
+    c.give.ensures.same.0)
+    (visits g.O.Site.told found given (view c.args.worker.now).turn (view c.take-held.new.worker).turn
+    (view c.give.new.worker).turn
+    c.open_in-result.ensures.was_kept c.open_in-result.ensures.is_kept c.take-held.ensures.follows
+    c.open_in-result.ensures.goes_on c.take-held.ensures.turn c.give.ensures.turn)
 
 pub returns-in-Err-clause-kept : goal.returns-in-Err-clause-kept
 returns-in-Err-clause-kept g c =
     let found : BookView = c.take-held.result.book in
     let given : BookView = c.open_in-result.new.shelf in
-    true_after g.O.Site.told _ _ found (known_of_book given) (view c.args.worker.now).turn (view c.give.new.worker).turn c.open_in-result.ensures.renewed
+    true_after g.O.Site.told _ _ found (known_of_book given) (view c.args.worker.now).turn (view c.give.new.worker).turn
+    c.open_in-result.ensures.renewed
     c.open_in-result.ensures.was_kept
-    (visits g.O.Site.told found given (view c.args.worker.now).turn (view c.take-held.new.worker).turn (view c.give.new.worker).turn
-    c.open_in-result.ensures.was_kept c.open_in-result.ensures.is_kept c.take-held.ensures.follows c.open_in-result.ensures.goes_on c.take-held.ensures.turn c.give.ensures.turn).takes
+    (visits g.O.Site.told found given (view c.args.worker.now).turn (view c.take-held.new.worker).turn
+    (view c.give.new.worker).turn
+    c.open_in-result.ensures.was_kept c.open_in-result.ensures.is_kept c.take-held.ensures.follows
+    c.open_in-result.ensures.goes_on c.take-held.ensures.turn c.give.ensures.turn).takes
     c.requires.kept
 
 pub returns-in-Ok-clause-covered : goal.returns-in-Ok-clause-covered
@@ -93,8 +113,10 @@ returns-in-Ok-clause-covered g c =
     record {
       found = found;
       given = given;
-      visits = visits g.O.Site.told found given (view c.args.worker.now).turn (view c.take-held.new.worker).turn (view c.give.new.worker).turn
-          c.open_in-result.ensures.was_kept c.open_in-result.ensures.is_kept c.take-held.ensures.follows c.open_in-result.ensures.goes_on c.take-held.ensures.turn c.give.ensures.turn;
+      visits = visits g.O.Site.told found given (view c.args.worker.now).turn (view c.take-held.new.worker).turn
+          (view c.give.new.worker).turn
+          c.open_in-result.ensures.was_kept c.open_in-result.ensures.is_kept c.take-held.ensures.follows
+          c.open_in-result.ensures.goes_on c.take-held.ensures.turn c.give.ensures.turn;
       covered = rw c.args.self.now.rows at c.take-held.ensures.covered;
     }
 
@@ -105,7 +127,9 @@ returns-in-Err-clause-covered g c =
     record {
       found = found;
       given = given;
-      visits = visits g.O.Site.told found given (view c.args.worker.now).turn (view c.take-held.new.worker).turn (view c.give.new.worker).turn
-          c.open_in-result.ensures.was_kept c.open_in-result.ensures.is_kept c.take-held.ensures.follows c.open_in-result.ensures.goes_on c.take-held.ensures.turn c.give.ensures.turn;
+      visits = visits g.O.Site.told found given (view c.args.worker.now).turn (view c.take-held.new.worker).turn
+          (view c.give.new.worker).turn
+          c.open_in-result.ensures.was_kept c.open_in-result.ensures.is_kept c.take-held.ensures.follows
+          c.open_in-result.ensures.goes_on c.take-held.ensures.turn c.give.ensures.turn;
       covered = rw c.args.self.now.rows at c.take-held.ensures.covered;
     }

@@ -19,8 +19,10 @@ pub returns-clause-permitted : goal.returns-clause-permitted
 returns-clause-permitted g c =
     let found : BookView = c.take-held.result.book in (
       found,
-      visits g.O.Site.told found found (view c.args.worker.now).turn (view c.take-held.new.worker).turn (view c.give.new.worker).turn
-          c.permit_in-reply.ensures.kept c.permit_in-reply.ensures.kept c.take-held.ensures.follows (goes_itself found) c.take-held.ensures.turn c.give.ensures.turn,
+      visits g.O.Site.told found found (view c.args.worker.now).turn (view c.take-held.new.worker).turn
+          (view c.give.new.worker).turn
+          c.permit_in-reply.ensures.kept c.permit_in-reply.ensures.kept c.take-held.ensures.follows (goes_itself found)
+          c.take-held.ensures.turn c.give.ensures.turn,
       c.permit_in-reply.ensures.permits,
     )
 
@@ -28,9 +30,12 @@ pub returns-clause-ready : goal.returns-clause-ready
 returns-clause-ready g c =
     let found : BookView = c.take-held.result.book in
     ready_after g.O.Site.told _ _ c.args.worker.now c.give.new.worker found found c.requires.ready
-    (same_twice c.args.worker.now c.take-held.new.worker c.give.new.worker c.take-held.ensures.same.0 c.give.ensures.same.0)
-    (visits g.O.Site.told found found (view c.args.worker.now).turn (view c.take-held.new.worker).turn (view c.give.new.worker).turn
-    c.permit_in-reply.ensures.kept c.permit_in-reply.ensures.kept c.take-held.ensures.follows (goes_itself found) c.take-held.ensures.turn c.give.ensures.turn)
+    (same_twice c.args.worker.now c.take-held.new.worker c.give.new.worker c.take-held.ensures.same.0
+    c.give.ensures.same.0)
+    (visits g.O.Site.told found found (view c.args.worker.now).turn (view c.take-held.new.worker).turn
+    (view c.give.new.worker).turn
+    c.permit_in-reply.ensures.kept c.permit_in-reply.ensures.kept c.take-held.ensures.follows (goes_itself found)
+    c.take-held.ensures.turn c.give.ensures.turn)
 
 pub returns-clause-trusted : goal.returns-clause-trusted
 returns-clause-trusted g c =
@@ -39,6 +44,7 @@ returns-clause-trusted g c =
     permitted _ c.args.link c.args.clear.now c.permit_in-reply.result found (known_of_book found)
     (view c.args.worker.now).turn (view c.give.new.worker).turn c.permit_in-reply.ensures.permits
     (level_of g.O.Site.told found kept)
-    (visits g.O.Site.told found found (view c.args.worker.now).turn (view c.take-held.new.worker).turn (view c.give.new.worker).turn
+    (visits g.O.Site.told found found (view c.args.worker.now).turn (view c.take-held.new.worker).turn
+    (view c.give.new.worker).turn
     kept kept c.take-held.ensures.follows (goes_itself found) c.take-held.ensures.turn c.give.ensures.turn).takes
     (ap (λ (o : Opening). o.plan) c.take-held.ensures.follows.opening ∙ c.requires.ready.planned)

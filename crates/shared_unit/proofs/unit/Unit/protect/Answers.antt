@@ -61,9 +61,11 @@ returns-in-Some g c =
       shares = kept_shares g.O.Site.told step.0 c.args.clear.now c.protect_if_kept.new.out c.in-Some.answer
           (view c.args.worker.now) (view c.protect_if_kept.new.worker) step.3.0;
       turn = c.protect_if_kept.ensures.turn;
-      step = kept_step g.O.Site.told c.args.self.now.plan c.args.link c.args.clear.now c.protect_if_kept.new.out c.args.kept.now c.in-Some.answer
+      step = kept_step g.O.Site.told c.args.self.now.plan c.args.link c.args.clear.now c.protect_if_kept.new.out
+          c.args.kept.now c.in-Some.answer
           (view c.args.worker.now) (view c.protect_if_kept.new.worker) step c.protect_if_kept.ensures.ready.planned;
-      kept = subst (λ (kept : Option Permit). IsTrueIfKept kept (view c.protect_if_kept.new.worker).turn) (sym step.1) step.2.trusted;
+      kept = subst (λ (kept : Option Permit). IsTrueIfKept kept (view c.protect_if_kept.new.worker).turn) (sym step.1)
+          step.2.trusted;
       leaves = c.in-Some.ensures.leaves;
       covered = c.protect_if_kept.ensures.covered;
       epochs = λ channel passes. loaded_epoch g.O.Site.told c.in-Some.answer
@@ -78,18 +80,27 @@ returns g c =
     let new = c.protect_with_new in
     record {
       ready = new.ensures.ready;
-      same = same_twice c.args.worker.now c.protect_if_kept.new.worker new.new.worker c.protect_if_kept.ensures.same new.ensures.same;
-      shares = step_shares g.O.Site.told c.args.self.now.plan c.args.link c.args.clear.now new.new.out new.new.kept new.result
-          (view c.protect_if_kept.new.worker) (view new.new.worker) new.ensures.step ∙ ap (λ (k : Numbers). k.shares) none.0;
-      turn = passes_on g.O.Site.told (view c.args.worker.now).turn (view c.protect_if_kept.new.worker).turn (view new.new.worker).turn none.1 new.ensures.turn;
-      step = step_from g.O.Site.told c.args.self.now.plan c.args.link c.args.clear.now new.new.out new.new.kept new.result
-          (view c.args.worker.now) (view c.protect_if_kept.new.worker) (view new.new.worker) none.0 none.1 c.in-Ok-Some.channel
+      same = same_twice c.args.worker.now c.protect_if_kept.new.worker new.new.worker c.protect_if_kept.ensures.same
+          new.ensures.same;
+      shares = step_shares g.O.Site.told c.args.self.now.plan c.args.link c.args.clear.now new.new.out new.new.kept
+          new.result
+          (view c.protect_if_kept.new.worker) (view new.new.worker) new.ensures.step
+          ∙ ap (λ (k : Numbers). k.shares) none.0;
+      turn = passes_on g.O.Site.told (view c.args.worker.now).turn (view c.protect_if_kept.new.worker).turn
+          (view new.new.worker).turn none.1 new.ensures.turn;
+      step = step_from g.O.Site.told c.args.self.now.plan c.args.link c.args.clear.now new.new.out new.new.kept
+          new.result
+          (view c.args.worker.now) (view c.protect_if_kept.new.worker) (view new.new.worker) none.0 none.1
+          c.in-Ok-Some.channel
           (sym c.channel.ensures ∙ c.in-Ok-Some.is ∙ ap on c.in-Ok-Some.field-0-is) new.ensures.step;
       kept = new.ensures.kept;
-      leaves = subst (λ (room : List ℕ). LeavesUnprotected new.result room new.new.out) c.in_default.ensures.leaves new.ensures.leaves;
-      covered = covers_on g.O.Site.told (view c.args.worker.now) (view c.protect_if_kept.new.worker) (view new.new.worker) none.0 none.1 new.ensures.covered;
+      leaves = subst (λ (room : List ℕ). LeavesUnprotected new.result room new.new.out) c.in_default.ensures.leaves
+          new.ensures.leaves;
+      covered = covers_on g.O.Site.told (view c.args.worker.now) (view c.protect_if_kept.new.worker)
+          (view new.new.worker) none.0 none.1 new.ensures.covered;
       epochs = λ channel passes. found_epoch g.O.Site.told new.result
-          (view c.args.worker.now).turn (view c.protect_if_kept.new.worker).turn (view new.new.worker).turn none.1 new.ensures.epochs;
+          (view c.args.worker.now).turn (view c.protect_if_kept.new.worker).turn (view new.new.worker).turn none.1
+          new.ensures.epochs;
       turns = λ p d was linked of done epoch.
           absurd (let behind = none.2 p was linked of in let later = new.ensures.later d done in omega arith);
       turns_kept = λ p was linked of low.

@@ -36,8 +36,10 @@ returns-clause-step g c =
     let w = (view c.protect_with_kept.new.worker).turn in
     let is : IsTrueFor p w = permit_stays p v w (passes_grows g.O.Site.told v w c.protect_with_kept.ensures.turn)
     (rw c.in-Some.is at c.requires.kept) in
-    by_kept_step g.O.Site.told p c.args.clear.now c.protect_with_kept.new.out c.args.self.now.plan c.args.kept.now c.args.link
-    c.protect_with_kept.result (view c.args.worker.now) (view c.protect_with_kept.new.worker) c.protect_with_kept.ensures.step c.in-Some.is record {
+    by_kept_step g.O.Site.told p c.args.clear.now c.protect_with_kept.new.out c.args.self.now.plan c.args.kept.now
+    c.args.link
+    c.protect_with_kept.result (view c.args.worker.now) (view c.protect_with_kept.new.worker)
+    c.protect_with_kept.ensures.step c.in-Some.is record {
       linked = c.if-permit-link.false;
       frame = of_frame c.args.self.now.plan p c.args.link c.args.channel c.args.clear.now c.if-permit-link.false
           (same_number p.channel c.args.channel (sym c.if-ne.false ∙ c.ne.ensures)) c.requires.channel;

@@ -13,23 +13,27 @@ returns-in-Done-clause-turn g c = passes_loads g.O.Site.told _ _ _ (c.in-Done.en
 
 pub returns-in-Ok-clause-step : goal.returns-in-Ok-clause-step
 returns-in-Ok-clause-step g c =
-    done_funded g.O.Site.told c.args.permit.now c.args.clear.now _ c.in-Ok.done c.in-NeedBlock.ticket c.protect_ready.new.out _ _ _
+    done_funded g.O.Site.told c.args.permit.now c.args.clear.now _ c.in-Ok.done c.in-NeedBlock.ticket
+    c.protect_ready.new.out _ _ _
     c.in-NeedBlock.ensures.step c.in-Ok.ensures.step
 
 pub returns-in-Ok-clause-turn : goal.returns-in-Ok-clause-turn
 returns-in-Ok-clause-turn g c =
     let f = (c.in-Ok.ensures.step).3 in
-    passes_funded g.O.Site.told c.args.permit.now c.in-NeedBlock.ticket.1 (Ok f.2) _ _ _ f.0 f.1 (c.in-NeedBlock.ensures.step).1 f.3 f.4
+    passes_funded g.O.Site.told c.args.permit.now c.in-NeedBlock.ticket.1 (Ok f.2) _ _ _ f.0 f.1
+    (c.in-NeedBlock.ensures.step).1 f.3 f.4
 
 pub returns-in-Err-clause-step : goal.returns-in-Err-clause-step
 returns-in-Err-clause-step g c =
-    refused_funded g.O.Site.told c.args.permit.now c.args.clear.now c.fund.new.out c.in-Err.fault c.in-Err.position c.in-NeedBlock.ticket
+    refused_funded g.O.Site.told c.args.permit.now c.args.clear.now c.fund.new.out c.in-Err.fault c.in-Err.position
+    c.in-NeedBlock.ticket
     c.protect_ready.new.out _ _ _ c.in-NeedBlock.ensures.step c.in-Err.ensures.step
 
 pub returns-in-Err-clause-turn : goal.returns-in-Err-clause-turn
 returns-in-Err-clause-turn g c =
     let f = (c.in-Err.ensures.step).1 in
-    passes_funded g.O.Site.told c.args.permit.now c.in-NeedBlock.ticket.1 (Err c.in-Err.fault) _ _ _ f.0 f.1 (c.in-NeedBlock.ensures.step).1 f.2 f.3
+    passes_funded g.O.Site.told c.args.permit.now c.in-NeedBlock.ticket.1 (Err c.in-Err.fault) _ _ _ f.0 f.1
+    (c.in-NeedBlock.ensures.step).1 f.2 f.3
 
 pub returns-in-Stale-clause-step : goal.returns-in-Stale-clause-step
 returns-in-Stale-clause-step g c =
@@ -47,7 +51,8 @@ returns-in-Exhausted-clause-turn g c = passes_loads g.O.Site.told _ _ _ (c.in-Ex
 
 pub returns-in-Exhausted-clause-step : goal.returns-in-Exhausted-clause-step
 returns-in-Exhausted-clause-step g c =
-    exhausted_ready g.O.Site.told c.args.permit.now c.args.clear.now c.protect_ready.new.out c.in-Exhausted.number _ _ c.in-Exhausted.ensures.step
+    exhausted_ready g.O.Site.told c.args.permit.now c.args.clear.now c.protect_ready.new.out c.in-Exhausted.number
+    _ _ c.in-Exhausted.ensures.step
 
 pub returns-in-Done-clause-covered : goal.returns-in-Done-clause-covered
 returns-in-Done-clause-covered g c = covers_loads g.O.Site.told _ _ _ (c.in-Done.ensures.step).1

@@ -32,9 +32,12 @@ loop-place-preserved g c =
       keys = c.release_at.ensures.keys ∙ c.loop-place.invariant.keys;
       so_far = so_far_more c.args.next.now c.loop-place.place 0 c.args.self.now c.loop-place.self c.release_at.new.self
           c.release_at.result (omega arith) c.loop-place.invariant.so_far c.release_at.ensures.made c.in-Ok.is;
-      receivers = still_tells c.loop-place.place (get_or c.args.next.now c.loop-place.place 0) c.loop-place.self c.release_at.new.self
-          c.release_at.result c.of-receivers.result.places c.release_at.ensures.made c.in-Ok.is c.loop-place.invariant.receivers;
-      goes_on = goes_then c.args.self.now c.loop-place.self c.release_at.new.self c.loop-place.invariant.goes_on c.release_at.ensures.goes_on;
+      receivers = still_tells c.loop-place.place (get_or c.args.next.now c.loop-place.place 0) c.loop-place.self
+          c.release_at.new.self
+          c.release_at.result c.of-receivers.result.places c.release_at.ensures.made c.in-Ok.is
+          c.loop-place.invariant.receivers;
+      goes_on = goes_then c.args.self.now c.loop-place.self c.release_at.new.self c.loop-place.invariant.goes_on
+          c.release_at.ensures.goes_on;
       puts = c.release_at.ensures.puts ∙ c.loop-place.invariant.puts;
       later = omega arith;
     }

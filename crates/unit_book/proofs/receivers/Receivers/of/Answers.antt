@@ -11,11 +11,13 @@ loop-row-init c = λ key not. All-nil (λ (row : SaRow). receives_with key row �
 pub loop-row-preserved : goal.loop-row-preserved
 loop-row-preserved c = λ key not.
     let told = c.note.ensures key not in
-    All-more (λ (row : SaRow). receives_with key row ≡ false) c.args.associations.now c.loop-row.row-index c.row-item.result c.loop-row-test.true
+    All-more (λ (row : SaRow). receives_with key row ≡ false) c.args.associations.now c.loop-row.row-index
+    c.row-item.result c.loop-row-test.true
     (c.loop-row.invariant key told.0) (subst (λ (row : SaRow). receives_with key row ≡ false) c.row-item.is told.1)
 
 pub returns : goal.returns
 returns c = λ key not.
     none_found (receives_with key) c.args.associations.now
-    (subst (All (λ (row : SaRow). receives_with key row ≡ false)) (take_all c.loop-row.row-index c.args.associations.now c.loop-row-test.false)
+    (subst (All (λ (row : SaRow). receives_with key row ≡ false))
+    (take_all c.loop-row.row-index c.args.associations.now c.loop-row-test.false)
     (c.loop-row.invariant key not))

@@ -17,23 +17,30 @@ loop-answer-init g c = record {
 
 pub returns-in-Err-clause-puts : goal.returns-in-Err-clause-puts
 returns-in-Err-clause-puts g c =
-    so_far_cut g.O.Site.told c.args.answers.now c.loop-answer.answer-index c.answer-item.result c.loop-answer.self.piece.items c.take_answer.new.self.piece.items c.in-Err.fault
+    so_far_cut g.O.Site.told c.args.answers.now c.loop-answer.answer-index c.answer-item.result
+    c.loop-answer.self.piece.items c.take_answer.new.self.piece.items c.in-Err.fault
     (view c.args.self.now.worker) (view c.loop-answer.self.worker) (view c.take_answer.new.self.worker)
-    (let low : c.loop-answer.answer-index < length c.args.answers.now = omega arith in low) c.answer-item.is c.loop-answer.invariant.so_far c.in-Err.ensures.takes
+    (let low : c.loop-answer.answer-index < length c.args.answers.now = omega arith in
+    low) c.answer-item.is c.loop-answer.invariant.so_far c.in-Err.ensures.takes
 
 pub loop-answer-preserved : goal.loop-answer-preserved
 loop-answer-preserved g c = record {
   alone = c.in-Ok.ensures.alone;
   same = c.in-Ok.ensures.same ∙ c.loop-answer.invariant.same;
   logged = c.in-Ok.ensures.logged ∙ c.loop-answer.invariant.logged;
-  so_far = so_far_next g.O.Site.told c.args.answers.now c.loop-answer.answer-index c.answer-item.result c.loop-answer.self.piece.items c.take_answer.new.self.piece.items c.in-Ok.field-0
+  so_far = so_far_next g.O.Site.told c.args.answers.now c.loop-answer.answer-index c.answer-item.result
+      c.loop-answer.self.piece.items c.take_answer.new.self.piece.items c.in-Ok.field-0
       (view c.args.self.now.worker) (view c.loop-answer.self.worker) (view c.take_answer.new.self.worker)
-      (let low : c.loop-answer.answer-index < length c.args.answers.now = omega arith in low) c.answer-item.is c.loop-answer.invariant.so_far c.in-Ok.ensures.takes;
+      (let low : c.loop-answer.answer-index < length c.args.answers.now = omega arith in
+      low) c.answer-item.is c.loop-answer.invariant.so_far c.in-Ok.ensures.takes;
 }
 
 pub returns-clause-puts : goal.returns-clause-puts
 returns-clause-puts g c =
     let all : take c.loop-answer.answer-index c.args.answers.now ≡ c.args.answers.now = grind (arith, common_steps) in
-    subst (λ (l : List Answer). PutsOctets g.O.Site.told (answers_octets l) c.put_piece.result (view c.args.self.now.worker) (view c.put_piece.new.self.worker)) all
-    (so_far_last g.O.Site.told (answers_octets (take c.loop-answer.answer-index c.args.answers.now)) c.loop-answer.self.piece.items c.put_piece.result
-    (view c.args.self.now.worker) (view c.loop-answer.self.worker) (view c.put_piece.new.self.worker) c.loop-answer.invariant.so_far c.put_piece.ensures.puts)
+    subst (λ (l : List Answer). PutsOctets g.O.Site.told (answers_octets l) c.put_piece.result
+    (view c.args.self.now.worker) (view c.put_piece.new.self.worker)) all
+    (so_far_last g.O.Site.told (answers_octets (take c.loop-answer.answer-index c.args.answers.now))
+    c.loop-answer.self.piece.items c.put_piece.result
+    (view c.args.self.now.worker) (view c.loop-answer.self.worker) (view c.put_piece.new.self.worker)
+    c.loop-answer.invariant.so_far c.put_piece.ensures.puts)

@@ -9,5 +9,6 @@ invariant-loop-answer g l = record {
   alone : IsAlone l.self.unit.counters l.self.unit.plan l.self.worker;
   same : l.self.unit ≡ l.initial.self.unit;
   logged : l.self.log ≡ l.initial.self.log;
-  so_far : TakesSoFar g.O.Site.told (answers_octets (take l.answer-index l.answers)) l.self.piece.items (view l.initial.self.worker) (view l.self.worker);
+  so_far : TakesSoFar g.O.Site.told (answers_octets (take l.answer-index l.answers)) l.self.piece.items
+      (view l.initial.self.worker) (view l.self.worker);
 }

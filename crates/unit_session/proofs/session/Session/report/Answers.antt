@@ -25,7 +25,8 @@ returns-clause-serves g c = λ begin began.
     let new : Report = c.put_answers-put.new.self.log in
     let entries : ℕ = c.count_alone-entries.result in
     let at : IsReportAt mid answer =
-    report_at mid old c.as_slice.result.now entries answer c.count_alone-entries.ensures.counted c.log_answer-answer.ensures in
+    report_at mid old c.as_slice.result.now entries answer c.count_alone-entries.ensures.counted
+    c.log_answer-answer.ensures in
     subst (λ (r : Result (Unit {0}) Stop). ServesSegment begin (task ∷ []) r v w old new) (sym c.stop_after.ensures)
     (serves told v mid w (task ∷ []) (ascend_one task) (answer ∷ []) result
     (λ b layout number b_began lies. (c.looking_reports.ensures b v mid number task answer c.requires.kind
@@ -39,4 +40,5 @@ returns-clause-serves g c = λ begin began.
     (reports_one old task c.as_slice.result.now entries answer c.as_slice.ensures.octets c.log_answer-answer.ensures)
     c.answers_have_widths.ensures
     (none_behind task)
-    begin began c.requires.alone.whole c.count_alone-entries.ensures.alone.whole c.put_answers-put.ensures.alone.whole false refl)
+    begin began c.requires.alone.whole c.count_alone-entries.ensures.alone.whole c.put_answers-put.ensures.alone.whole
+    false refl)

@@ -20,7 +20,8 @@ pub note_all-requires : goal.note_all-requires
 note_all-requires g c =
     let told = g.O.Site.told in
     let v : View = view c.args.self.now.worker in
-    let few = few_answers (begin_with told v.turn.known.opening) v (view c.run_segment.new.worker) c.args.records.now c.in-Ok.segment.answers.items c.in-Ok.segment.full
+    let few = few_answers (begin_with told v.turn.known.opening) v (view c.run_segment.new.worker) c.args.records.now
+    c.in-Ok.segment.answers.items c.in-Ok.segment.full
     (c.in-Ok.ensures.full (begin_with told v.turn.known.opening) (began_with told v.turn.known.opening)) in
     record { few = subst (λ (l : List Answer). length l ≤ length c.args.records.now) (sym c.deref.ensures.value) few }
 
@@ -43,13 +44,16 @@ returns-clause-opening g c =
     let result : Result (Unit {0}) BookFault = c.put_answers-put.result in
     let old : Report = c.args.self.now.log in
     let new : Report = c.put_answers-put.new.self.log in
-    same_opening told v mid w c.args.records.now c.requires.ascend answers result c.in-Ok.ensures.handled c.in-Ok.ensures.alone
+    same_opening told v mid w c.args.records.now c.requires.ascend answers result c.in-Ok.ensures.handled
+    c.in-Ok.ensures.alone
     (λ b number b_began. counted_plain b v mid c.args.records.now (deeds_of number c.args.records.now answers)
     (plain_counts number c.args.records.now answers c.requires.plain) (c.in-Ok.ensures.moved b number b_began))
-    (subst (λ (l : List Answer). PutsOctets told (answers_octets l) result mid w) c.deref-2.ensures.value c.put_answers-put.ensures.puts)
+    (subst (λ (l : List Answer). PutsOctets told (answers_octets l) result mid w) c.deref-2.ensures.value
+    c.put_answers-put.ensures.puts)
     old new
     (subst (NotesAll c.args.records.now answers old) (sym c.put_answers-put.ensures.logged)
-    (subst (λ (l : List Answer). NotesAll c.args.records.now l old c.note_all.new.log) c.deref.ensures.value c.note_all.ensures))
+    (subst (λ (l : List Answer). NotesAll c.args.records.now l old c.note_all.new.log) c.deref.ensures.value
+    c.note_all.ensures))
     (λ notes number is. plain_reported notes number c.args.records.now answers c.requires.plain)
     (subst (All IsAnswer) c.deref-3.ensures.value c.answers_have_widths.ensures)
     (plain_at c.args.records.now c.requires.plain (length answers))
@@ -64,16 +68,21 @@ returns-clause-serves g c = λ begin began.
     let result : Result (Unit {0}) BookFault = c.put_answers-put.result in
     let old : Report = c.args.self.now.log in
     let new : Report = c.put_answers-put.new.self.log in
-    subst (λ (r : Result (Unit {0}) Stop). ServesSegment begin c.args.records.now r v w old new) (sym c.stop_after.ensures)
-    (serves told v mid w c.args.records.now c.requires.ascend answers result c.in-Ok.ensures.handled c.in-Ok.ensures.alone
+    subst (λ (r : Result (Unit {0}) Stop). ServesSegment begin c.args.records.now r v w old new)
+    (sym c.stop_after.ensures)
+    (serves told v mid w c.args.records.now c.requires.ascend answers result c.in-Ok.ensures.handled
+    c.in-Ok.ensures.alone
     (λ b number b_began. counted_plain b v mid c.args.records.now (deeds_of number c.args.records.now answers)
     (plain_counts number c.args.records.now answers c.requires.plain) (c.in-Ok.ensures.moved b number b_began))
-    (subst (λ (l : List Answer). PutsOctets told (answers_octets l) result mid w) c.deref-2.ensures.value c.put_answers-put.ensures.puts)
+    (subst (λ (l : List Answer). PutsOctets told (answers_octets l) result mid w) c.deref-2.ensures.value
+    c.put_answers-put.ensures.puts)
     old new
     (subst (NotesAll c.args.records.now answers old) (sym c.put_answers-put.ensures.logged)
-    (subst (λ (l : List Answer). NotesAll c.args.records.now l old c.note_all.new.log) c.deref.ensures.value c.note_all.ensures))
+    (subst (λ (l : List Answer). NotesAll c.args.records.now l old c.note_all.new.log) c.deref.ensures.value
+    c.note_all.ensures))
     (λ notes number is. plain_reported notes number c.args.records.now answers c.requires.plain)
     (subst (All IsAnswer) c.deref-3.ensures.value c.answers_have_widths.ensures)
     (plain_at c.args.records.now c.requires.plain (length answers))
-    begin began c.requires.alone.whole (c.in-Ok.ensures.whole c.requires.alone.shares) c.put_answers-put.ensures.alone.whole
+    begin began c.requires.alone.whole (c.in-Ok.ensures.whole c.requires.alone.shares)
+    c.put_answers-put.ensures.alone.whole
     c.in-Ok.segment.full (c.in-Ok.ensures.full begin began))

@@ -9,22 +9,33 @@ use Rattle.unit_session.proofs.session.Session.serve_input.Goals as goal
 
 pub segments-init : goal.segments-init
 segments-init g c =
-    let start : SourceSeen = record { told = g.S.Source.told; left = g.S.Source.left c.args.source.now; faults = g.S.Source.faults c.args.source.now } in
+    let start : SourceSeen = record {
+      told = g.S.Source.told;
+      left = g.S.Source.left c.args.source.now;
+      faults = g.S.Source.faults c.args.source.now;
+    } in
     let first = view c.args.self.now.worker in
     record {
       alone = c.requires.alone;
       opening = refl;
-      way = λ begin began. subst (λ (standing : Standing). Goes start start standing begin first first c.args.self.now.log) (sym c.new-reader.ensures) (record {
-        way = begins_way start begin first first.turn.known.put_faults first.turn.known.standing c.requires.no_log c.requires.none_made;
-        reports = c.requires.none_noted;
-      });
+      way = λ begin began.
+          subst (λ (standing : Standing). Goes start start standing begin first first c.args.self.now.log)
+          (sym c.new-reader.ensures) (record {
+            way = begins_way start begin first first.turn.known.put_faults first.turn.known.standing c.requires.no_log
+                c.requires.none_made;
+            reports = c.requires.none_noted;
+          });
     }
 
 pub serve_next-requires-clause-reading : goal.serve_next-requires-clause-reading
 serve_next-requires-clause-reading g c = λ lifetimes bounds.
     let opening = (view c.args.self.now.worker).turn.known.opening in
     let way = c.segments.invariant.way (begin_with g.O.Site.told opening) (began_with g.O.Site.told opening) in (
-      record { told = g.S.Source.told; left = g.S.Source.left c.args.source.now; faults = g.S.Source.faults c.args.source.now },
+      record {
+        told = g.S.Source.told;
+        left = g.S.Source.left c.args.source.now;
+        faults = g.S.Source.faults c.args.source.now;
+      },
       way.way.items,
       way.way.read,
       way.way.reading,
@@ -32,13 +43,18 @@ serve_next-requires-clause-reading g c = λ lifetimes bounds.
 
 pub segments-preserved : goal.segments-preserved
 segments-preserved g c =
-    let start : SourceSeen = record { told = g.S.Source.told; left = g.S.Source.left c.args.source.now; faults = g.S.Source.faults c.args.source.now } in
+    let start : SourceSeen = record {
+      told = g.S.Source.told;
+      left = g.S.Source.left c.args.source.now;
+      faults = g.S.Source.faults c.args.source.now;
+    } in
     let first = view c.args.self.now.worker in
     record {
       alone = c.in-None.ensures.alone;
       opening = c.in-None.ensures.opening ∙ c.segments.invariant.opening;
       way = λ begin began. c.in-None.ensures.leads start begin first
-          (subst (BeganWith g.O.Site.told begin) (sym c.segments.invariant.opening) began) (c.segments.invariant.way begin began);
+          (subst (BeganWith g.O.Site.told begin) (sym c.segments.invariant.opening) began)
+          (c.segments.invariant.way begin began);
     }
 
 pub segments-smaller : goal.segments-smaller
@@ -55,5 +71,10 @@ returns-in-Some-clause-opening g c = c.in-Some.ensures.opening ∙ c.segments.in
 
 pub returns-in-Some-clause-comes : goal.returns-in-Some-clause-comes
 returns-in-Some-clause-comes g c = λ begin began.
-    c.in-Some.ensures.leads (record { told = g.S.Source.told; left = g.S.Source.left c.args.source.now; faults = g.S.Source.faults c.args.source.now })
-    begin (view c.args.self.now.worker) (subst (BeganWith g.O.Site.told begin) (sym c.segments.invariant.opening) began) (c.segments.invariant.way begin began)
+    c.in-Some.ensures.leads (record {
+      told = g.S.Source.told;
+      left = g.S.Source.left c.args.source.now;
+      faults = g.S.Source.faults c.args.source.now;
+    })
+    begin (view c.args.self.now.worker) (subst (BeganWith g.O.Site.told begin) (sym c.segments.invariant.opening) began)
+    (c.segments.invariant.way begin began)

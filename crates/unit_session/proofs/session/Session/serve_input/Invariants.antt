@@ -11,7 +11,11 @@ invariant-segments g l = record {
   alone : IsAlone l.self.unit.counters l.self.unit.plan l.self.worker;
   opening : (view l.self.worker).turn.known.opening ≡ (view l.fn.self.worker).turn.known.opening;
   way : (begin : Begin) → BeganWith g.O.Site.told begin (view l.fn.self.worker).turn.known.opening
-      → Goes (record { told = g.S.Source.told; left = g.S.Source.left l.fn.source; faults = g.S.Source.faults l.fn.source })
+      → Goes (record {
+        told = g.S.Source.told;
+        left = g.S.Source.left l.fn.source;
+        faults = g.S.Source.faults l.fn.source;
+      })
       (record { told = g.S.Source.told; left = g.S.Source.left l.source; faults = g.S.Source.faults l.source })
       l.reader begin (view l.fn.self.worker) (view l.self.worker) l.self.log;
 }

@@ -7,5 +7,9 @@ use Rattle.unit_state.proofs.state.State.initial.Goals as goal
 
 pub returns-clause-rules : goal.returns-clause-rules
 returns-clause-rules c =
-    let made : lines_made (bare c.args.plan.now) (in_order c.args.plan.now.keys c.args.plan.now.associations) ≡ Ok c.make_lines.new.self = rw (← c.in_ok-state.ensures, ← c.keys.ensures.lines, ← c.associations.ensures.lines) c.in_ok-make_lines.ensures in
-    initial_rules c.args.plan.now c.make_lines.new.self (subst (All IsKey) c.keys.ensures.lines c.keys.ensures.lengths) (subst (All IsAssociation) c.associations.ensures.lines c.associations.ensures.bounds) made
+    let made : lines_made (bare c.args.plan.now) (in_order c.args.plan.now.keys c.args.plan.now.associations)
+    ≡ Ok c.make_lines.new.self =
+    rw (← c.in_ok-state.ensures, ← c.keys.ensures.lines, ← c.associations.ensures.lines)
+    c.in_ok-make_lines.ensures in
+    initial_rules c.args.plan.now c.make_lines.new.self (subst (All IsKey) c.keys.ensures.lines c.keys.ensures.lengths)
+    (subst (All IsAssociation) c.associations.ensures.lines c.associations.ensures.bounds) made
