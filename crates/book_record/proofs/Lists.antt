@@ -33,10 +33,14 @@ octets_next f front xs i d h =
 
 -- ---- what was read up to a place
 
+-- an error has the causes that follow from its cause
+pub follows : (e : RecordError) {A B : Type 0} → (A → B) → HasCause e A → HasCause e B
+follows Malformed f a = f a
+follows NoMemory f a = tt
+
 -- what no part may be, the whole may not be
 pub fails : (e : RecordError) {A B : Type 0} → (B → A) → HasCause e (¬ A) → HasCause e (¬ B)
-fails Malformed f not = λ b. not (f b)
-fails NoMemory f not = tt
+fails e f = follows e (λ not b. not (f b))
 
 pub keys_read : (front : List ℕ) (n m at : ℕ) (octets : List ℕ) → n ≡ suc m
     → (front ++ word_at at octets ∷ []) ++ keys_in m (at + 2) octets ≡ front ++ keys_in n at octets

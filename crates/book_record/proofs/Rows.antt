@@ -17,15 +17,16 @@ use Rattle.sdls_base.specs.declared.states.KeyState.TheVariants.{PreActive, Acti
 use Rattle.sdls_base.specs.declared.states.SaState.{SaState}
 use Rattle.sdls_base.specs.declared.states.SaState.TheVariants.{Unkeyed, Keyed, Operational}
 use Rattle.book_record.specs.declared.layout.TheConstants.{KEY_ROW_LENGTH, SA_ROW_LENGTH, KEY_ROOM, CHANNEL_ROOM}
-use Rattle.book_record.specs.declared.key_parts.KeyParts.{KeyParts}
+use Rattle.key_book.specs.declared.key_row.KeyRow.{KeyRow}
+use Rattle.replay_window.proofs.Fields.{window_field-parts}
 use Rattle.book_record.specs.declared.sa_parts.SaParts.{SaParts}
 use Rattle.book_record.specs.Padded.{padded}
 use Rattle.book_record.specs.KeyParts.{key_row_octets, IsRowKeyLength, HasKeyTypes, IsKeyRow}
-use Rattle.book_record.specs.SaParts.{held_code, sa_row_octets, HasSaTypes, IsSaRow}
+use Rattle.book_record.specs.SaParts.{held_code, sa_parts, sa_row_octets, HasSaTypes, IsSaRow}
 use Rattle.sdls_base.specs.Places.{octet_at, word_at, number_at}
 use Rattle.book_record.specs.Reading.{IsWithin, channels_at}
 use Rattle.book_record.specs.Record.{IsKey, IsSpi}
-use Rattle.book_record.specs.RowReading.{key_parts_at, MayBeKeyRow, held_of, sa_parts_at, MayBeSaRow}
+use Rattle.book_record.specs.RowReading.{key_row_at, MayBeKeyRow, held_of, sa_row_at, MayBeSaRow}
 use Rattle.book_record.proofs.Again.{key_again, spi_again, number_again, direction_within, suite_within}
 
 -- ---- octets with zeros behind them
@@ -66,11 +67,11 @@ any_state_within Active = record { from = omega arith; to = omega arith }
 any_state_within Deactivated = record { from = omega arith; to = omega arith }
 any_state_within Destroyed = record { from = omega arith; to = omega arith }
 
-pub record KeyRowSays (parts : KeyParts) (row : List ℕ) : Type 0 where
+pub record KeyRowSays (parts : KeyRow) (row : List ℕ) : Type 0 where
   pub may : MayBeKeyRow row
-  pub value : key_parts_at row ≡ parts
+  pub value : key_row_at row ≡ parts
 
-key_row_again : (parts : KeyParts) → HasKeyTypes parts → IsRowKeyLength (length parts.bytes)
+key_row_again : (parts : KeyRow) → HasKeyTypes parts → IsRowKeyLength (length parts.bytes)
     → KeyRowSays parts (key_row_octets parts)
 unfolding key_row_octets
 key_row_again parts types fits =
@@ -118,17 +119,17 @@ key_row_again parts types fits =
       };
     }
 
-pub key_row_says : (parts : KeyParts) (row : List ℕ) → IsKeyRow parts row → KeyRowSays parts row
+pub key_row_says : (parts : KeyRow) (row : List ℕ) → IsKeyRow parts row → KeyRowSays parts row
 key_row_says parts row is = subst (KeyRowSays parts) (sym is.spelled) (key_row_again parts is.types is.fits)
 
 -- the key that may stand there has a length that a row may have
 pub row_bytes_fit : (row : List ℕ) → length row ≡ KEY_ROW_LENGTH → MayBeKeyRow row
-    → IsRowKeyLength (length (key_parts_at row).bytes)
+    → IsRowKeyLength (length (key_row_at row).bytes)
 row_bytes_fit row size may =
     subst IsRowKeyLength (sym (length-take-le (octet_at 3 row) (drop 4 row)
     (omega (arith, size, row_key_length_small (octet_at 3 row) may.2, length-drop 4 row)))) may.2
 
-pub key_row_length : (parts : KeyParts) (row : List ℕ) → IsKeyRow parts row → length row ≡ KEY_ROW_LENGTH
+pub key_row_length : (parts : KeyRow) (row : List ℕ) → IsKeyRow parts row → length row ≡ KEY_ROW_LENGTH
 unfolding key_row_octets
 key_row_length parts row is =
     let room = padded KEY_ROOM parts.bytes in
@@ -148,7 +149,7 @@ key_row_length parts row is =
     ap length is.spelled ∙ padded_length KEY_ROW_LENGTH front short
 
 -- no two keys have one row
-pub one_key_row : (a b : KeyParts) (row : List ℕ) → IsKeyRow a row → IsKeyRow b row → a ≡ b
+pub one_key_row : (a b : KeyRow) (row : List ℕ) → IsKeyRow a row → IsKeyRow b row → a ≡ b
 one_key_row a b row is also = sym (key_row_says a row is).value ∙ (key_row_says b row also).value
 
 -- ---- an association's row
@@ -165,7 +166,7 @@ held_again (Some key) is =
 
 pub record SaRowSays (parts : SaParts) (row : List ℕ) : Type 0 where
   pub may : MayBeSaRow row
-  pub value : sa_parts_at row ≡ parts
+  pub value : sa_parts (sa_row_at row) ≡ parts
 
 sa_row_again : (parts : SaParts) → HasSaTypes parts → AreChannels parts.sa.channels
     → SaRowSays parts (sa_row_octets parts)
@@ -190,8 +191,9 @@ sa_row_again parts types fits =
     let key : held_of (word_at 5 row) ≡ parts.key = held_again parts.key types.key in
     let channels : channels_at 7 row ≡ new.channels =
     ap (λ (s : List ℕ). take (length new.channels) s) from_channels ∙ padded_front CHANNEL_ROOM new.channels rest in
-    let window : number_at 16 row ≡ new.window =
-    number_in_front 16 row rest from_window ∙ number_again new.window types.window in
+    let window : (sa_parts (sa_row_at row)).sa.window ≡ new.window =
+    window_field-parts (number_at 16 row) ∙ number_in_front 16 row rest from_window
+    ∙ number_again new.window types.window in
     record {
       may = (
         subst IsSpi (sym spi) types.spi,

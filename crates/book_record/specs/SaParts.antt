@@ -6,8 +6,28 @@ use Rattle.sdls_base.specs.Code.{direction_code, suite_code, sa_state_code}
 use Rattle.book_record.specs.declared.layout.TheConstants.{SA_ROW_LENGTH, CHANNEL_ROOM}
 use Rattle.book_record.specs.declared.sa_parts.SaParts.{SaParts}
 use Rattle.book_record.specs.declared.sa_parts.SaView.{SaView}
+use Rattle.replay_window.specs.Window.{field_of, new_window}
+use Rattle.sa_book.specs.declared.sa_row.SaRow.{SaRow}
 use Rattle.book_record.specs.Padded.{padded}
 use Rattle.book_record.specs.Record.{IsKey, IsSpi}
+
+-- what the row of an association says: all but the numbers that were accepted
+abbrev pub sa_parts : SaRow → SaParts
+sa_parts row = record {
+  sa = record {
+    spi = row.spi;
+    direction = row.direction;
+    suite = row.suite;
+    window = field_of row.window;
+    channels = row.channels;
+  };
+  state = row.state;
+  key = row.key;
+}
+
+-- the window of an association begins at a number
+abbrev pub BeginsAt : ℕ → SaRow → Type 0
+BeginsAt high row = row.window ≡ new_window high (field_of row.window)
 
 -- the parts that a view shows
 abbrev pub viewed : SaView → SaParts

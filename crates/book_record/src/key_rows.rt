@@ -1,17 +1,17 @@
 //! The rows of keys.
 ghost use Rattle.std.specs.Prelude.{◌≡◌, length, IfOk};
-ghost use Rattle.book_record.specs.declared.key_parts.KeyParts.{KeyParts};
+ghost use Rattle.key_book.specs.declared.key_row.KeyRow.{KeyRow};
 ghost use Rattle.book_record.specs.KeyParts.{viewed, key_row_octets, IsRowKeyLength, HasKeyTypes, IsKeyRow};
 ghost use Rattle.book_record.specs.Reading.{Judges, IsReadUnlessNoMemory};
-ghost use Rattle.book_record.specs.RowReading.{key_parts_at, MayBeKeyRow};
+ghost use Rattle.book_record.specs.RowReading.{key_row_at, MayBeKeyRow};
 
 use crate::data::Data;
 use crate::fields::{array, key, row_key_length, row_key_state};
-use crate::key_parts::{KeyParts, KeyView};
+use crate::key_parts::KeyView;
 use crate::layout::{KEY_ROOM, KEY_ROW_LENGTH};
 use crate::record_error::RecordError;
-use sdls_base::{Octets, number_at};
-use std::alloc::Global;
+use key_book::{KeyOctets, KeyRow};
+use sdls_base::number_at;
 
 /// Writes the row of a key, 96 octets: identifier, state, length of the key, the key in 32 octets, digest, mark, floor,
 /// zeros. Takes no memory.
@@ -34,19 +34,18 @@ pub fn write_key_row(parts: &KeyView<'_>) -> [u8; KEY_ROW_LENGTH]
     octets.row()
 }
 
-/// The parts at the places of a row, whatever stands in the octets that are not used.
-fn key_parts(alloc: Global, row: &[u8]) -> Result<KeyParts, RecordError>
+/// The row at the places of the octets, whatever stands in those that are not used.
+fn key_row(row: &[u8]) -> Result<KeyRow, RecordError>
     requires { length row.now ≡ KEY_ROW_LENGTH }
-    ensures { Judges result (MayBeKeyRow row.now) (key_parts_at row.now) }
+    ensures { Judges result (MayBeKeyRow row.now) (key_row_at row.now) }
 {
     let id = key(row, 0)?;
     let state = row_key_state(row[2])?;
     let length = row_key_length(row[3])?;
-    let bytes = Vec::from_slice(alloc, &row[4..4 + length])?;
-    Ok(KeyParts {
+    Ok(KeyRow {
         id,
         state,
-        bytes: Octets::new(bytes),
+        bytes: KeyOctets::new(&row[4..4 + length]),
         digest: array(row, 36),
         mark: number_at(row, 68),
         floor: number_at(row, 76),
@@ -54,16 +53,16 @@ fn key_parts(alloc: Global, row: &[u8]) -> Result<KeyParts, RecordError>
 }
 
 /// Reads the row of a key, which is all 96 octets. `Malformed` comes exactly where they are no row of a key: also
-/// where an octet behind the key, or at the end, is not zero.
-pub fn read_key_row(alloc: Global, row: &[u8; KEY_ROW_LENGTH]) -> Result<KeyParts, RecordError>
+/// where an octet behind the key, or at the end, is not zero. Takes no memory.
+pub fn read_key_row(row: &[u8; KEY_ROW_LENGTH]) -> Result<KeyRow, RecordError>
     // What is read has these octets as its row.
     ensures found { IfOk result (λ parts. IsKeyRow parts row.now) }
-    // What has these octets as its row is read, unless memory runs out.
-    ensures only { (parts : KeyParts) → IsKeyRow parts row.now → IsReadUnlessNoMemory result parts }
+    // What has these octets as its row is read.
+    ensures only { (parts : KeyRow) → IsKeyRow parts row.now → IsReadUnlessNoMemory result parts }
 {
-    let parts = key_parts(alloc, row)?;
+    let parts = key_row(row)?;
     // A key has one row: the octets that are not used are compared with it.
-    if write_key_row(&parts.view()) == *row {
+    if write_key_row(&KeyView::of(&parts)) == *row {
         Ok(parts)
     } else {
         Err(RecordError::Malformed)

@@ -1,6 +1,6 @@
 ghost use Rattle.std.specs.Prelude.{◌≡◌, ℕ, List, Some};
 ghost use Rattle.sdls_base.specs.declared.change.Change.{Change};
-ghost use Rattle.book_record.specs.declared.key_parts.KeyParts.{KeyParts};
+ghost use Rattle.key_book.specs.declared.key_row.KeyRow.{KeyRow};
 ghost use Rattle.book_record.specs.declared.sa_parts.SaParts.{SaParts};
 ghost use Rattle.book_record.specs.KeyParts.{IsKeyRow};
 ghost use Rattle.book_record.specs.Reading.{change_of};
@@ -20,7 +20,7 @@ pub fn change_of_its_kind()
 /// Law: no two keys have one row.
 #[tactic(auto, using(crate::proofs::Rows::one_key_row))]
 pub fn one_key_row()
-    ensures { (a b : KeyParts) (row : List ℕ) → IsKeyRow a row → IsKeyRow b row → a ≡ b }
+    ensures { (a b : KeyRow) (row : List ℕ) → IsKeyRow a row → IsKeyRow b row → a ≡ b }
 {}
 
 /// Law: no two associations have one row.

@@ -4,8 +4,9 @@
 //! [`write_record`] writes the record of a change, and takes no memory. [`read_record`] reads a body, and refuses what
 //! is no record. Each change has one record, and each record one change.
 //!
-//! [`write_key_row`], [`read_key_row`], [`write_sa_row`] and [`read_sa_row`] do the same for rows. What is written is
-//! borrowed. `image_content` puts the rows together, and each bank of an image holds them.
+//! [`write_key_row`], [`read_key_row`], [`write_sa_row`] and [`read_sa_row`] do the same for rows. What is written is a
+//! row of `key_book` or `sa_book`, borrowed. The row of a key is read as one of `key_book`, and [`read_association`]
+//! gives one of `sa_book`. `image_content` puts the rows together, and each bank of an image holds them.
 #![tactic(auto)]
 
 mod data;
@@ -21,13 +22,14 @@ mod sa_parts;
 mod sa_rows;
 mod writing;
 
-pub use key_parts::{KeyParts, KeyView};
+pub use key_book::KeyRow as KeyParts;
+pub use key_parts::KeyView;
 pub use key_rows::{read_key_row, write_key_row};
 pub use laws::{change_of_its_kind, one_change, one_key_row, one_sa_row};
 pub use layout::{KEY_ROW_LENGTH, SA_ROW_LENGTH};
 pub use reading::read_record;
 pub use record_error::RecordError;
 pub use sa_parts::{SaParts, SaView};
-pub use sa_rows::{read_sa_row, write_sa_row};
+pub use sa_rows::{read_association, read_sa_row, write_sa_row};
 pub use sdls_base::BODY_LENGTH;
 pub use writing::write_record;

@@ -1,3 +1,4 @@
+use sa_book::SaRow;
 use sdls_base::{Direction, KeyId, NewSa, SaState, Spi, Suite};
 
 /// What the row of a security association in a bank says. The highest number accepted is not in it.
@@ -23,21 +24,54 @@ pub struct SaView<'a> {
 }
 
 impl SaParts {
-    ghost use Rattle.std.specs.Prelude.{◌≡◌};
-    ghost use Rattle.book_record.specs.SaParts.{viewed};
+    ghost use Rattle.std.specs.Prelude.{◌≡◌, ◌<◌, ◌^◌};
+    ghost use Rattle.book_record.specs.SaParts.{sa_parts};
 
-    /// The parts, borrowed.
-    pub fn view(&self) -> SaView<'_>
-        ensures { viewed result ≡ self.now }
+    /// What the row of a book says.
+    pub fn of(row: SaRow) -> SaParts
+        requires { row.window.width < 2 ^ 56 }
+        ensures { result ≡ sa_parts row }
+    {
+        let SaRow {
+            spi,
+            direction,
+            suite,
+            state,
+            key,
+            channels,
+            window,
+        } = row;
+        SaParts {
+            sa: NewSa {
+                spi,
+                direction,
+                suite,
+                window: window.field(),
+                channels,
+            },
+            state,
+            key,
+        }
+    }
+}
+
+impl<'a> SaView<'a> {
+    ghost use Rattle.std.specs.Prelude.{◌≡◌, ◌<◌, ◌^◌};
+    ghost use Rattle.book_record.specs.SaParts.{sa_parts, viewed};
+
+    /// The row of a book, borrowed.
+    pub fn of(row: &'a SaRow) -> SaView<'a>
+        requires { row.now.window.width < 2 ^ 56 }
+        ensures { viewed result ≡ sa_parts row.now }
     {
         SaView {
-            spi: self.sa.spi,
-            direction: self.sa.direction,
-            suite: self.sa.suite,
-            window: self.sa.window,
-            channels: self.sa.channels.as_slice(),
-            state: self.state,
-            key: self.key,
+            spi: row.spi,
+            direction: row.direction,
+            suite: row.suite,
+            window: row.window.field(),
+            channels: row.channels.as_slice(),
+            state: row.state,
+            key: row.key,
         }
     }
 }

@@ -1,18 +1,20 @@
 //! The rows of security associations.
-ghost use Rattle.std.specs.Prelude.{◌≡◌, length, IfOk, IfSome};
+ghost use Rattle.std.specs.Prelude.{◌≡◌, length, IfOk, IfErr, IfSome};
 ghost use Rattle.sdls_base.specs.Bounds.{AreChannels};
 ghost use Rattle.book_record.specs.declared.sa_parts.SaParts.{SaParts};
-ghost use Rattle.book_record.specs.SaParts.{viewed, held_code, sa_row_octets, HasSaTypes, IsSaRow};
+ghost use Rattle.book_record.specs.SaParts.{viewed, held_code, sa_parts, sa_row_octets, BeginsAt, HasSaTypes, IsSaRow};
 ghost use Rattle.book_record.specs.Record.{IsKey};
-ghost use Rattle.book_record.specs.Reading.{Judges, IsReadUnlessNoMemory};
-ghost use Rattle.book_record.specs.RowReading.{sa_parts_at, MayBeSaRow};
+ghost use Rattle.book_record.specs.Reading.{HasCause, Judges, IsReadUnlessNoMemory};
+ghost use Rattle.book_record.specs.RowReading.{sa_row_at, MayBeSaRow};
 
 use crate::data::Data;
 use crate::fields::{channel_count, direction, held_key, row_sa_state, spi, suite};
 use crate::layout::{CHANNEL_ROOM, SA_ROW_LENGTH};
 use crate::record_error::RecordError;
 use crate::sa_parts::{SaParts, SaView};
-use sdls_base::{KeyId, NewSa, Octets, are_channels, number_at};
+use replay_window::Window;
+use sa_book::SaRow;
+use sdls_base::{KeyId, Octets, are_channels, number_at};
 use std::alloc::Global;
 
 /// The number of a key, 0 where there is none.
@@ -47,10 +49,10 @@ pub fn write_sa_row(parts: &SaView<'_>) -> [u8; SA_ROW_LENGTH]
     octets.row()
 }
 
-/// The parts at the places of a row, whatever stands in the octets that are not used.
-fn sa_parts(alloc: Global, row: &[u8]) -> Result<SaParts, RecordError>
+/// The row at the places of the octets, whatever stands in those that are not used. Its window begins at 0.
+fn sa_row(alloc: Global, row: &[u8]) -> Result<SaRow, RecordError>
     requires { length row.now ≡ SA_ROW_LENGTH }
-    ensures { Judges result (MayBeSaRow row.now) (sa_parts_at row.now) }
+    ensures { Judges result (MayBeSaRow row.now) (sa_row_at row.now) }
 {
     let spi = spi(row, 0)?;
     let direction = direction(row[2])?;
@@ -61,32 +63,43 @@ fn sa_parts(alloc: Global, row: &[u8]) -> Result<SaParts, RecordError>
     if !are_channels(channels) {
         return Err(RecordError::Malformed);
     }
-    Ok(SaParts {
-        sa: NewSa {
-            spi,
-            direction,
-            suite,
-            window: number_at(row, 16),
-            channels: Octets::new(Vec::from_slice(alloc, channels)?),
-        },
+    Ok(SaRow {
+        spi,
+        direction,
+        suite,
         state,
         key: held_key(row, 5),
+        channels: Octets::new(Vec::from_slice(alloc, channels)?),
+        window: Window::new(0, number_at(row, 16)),
     })
 }
 
-/// Reads the row of an association, which is all 32 octets. `Malformed` comes exactly where they are no row of an
-/// association: also where an octet behind the channels, or at the end, is not zero.
+/// Reads the row of an association, which is all 32 octets, as a book has it: its window begins at 0, since the highest
+/// number is not in the octets. `Malformed` comes exactly where they are no row of an association: also where an octet
+/// behind the channels, or at the end, is not zero.
+pub fn read_association(alloc: Global, row: &[u8; SA_ROW_LENGTH]) -> Result<SaRow, RecordError>
+    // What is read has these octets as its row.
+    ensures found { IfOk result (λ association. IsSaRow (sa_parts association) row.now) }
+    ensures window { IfOk result (BeginsAt 0) }
+    ensures malformed { IfErr result (λ error. HasCause error ((parts : SaParts) → ¬ IsSaRow parts row.now)) }
+{
+    let association = sa_row(alloc, row)?;
+    // An association has one row: the octets that are not used are compared with it.
+    if write_sa_row(&SaView::of(&association)) == *row {
+        Ok(association)
+    } else {
+        Err(RecordError::Malformed)
+    }
+}
+
+/// Reads what the row of an association says, which is all 32 octets. `Malformed` comes exactly where they are no row
+/// of an association.
 pub fn read_sa_row(alloc: Global, row: &[u8; SA_ROW_LENGTH]) -> Result<SaParts, RecordError>
     // What is read has these octets as its row.
     ensures found { IfOk result (λ parts. IsSaRow parts row.now) }
     // What has these octets as its row is read, unless memory runs out.
     ensures only { (parts : SaParts) → IsSaRow parts row.now → IsReadUnlessNoMemory result parts }
 {
-    let parts = sa_parts(alloc, row)?;
-    // An association has one row: the octets that are not used are compared with it.
-    if write_sa_row(&parts.view()) == *row {
-        Ok(parts)
-    } else {
-        Err(RecordError::Malformed)
-    }
+    let association = read_association(alloc, row)?;
+    Ok(SaParts::of(association))
 }

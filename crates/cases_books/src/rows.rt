@@ -1,8 +1,9 @@
 // Records, and rows of keys and associations, read and written again.
 use crate::answers::{again, write_digits};
 use book_record::{
-    BODY_LENGTH, KEY_ROW_LENGTH, KeyParts, SA_ROW_LENGTH, SaParts, read_key_row, read_record,
-    read_sa_row, write_key_row, write_record as record_of, write_sa_row,
+    BODY_LENGTH, KEY_ROW_LENGTH, KeyParts, KeyView, SA_ROW_LENGTH, SaParts, SaView,
+    read_association, read_key_row, read_record, read_sa_row, write_key_row,
+    write_record as record_of, write_sa_row,
 };
 use case_lines::{direction_name, key_state_name, octets, sa_state_name, suite_name};
 use std::alloc::{AllocError, Global};
@@ -57,9 +58,9 @@ fn write_key_parts(parts: &KeyParts, again: &str, answer: &mut String) -> Result
 /// Writes what the row of a key answers.
 pub fn write_key(alloc: Global, text: &str, answer: &mut String) -> anyhow::Result<()> {
     let row = row(&mut octets(alloc, &mut text.split_whitespace())?)?;
-    match read_key_row(alloc, &row) {
+    match read_key_row(&row) {
         Ok(parts) => {
-            let same = write_key_row(&parts.view()) == row;
+            let same = write_key_row(&KeyView::of(&parts)) == row;
             write_key_parts(&parts, again(same), answer)?;
         }
         Err(error) => write!(answer, "{error}")?,
@@ -80,12 +81,20 @@ fn write_sa_parts(parts: &SaParts, again: &str, answer: &mut String) -> Result<(
     write!(answer, "] window {}", parts.sa.window)
 }
 
+/// Whether the row of an association, read as a book has it and written, is the row again.
+fn is_written_again(alloc: Global, row: &[u8; SA_ROW_LENGTH]) -> bool {
+    match read_association(alloc, row) {
+        Ok(association) => write_sa_row(&SaView::of(&association)) == *row,
+        Err(_) => false,
+    }
+}
+
 /// Writes what the row of an association answers.
 pub fn write_association(alloc: Global, text: &str, answer: &mut String) -> anyhow::Result<()> {
     let row = row(&mut octets(alloc, &mut text.split_whitespace())?)?;
     match read_sa_row(alloc, &row) {
         Ok(parts) => {
-            let same = write_sa_row(&parts.view()) == row;
+            let same = is_written_again(alloc, &row);
             write_sa_parts(&parts, again(same), answer)?;
         }
         Err(error) => write!(answer, "{error}")?,

@@ -10,19 +10,18 @@ use Rattle.std.specs.List.{AllByRecursion}
 use Rattle.sdls_base.proofs.Endings.{drop_front}
 use Rattle.sdls_base.specs.Code.{key_state_code}
 use Rattle.sdls_base.specs.declared.version.Version.{Version}
-use Rattle.book_record.specs.declared.key_parts.KeyParts.{KeyParts}
-use Rattle.book_record.specs.KeyParts.{key_row_octets, IsKeyRow}
+use Rattle.book_record.specs.KeyParts.{key_row_octets}
 use Rattle.book_record.specs.Padded.{padded}
-use Rattle.book_record.specs.SaParts.{IsSaRow}
+use Rattle.book_record.specs.SaParts.{sa_parts}
 use Rattle.book_record.proofs.Rows.{padded_length, row_key_length_small, sa_row_length}
 use Rattle.key_book.specs.declared.key_row.KeyRow.{KeyRow}
 use Rattle.sa_book.specs.declared.sa_row.SaRow.{SaRow}
 use Rattle.unit_state.specs.declared.state.State.{State}
-use Rattle.image_content.specs.Content.{sa_parts, key_rows, sa_rows, counts_of, key_room_of, sa_room_of}
+use Rattle.image_content.specs.Content.{key_rows, sa_rows, counts_of, key_room_of, sa_room_of}
 use Rattle.image_content.specs.Content.{associations_at, content_of, replaced}
-use Rattle.image_content.specs.Reading.{HasRows}
+use Rattle.image_content.specs.Reading.{HasRows, IsTypedKey, IsTypedSa}
 use Rattle.image_content.proofs.Contents.{keys_sized, sas_sized, head_length}
-use Rattle.image_content.proofs.RowsRead.{key_octets, sa_octets, IsKey, key_sized}
+use Rattle.image_content.proofs.RowsRead.{sa_octets, key_sized}
 
 -- ---- one part of a list in the place of another
 
@@ -64,7 +63,7 @@ key_shape : (version : Version) (state : State) (front back : List KeyRow) (row 
     → key_room_of version - length (key_rows (front ++ row ∷ back)) ≡ gap
     → content_of version (record state { keys = front ++ row ∷ back })
     ≡ (padded 503 (counts_of version n (length state.associations)) ++ key_rows front)
-    ++ (key_octets row
+    ++ (key_row_octets row
     ++ ((key_rows back ++ replicate gap 0) ++ padded (sa_room_of version) (sa_rows state.associations)))
 unfolding content_of
 key_shape version state front back row n gap count rest =
@@ -73,20 +72,20 @@ key_shape version state front back row n gap count rest =
     let sas = padded (sa_room_of version) (sa_rows state.associations) in
     ap (λ (m : ℕ). (head m ++ padded (key_room_of version) (key_rows (front ++ row ∷ back))) ++ sas) count
     ∙ ap (λ (m : ℕ). (head n ++ (key_rows (front ++ row ∷ back) ++ replicate m none)) ++ sas) rest
-    ∙ ap (λ (s : List ℕ). (head n ++ (s ++ replicate gap none)) ++ sas) (rows_cut key_octets front back row)
-    ∙ key_parts_of (head n) (key_rows front) (key_octets row) (key_rows back) (replicate gap none) sas
+    ∙ ap (λ (s : List ℕ). (head n ++ (s ++ replicate gap none)) ++ sas) (rows_cut key_row_octets front back row)
+    ∙ key_parts_of (head n) (key_rows front) (key_row_octets row) (key_rows back) (replicate gap none) sas
 
 pub key_row_changes : (version : Version) (state : State) (front back : List KeyRow) (old new : KeyRow)
     → HasRows version state
-    → state.keys ≡ front ++ old ∷ back → IsKey new (key_octets new)
+    → state.keys ≡ front ++ old ∷ back → IsTypedKey new
     → content_of version (record state { keys = front ++ new ∷ back })
-    ≡ replaced (503 + 96 * length front) (key_octets new) (content_of version state)
+    ≡ replaced (503 + 96 * length front) (key_row_octets new) (content_of version state)
 key_row_changes version state front back old new has is typed =
-    let P : KeyRow → Type 0 = λ row. IsKey row (key_octets row) in
+    let P = IsTypedKey in
     let none : ℕ = 0 in
     let all = recursion_from_All P (front ++ old ∷ back) (subst (All P) is has.keys) in
     let front_size = keys_sized front (All-from_recursion P front (front_all P front (old ∷ back) all)) in
-    let same : length (key_octets old) ≡ length (key_octets new) =
+    let same : length (key_row_octets old) ≡ length (key_row_octets new) =
     key_sized old (at_row P front back old all) ∙ sym (key_sized new typed) in
     let n = length (front ++ old ∷ back) in
     let gap = key_room_of version - length (key_rows (front ++ old ∷ back)) in
@@ -95,24 +94,25 @@ key_row_changes version state front back old new has is typed =
     let rest : key_room_of version - length (key_rows (front ++ new ∷ back)) ≡ gap =
     omega (
       arith,
-      ap length (rows_cut key_octets front back new),
-      ap length (rows_cut key_octets front back old),
+      ap length (rows_cut key_row_octets front back new),
+      ap length (rows_cut key_row_octets front back old),
       same,
-      length-append (key_rows front) (key_octets new ++ key_rows back),
-      length-append (key_rows front) (key_octets old ++ key_rows back),
-      length-append (key_octets new) (key_rows back),
-      length-append (key_octets old) (key_rows back),
+      length-append (key_rows front) (key_row_octets new ++ key_rows back),
+      length-append (key_rows front) (key_row_octets old ++ key_rows back),
+      length-append (key_row_octets new) (key_rows back),
+      length-append (key_row_octets old) (key_rows back),
     ) in
     let head = padded 503 (counts_of version n (length state.associations)) in
     let post = (key_rows back ++ replicate gap none) ++ padded (sa_room_of version) (sa_rows state.associations) in
     let place : 503 + 96 * length front ≡ length (head ++ key_rows front) =
     omega (arith, front_size, length-append head (key_rows front), head_length version n (length state.associations)) in
-    let before : content_of version state ≡ (head ++ key_rows front) ++ (key_octets old ++ post) =
+    let before : content_of version state ≡ (head ++ key_rows front) ++ (key_row_octets old ++ post) =
     ap (λ (keys : List KeyRow). content_of version (record state { keys = keys })) is
     ∙ key_shape version state front back old n gap refl refl in
     key_shape version state front back new n gap count rest
-    ∙ replaced_part (head ++ key_rows front) (key_octets old) (key_octets new) post (503 + 96 * length front) place same
-    ∙ ap (λ (s : List ℕ). replaced (503 + 96 * length front) (key_octets new) s) (sym before)
+    ∙ replaced_part (head ++ key_rows front) (key_row_octets old) (key_row_octets new) post (503 + 96 * length front)
+    place same
+    ∙ ap (λ (s : List ℕ). replaced (503 + 96 * length front) (key_row_octets new) s) (sym before)
 
 -- ---- an association's row
 
@@ -138,11 +138,11 @@ sa_shape version state front back row m gap count rest =
 
 pub sa_row_changes : (version : Version) (state : State) (front back : List SaRow) (old new : SaRow)
     → HasRows version state
-    → state.associations ≡ front ++ old ∷ back → IsSaRow (sa_parts new) (sa_octets new)
+    → state.associations ≡ front ++ old ∷ back → IsTypedSa new
     → content_of version (record state { associations = front ++ new ∷ back })
     ≡ replaced (associations_at version + 32 * length front) (sa_octets new) (content_of version state)
 sa_row_changes version state front back old new has is typed =
-    let P : SaRow → Type 0 = λ row. IsSaRow (sa_parts row) (sa_octets row) in
+    let P = IsTypedSa in
     let none : ℕ = 0 in
     let all = recursion_from_All P (front ++ old ∷ back) (subst (All P) is has.associations) in
     let front_size = sas_sized front (All-from_recursion P front (front_all P front (old ∷ back) all)) in
@@ -193,7 +193,7 @@ marks_parts : (front marked floored rest : List ℕ) → ((front ++ marked) ++ f
     ≡ front ++ ((marked ++ floored) ++ rest)
 marks_parts front marked floored rest = simp append_assoc
 
-pub marks_change : (parts : KeyParts) (mark floor : ℕ) → IsKeyRow parts (key_row_octets parts)
+pub marks_change : (parts : KeyRow) (mark floor : ℕ) → IsTypedKey parts
     → key_row_octets (record parts { mark = mark; floor = floor })
     ≡ replaced 68 (to_be_bytes w64 mark ++ to_be_bytes w64 floor) (key_row_octets parts)
 unfolding key_row_octets

@@ -19,34 +19,31 @@ use Rattle.unit_state.specs.declared.state.State.{State}
 use Rattle.unit_state.specs.State.{KeepsRules}
 use Rattle.unit_state.specs.Restart.{restarted, restarted_row}
 use Rattle.book_record.specs.Padded.{padded}
-use Rattle.book_record.specs.SaParts.{IsSaRow}
+use Rattle.book_record.specs.KeyParts.{key_row_octets, IsKeyRow}
+use Rattle.book_record.specs.SaParts.{sa_parts}
 use Rattle.sdls_base.specs.Places.{word_at}
-use Rattle.book_record.proofs.Rows.{padded_front, padded_length, sa_row_length}
+use Rattle.book_record.proofs.Rows.{one_key_row, padded_front, padded_length, sa_row_length}
 use Rattle.image_content.specs.Rows.{HasRowsCause, MakesOf, state_of}
 use Rattle.image_content.specs.declared.rows_fault.RowsFault.{RowsFault}
-use Rattle.image_content.specs.Content.{sa_parts, key_rows, sa_rows, counts_of, key_room_of, sa_room_of}
+use Rattle.image_content.specs.Content.{key_rows, sa_rows, counts_of, key_room_of, sa_room_of}
 use Rattle.image_content.specs.Content.{associations_at, content_of}
 use Rattle.image_content.specs.Reading.{IsRestartedRow, AreKeyRows, AreSaRows, AreZero, key_count, sa_count}
 use Rattle.image_content.specs.Reading.{counts_end_of, HasRoom, keys_in, associations_in, FitsVersion, HasRows}
-use Rattle.image_content.specs.Reading.{IsContent}
+use Rattle.image_content.specs.Reading.{IsContent, IsTypedKey, IsTypedSa}
 use Rattle.image_content.proofs.Highs.{rows_low, rows_left}
-use Rattle.image_content.proofs.RowsRead.{whole_cause, key_octets, sa_octets, IsKey, head_of, key_sized, same_key}
-use Rattle.image_content.proofs.RowsRead.{sa_sized, same_sa}
+use Rattle.image_content.proofs.RowsRead.{whole_cause, sa_octets, head_of, key_sized, sa_sized, same_sa}
 
 -- ---- rows are as many as their octets say
 
-keys_sized_each : (rows : List KeyRow) → AllByRecursion (λ (row : KeyRow). IsKey row (key_octets row)) rows
-    → length (key_rows rows) ≡ 96 * length rows
+keys_sized_each : (rows : List KeyRow) → AllByRecursion IsTypedKey rows → length (key_rows rows) ≡ 96 * length rows
 keys_sized_each [] all = omega arith
 keys_sized_each (row ∷ rows) all =
-    omega (arith, keys_sized_each rows all.1, key_sized row all.0, length-append (key_octets row) (key_rows rows))
+    omega (arith, keys_sized_each rows all.1, key_sized row all.0, length-append (key_row_octets row) (key_rows rows))
 
-pub keys_sized : (rows : List KeyRow) → All (λ (row : KeyRow). IsKey row (key_octets row)) rows
-    → length (key_rows rows) ≡ 96 * length rows
-keys_sized rows all = keys_sized_each rows (recursion_from_All (λ (row : KeyRow). IsKey row (key_octets row)) rows all)
+pub keys_sized : (rows : List KeyRow) → All IsTypedKey rows → length (key_rows rows) ≡ 96 * length rows
+keys_sized rows all = keys_sized_each rows (recursion_from_All IsTypedKey rows all)
 
-sas_sized_each : (rows : List SaRow) → AllByRecursion (λ (row : SaRow). IsSaRow (sa_parts row) (sa_octets row)) rows
-    → length (sa_rows rows) ≡ 32 * length rows
+sas_sized_each : (rows : List SaRow) → AllByRecursion IsTypedSa rows → length (sa_rows rows) ≡ 32 * length rows
 sas_sized_each [] all = omega arith
 sas_sized_each (row ∷ rows) all =
     omega (
@@ -56,10 +53,8 @@ sas_sized_each (row ∷ rows) all =
       length-append (sa_octets row) (sa_rows rows),
     )
 
-pub sas_sized : (rows : List SaRow) → All (λ (row : SaRow). IsSaRow (sa_parts row) (sa_octets row)) rows
-    → length (sa_rows rows) ≡ 32 * length rows
-sas_sized rows all =
-    sas_sized_each rows (recursion_from_All (λ (row : SaRow). IsSaRow (sa_parts row) (sa_octets row)) rows all)
+pub sas_sized : (rows : List SaRow) → All IsTypedSa rows → length (sa_rows rows) ≡ 32 * length rows
+sas_sized rows all = sas_sized_each rows (recursion_from_All IsTypedSa rows all)
 
 -- ---- the places of each version
 
@@ -347,7 +342,7 @@ content_from version state content size octets room keys sas key_counted sa_coun
 pub same_keys : (rows others : List KeyRow) (octets : List ℕ) → AreKeyRows rows octets → AreKeyRows others octets
     → rows ≡ others
 same_keys rows others octets are also =
-    same_rows key_octets IsKey 96 (omega arith) key_sized same_key rows others are.each also.each
+    same_rows key_row_octets IsKeyRow 96 (omega arith) key_sized one_key_row rows others are.each also.each
     (sym are.spelled ∙ also.spelled)
 
 pub keys_are : (version : Version) (state : State) (content : List ℕ) → IsContent version state content
@@ -413,7 +408,7 @@ pub read_content : (version : Version) (keys : List KeyRow) (associations : List
     → IsContent version (state_of keys associations channels device) content
 read_content version keys associations channels device content size octets room are also key_size sa_size rules =
     let state = state_of keys associations channels device in
-    let sas : All (λ (row : SaRow). IsSaRow (sa_parts row) (sa_octets row)) associations =
+    let sas : All IsTypedSa associations =
     λ k d inside. (also.each k d inside).is_row in
     let left = rows_left keys associations (λ k d inside. (also.each k d inside).window) in
     let keys_size = keys_sized keys are.each in

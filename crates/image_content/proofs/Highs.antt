@@ -7,6 +7,7 @@ use Rattle.std.specs.List.{AllByRecursion}
 use Rattle.std.proofs.lemmas.List.Elements.{All-from_recursion, recursion_from_All}
 use Rattle.sdls_base.specs.declared.states.Direction.{Direction}
 use Rattle.sdls_base.specs.declared.states.Direction.TheVariants.{Send, Receive}
+use Rattle.book_record.specs.SaParts.{BeginsAt}
 use Rattle.key_book.specs.declared.key_row.KeyRow.{KeyRow}
 use Rattle.key_book.specs.KeyBook.{row_of}
 use Rattle.replay_window.specs.declared.window.Window.{Window}
@@ -19,7 +20,7 @@ use Rattle.unit_state.specs.Restart.{restarted_high, restarted_row}
 
 -- the window begins at the number that a restart sets
 abbrev pub IsLow : List KeyRow → SaRow → Type 0
-IsLow keys row = row.window ≡ new_window (restarted_high keys row.direction row.key 0) (field_of row.window)
+IsLow keys row = BeginsAt (restarted_high keys row.direction row.key 0) row
 
 -- ---- such a row is left as it is
 

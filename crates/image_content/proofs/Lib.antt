@@ -1,7 +1,7 @@
 mod Lacking
 mod Lists
 mod Fields
-mod RowsRead
+pub mod RowsRead
 mod Highs
-mod Contents
+pub mod Contents
 mod Changing

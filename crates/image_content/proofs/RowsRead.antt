@@ -4,10 +4,10 @@ use Rattle.std.proofs.Common.{append_assoc, length-append}
 use Rattle.std.specs.List.{flat_map}
 use Rattle.std.proofs.Math.Seq.{take-append_seam, drop-append_seam}
 use Rattle.std.proofs.lemmas.List.Elements.{All-head, All-tail}
-use Rattle.book_record.proofs.Rows.{one_key_row, one_sa_row, key_row_length, sa_row_length}
+use Rattle.book_record.proofs.Rows.{one_sa_row, key_row_length, sa_row_length}
+use Rattle.book_record.specs.KeyParts.{key_row_octets}
 use Rattle.book_record.specs.declared.sa_parts.SaParts.{SaParts}
-use Rattle.book_record.specs.KeyParts.{key_row_octets, IsKeyRow}
-use Rattle.book_record.specs.SaParts.{sa_row_octets}
+use Rattle.book_record.specs.SaParts.{sa_parts, sa_row_octets}
 use Rattle.image_content.specs.Rows.{HasRowsCause}
 use Rattle.image_content.specs.declared.rows_fault.RowsFault.{RowsFault}
 use Rattle.image_content.specs.declared.rows_fault.RowsFault.TheVariants.{Unfit, NoMemory}
@@ -15,8 +15,7 @@ use Rattle.key_book.specs.declared.key_row.KeyRow.{KeyRow}
 use Rattle.replay_window.specs.Window.{new_window}
 use Rattle.sa_book.specs.declared.sa_row.SaRow.{SaRow}
 use Rattle.unit_state.specs.Restart.{restarted_high}
-use Rattle.image_content.specs.Content.{key_parts, sa_parts}
-use Rattle.image_content.specs.Reading.{IsRestartedRow}
+use Rattle.image_content.specs.Reading.{IsRestartedRow, IsTypedKey}
 
 -- what a part has a fault for, the whole has it for
 pub whole_cause : (fault : RowsFault) {A B : Type 0} → (A → B) → HasRowsCause fault A → HasRowsCause fault B
@@ -25,14 +24,8 @@ whole_cause NoMemory f a = tt
 
 -- ---- rows of one kind: the octets of a row, and which octets are a row's
 
-abbrev pub key_octets : KeyRow → List ℕ
-key_octets row = key_row_octets (key_parts row)
-
 abbrev pub sa_octets : SaRow → List ℕ
 sa_octets row = sa_row_octets (sa_parts row)
-
-abbrev pub IsKey : KeyRow → List ℕ → Type 0
-IsKey row octets = IsKeyRow (key_parts row) octets
 
 -- all are those of the front, and others of which this holds
 pub record SplitAt {X : Type 0} (Behind : List X → Type 0) (front all : List X) : Type 0 where
@@ -87,20 +80,8 @@ split_more Behind After front all row s tail is after = record {
 
 -- ---- keys
 
-pub key_sized : (row : KeyRow) → IsKey row (key_octets row) → length (key_octets row) ≡ 96
-key_sized row is = key_row_length (key_parts row) (key_octets row) is
-
-pub same_key : (a b : KeyRow) (octets : List ℕ) → IsKey a octets → IsKey b octets → a ≡ b
-same_key a b octets is also =
-    let same = one_key_row (key_parts a) (key_parts b) octets is also in
-    λ i. record {
-      id = (same i).id;
-      state = (same i).state;
-      bytes = (same i).bytes;
-      digest = (same i).digest;
-      mark = (same i).mark;
-      floor = (same i).floor;
-    }
+pub key_sized : (row : KeyRow) → IsTypedKey row → length (key_row_octets row) ≡ 96
+key_sized row is = key_row_length row (key_row_octets row) is
 
 -- ---- associations
 

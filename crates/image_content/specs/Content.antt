@@ -6,45 +6,17 @@ use Rattle.sdls_base.specs.Version.{most_keys_of, most_associations_of}
 use Rattle.sdls_base.specs.declared.version.Version.{Version}
 use Rattle.sdls_base.specs.declared.version.Version.TheVariants.{One, Two}
 use Rattle.book_record.specs.declared.layout.TheConstants.{KEY_ROW_LENGTH, SA_ROW_LENGTH}
-use Rattle.book_record.specs.declared.key_parts.KeyParts.{KeyParts}
-use Rattle.book_record.specs.declared.sa_parts.SaParts.{SaParts}
 use Rattle.book_record.specs.Padded.{padded}
 use Rattle.book_record.specs.KeyParts.{key_row_octets}
-use Rattle.book_record.specs.SaParts.{sa_row_octets}
+use Rattle.book_record.specs.SaParts.{sa_parts, sa_row_octets}
 use Rattle.key_book.specs.declared.key_row.KeyRow.{KeyRow}
-use Rattle.replay_window.specs.Window.{field_of}
 use Rattle.sa_book.specs.declared.sa_row.SaRow.{SaRow}
 use Rattle.unit_state.specs.declared.state.State.{State}
 use Rattle.image_content.specs.declared.layout.TheConstants.{KEYS_AT}
 
--- what the row of a key says: all of it
-abbrev pub key_parts : KeyRow → KeyParts
-key_parts row = record {
-  id = row.id;
-  state = row.state;
-  bytes = row.bytes;
-  digest = row.digest;
-  mark = row.mark;
-  floor = row.floor;
-}
-
--- what the row of an association says: all but the numbers that were accepted
-abbrev pub sa_parts : SaRow → SaParts
-sa_parts row = record {
-  sa = record {
-    spi = row.spi;
-    direction = row.direction;
-    suite = row.suite;
-    window = field_of row.window;
-    channels = row.channels;
-  };
-  state = row.state;
-  key = row.key;
-}
-
 -- the rows of keys in the order of loading, those of associations ascending by index
 abbrev pub key_rows : List KeyRow → List ℕ
-key_rows keys = flat_map (λ row. key_row_octets (key_parts row)) keys
+key_rows keys = flat_map key_row_octets keys
 
 abbrev pub sa_rows : List SaRow → List ℕ
 sa_rows associations = flat_map (λ row. sa_row_octets (sa_parts row)) associations

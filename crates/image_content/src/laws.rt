@@ -1,14 +1,13 @@
 ghost use Rattle.std.specs.Prelude.{◌≡◌, ◌+◌, ◌*◌, ℕ, List, ◌∷◌, ◌++◌, length};
 ghost use Rattle.std.specs.Int.{w64, to_be_bytes};
 ghost use Rattle.sdls_base.specs.declared.version.Version.{Version};
-ghost use Rattle.book_record.specs.declared.key_parts.KeyParts.{KeyParts};
-ghost use Rattle.book_record.specs.KeyParts.{key_row_octets, IsKeyRow};
-ghost use Rattle.book_record.specs.SaParts.{sa_row_octets};
+ghost use Rattle.book_record.specs.KeyParts.{key_row_octets};
+ghost use Rattle.book_record.specs.SaParts.{sa_parts, sa_row_octets};
 ghost use Rattle.key_book.specs.declared.key_row.KeyRow.{KeyRow};
 ghost use Rattle.sa_book.specs.declared.sa_row.SaRow.{SaRow};
 ghost use Rattle.unit_state.specs.declared.state.State.{State};
 ghost use Rattle.unit_state.specs.Restart.{restarted};
-ghost use Rattle.image_content.specs.Content.{key_parts, sa_parts, associations_at, content_of, replaced};
+ghost use Rattle.image_content.specs.Content.{associations_at, content_of, replaced};
 ghost use Rattle.image_content.specs.Reading.{IsTypedKey, IsTypedSa, HasRows, IsContent};
 
 use crate::layout::{KEYS_AT, MARK_AT};
@@ -34,7 +33,7 @@ pub fn key_row_changes()
     ensures { (version : Version) (state : State) (front back : List KeyRow) (old new : KeyRow)
         → HasRows version state → state.keys ≡ front ++ old ∷ back → IsTypedKey new
         → content_of version (record state { keys = front ++ new ∷ back })
-        ≡ replaced (KEYS_AT + KEY_ROW_LENGTH * length front) (key_row_octets (key_parts new))
+        ≡ replaced (KEYS_AT + KEY_ROW_LENGTH * length front) (key_row_octets new)
         (content_of version state) }
 {}
 
@@ -51,7 +50,7 @@ pub fn sa_row_changes()
 /// Law: where the mark and the floor of a key change, 16 octets of its row change, and no others.
 #[tactic(auto, using(crate::proofs::Changing::marks_change))]
 pub fn marks_change()
-    ensures { (parts : KeyParts) (mark floor : ℕ) → IsKeyRow parts (key_row_octets parts)
-        → key_row_octets (record parts { mark = mark; floor = floor })
-        ≡ replaced MARK_AT (to_be_bytes w64 mark ++ to_be_bytes w64 floor) (key_row_octets parts) }
+    ensures { (row : KeyRow) (mark floor : ℕ) → IsTypedKey row
+        → key_row_octets (record row { mark = mark; floor = floor })
+        ≡ replaced MARK_AT (to_be_bytes w64 mark ++ to_be_bytes w64 floor) (key_row_octets row) }
 {}

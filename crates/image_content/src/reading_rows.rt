@@ -5,50 +5,30 @@ ghost use Rattle.std.specs.Option.{option_map_or};
 ghost use Rattle.key_book.specs.declared.key_row.KeyRow.{KeyRow};
 ghost use Rattle.key_book.specs.KeyBook.{IsKeyBook, row_of};
 ghost use Rattle.sa_book.specs.declared.sa_row.SaRow.{SaRow};
-ghost use Rattle.replay_window.specs.Window.{new_window};
 ghost use Rattle.unit_state.specs.Restart.{restarted_high};
-ghost use Rattle.book_record.specs.KeyParts.{IsKeyRow, IsRowKeyLength};
-ghost use Rattle.book_record.specs.SaParts.{IsSaRow};
+ghost use Rattle.book_record.specs.KeyParts.{IsKeyRow};
 ghost use Rattle.image_content.specs.Rows.{HasRowsCause};
-ghost use Rattle.image_content.specs.Content.{key_parts, sa_parts};
 ghost use Rattle.image_content.specs.Reading.{IsRestartedRow, AreKeyRows, AreSaRows};
 
 use crate::making::keys_of;
 use crate::rows_fault::RowsFault;
-use book_record::{
-    KEY_ROW_LENGTH, KeyParts, RecordError, SA_ROW_LENGTH, SaParts, read_key_row, read_sa_row,
-};
-use key_book::{KeyBook, KeyOctets, KeyRow};
-use replay_window::Window;
+use book_record::{KEY_ROW_LENGTH, RecordError, SA_ROW_LENGTH, read_association, read_key_row};
+use key_book::{KeyBook, KeyRow};
 use sa_book::SaRow;
-use sdls_base::{Direction, KeyId, NewSa};
+use sdls_base::{Direction, KeyId};
 use std::alloc::Global;
 
-fn key_row_of(parts: &KeyParts) -> KeyRow
-    requires { IsRowKeyLength (length parts.now.bytes) }
-    ensures { key_parts result ≡ parts.now }
-{
-    KeyRow {
-        id: parts.id,
-        state: parts.state,
-        bytes: KeyOctets::new(parts.bytes.as_slice()),
-        digest: parts.digest,
-        mark: parts.mark,
-        floor: parts.floor,
-    }
-}
-
 /// The row of a key that these octets are.
-fn key_row(alloc: Global, octets: &[u8]) -> Result<KeyRow, RowsFault>
+fn key_row(octets: &[u8]) -> Result<KeyRow, RowsFault>
     requires { length octets.now ≡ KEY_ROW_LENGTH }
-    ensures found { IfOk result (λ row. IsKeyRow (key_parts row) octets.now) }
+    ensures found { IfOk result (λ row. IsKeyRow row octets.now) }
     ensures fault { IfErr result (λ fault. HasRowsCause fault
-        ((row : KeyRow) → ¬ IsKeyRow (key_parts row) octets.now)) }
+        ((row : KeyRow) → ¬ IsKeyRow row octets.now)) }
 {
     let mut row = [0; KEY_ROW_LENGTH];
     row.copy_from_slice(octets);
-    match read_key_row(alloc, &row) {
-        Ok(parts) => Ok(key_row_of(&parts)),
+    match read_key_row(&row) {
+        Ok(row) => Ok(row),
         Err(RecordError::Malformed) => Err(RowsFault::Unfit),
         Err(RecordError::NoMemory) => Err(RowsFault::NoMemory),
     }
@@ -64,35 +44,12 @@ fn floor_of(keys: &KeyBook, id: KeyId) -> u64
 }
 
 /// The highest number that a restart gives an association.
-fn high_of(keys: &KeyBook, parts: &SaParts) -> u64
-    ensures { result ≡ restarted_high keys.now parts.now.sa.direction parts.now.key 0 }
+fn high_of(keys: &KeyBook, row: &SaRow) -> u64
+    ensures { result ≡ restarted_high keys.now row.now.direction row.now.key 0 }
 {
-    match (parts.sa.direction, parts.key) {
+    match (row.direction, row.key) {
         (Direction::Receive, Some(key)) => floor_of(keys, key),
         (Direction::Receive, None) | (Direction::Send, _) => 0,
-    }
-}
-
-fn sa_row_of(parts: SaParts, high: u64) -> SaRow
-    ensures said { sa_parts result ≡ parts }
-    ensures window { result.window ≡ new_window high parts.sa.window }
-{
-    let SaParts { sa, state, key } = parts;
-    let NewSa {
-        spi,
-        direction,
-        suite,
-        window,
-        channels,
-    } = sa;
-    SaRow {
-        spi,
-        direction,
-        suite,
-        state,
-        key,
-        channels,
-        window: Window::new(high, window),
     }
 }
 
@@ -105,10 +62,11 @@ fn sa_row(alloc: Global, keys: &KeyBook, octets: &[u8]) -> Result<SaRow, RowsFau
 {
     let mut row = [0; SA_ROW_LENGTH];
     row.copy_from_slice(octets);
-    match read_sa_row(alloc, &row) {
-        Ok(parts) => {
-            let high = high_of(keys, &parts);
-            Ok(sa_row_of(parts, high))
+    match read_association(alloc, &row) {
+        Ok(mut row) => {
+            let high = high_of(keys, &row);
+            row.window.begin_at(high);
+            Ok(row)
         }
         Err(RecordError::Malformed) => Err(RowsFault::Unfit),
         Err(RecordError::NoMemory) => Err(RowsFault::NoMemory),
@@ -126,7 +84,7 @@ fn key_rows(alloc: Global, octets: &[u8]) -> Result<Vec<KeyRow>, RowsFault>
     let mut rest = octets;
     while !rest.is_empty() {
         let (first, behind) = rest.split_at(KEY_ROW_LENGTH);
-        rows.push(key_row(alloc, first)?)?;
+        rows.push(key_row(first)?)?;
         rest = behind;
     }
     Ok(rows)

@@ -2,10 +2,10 @@
 
 ghost use Rattle.std.specs.Prelude.{◌≡◌, ◌+◌, ◌*◌, ◌≤◌, ◌++◌, length, take, replicate, All};
 ghost use Rattle.book_record.specs.KeyParts.{key_row_octets};
-ghost use Rattle.book_record.specs.SaParts.{sa_row_octets};
+ghost use Rattle.book_record.specs.SaParts.{sa_parts, sa_row_octets};
 ghost use Rattle.key_book.specs.KeyRow.{HasBytes, IsKeyRow};
 ghost use Rattle.sa_book.specs.SaRow.{IsSaRow};
-ghost use Rattle.image_content.specs.Content.{key_parts, sa_parts, key_rows, sa_rows};
+ghost use Rattle.image_content.specs.Content.{key_rows, sa_rows};
 ghost use Rattle.image_content.specs.Reading.{IsTypedKey, IsTypedSa};
 
 use book_record::{KEY_ROW_LENGTH, KeyView, SA_ROW_LENGTH, SaView, write_key_row, write_sa_row};
@@ -27,17 +27,10 @@ pub(crate) fn put_zeros(out: &mut [u8], at: usize, count: usize) -> usize
 /// The octets of a key's row, whatever its mark and floor.
 pub fn spell_key_row(row: &KeyRow) -> [u8; KEY_ROW_LENGTH]
     requires { HasBytes row.now.state row.now.bytes row.now.digest }
-    ensures spelled { result ≡ key_row_octets (key_parts row.now) }
+    ensures spelled { result ≡ key_row_octets row.now }
     ensures types { IsTypedKey row.now }
 {
-    write_key_row(&KeyView {
-        id: row.id,
-        state: row.state,
-        bytes: row.bytes.as_slice(),
-        digest: &row.digest,
-        mark: row.mark,
-        floor: row.floor,
-    })
+    write_key_row(&KeyView::of(row))
 }
 
 fn spell_sa_row(row: &SaRow) -> [u8; SA_ROW_LENGTH]
@@ -45,15 +38,7 @@ fn spell_sa_row(row: &SaRow) -> [u8; SA_ROW_LENGTH]
     ensures spelled { result ≡ sa_row_octets (sa_parts row.now) }
     ensures types { IsTypedSa row.now }
 {
-    write_sa_row(&SaView {
-        spi: row.spi,
-        direction: row.direction,
-        suite: row.suite,
-        window: row.window.field(),
-        channels: row.channels.as_slice(),
-        state: row.state,
-        key: row.key,
-    })
+    write_sa_row(&SaView::of(row))
 }
 
 /// Writes the rows of keys from place `at` on, and returns the place after them.

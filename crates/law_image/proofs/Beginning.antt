@@ -11,6 +11,7 @@ use Rattle.unit_plan.proofs.BareRoom.{bare_plan_is_short, bare_plan_reads}
 use Rattle.unit_plan.specs.Bare.{bare_of, without_rows}
 use Rattle.image_content.specs.Content.{content_of}
 use Rattle.image_content.specs.Reading.{HasRows, IsContent}
+use Rattle.image_content.proofs.Contents.{content_sized}
 use Rattle.disk_journal.specs.declared.layout.HeaderForm.TheVariants.{New}
 use Rattle.disk_journal.specs.Image.{IsAtRest}
 use Rattle.disk_journal.specs.Forms.{Holds}
@@ -19,7 +20,7 @@ use Rattle.disk_journal.proofs.InitialImage.{begins}
 use Rattle.unit_image.specs.Shows.{Shows}
 use Rattle.unit_image.specs.Beginning.{SaysPlan, held_of_plan, image_of_plan}
 use Rattle.law_image.proofs.Planned.{plan_rules}
-use Rattle.law_image.proofs.Contents.{content_sized, has_rows, is_content}
+use Rattle.law_image.proofs.Contents.{has_rows, is_content}
 use Rattle.law_image.proofs.PlanIds.{plan_ids}
 use Rattle.law_image.proofs.StateIds.{IsOfPlan, first_of_plan}
 

@@ -5,10 +5,9 @@ use Rattle.sdls_base.specs.declared.version.Version.{Version}
 use Rattle.unit_plan.specs.PlanLines.{PlanLines}
 use Rattle.unit_state.specs.declared.state.State.{State}
 use Rattle.image_content.specs.Content.{content_of}
-use Rattle.image_content.specs.Reading.{FitsVersion, HasRows, IsContent}
+use Rattle.image_content.specs.Reading.{FitsVersion, HasRows, IsContent, IsTypedKey, IsTypedSa}
 use Rattle.unit_image.specs.Shows.{IsContentUnder}
 use Rattle.law_image.proofs.Deciding.{Decided, decided_all, decided_and, decided_as, decided_le, decided_three}
-use Rattle.law_image.proofs.Contents.{IsKeyOf, IsSaOf}
 use Rattle.law_image.proofs.ContentRead.{read_beside, read_left, state_at, state_back}
 use Rattle.law_image.proofs.DecidingLists.{decided_octets}
 use Rattle.law_image.proofs.DecidingRules.{decided_association, decided_key, decided_rules}
@@ -22,8 +21,8 @@ fits version state = decided_as
 
 has_rows : (version : Version) (state : State) → Decided (HasRows version state)
 has_rows version state = decided_as
-    (decided_three (decided_all IsKeyOf decided_key state.keys)
-    (decided_all IsSaOf decided_association state.associations) (fits version state))
+    (decided_three (decided_all IsTypedKey decided_key state.keys)
+    (decided_all IsTypedSa decided_association state.associations) (fits version state))
     (λ all. record { keys = all.0; associations = all.1; fits = all.2 }) (λ is. (is.keys, is.associations, is.fits))
 
 -- whether they are that of the state that is read off them

@@ -22,10 +22,10 @@ use Rattle.sa_book.specs.SaRow.{HasHigh, IsSaRow}
 use Rattle.sa_book.specs.SaBook.{IsSaBook, RowsAreApart}
 use Rattle.unit_state.specs.declared.state.State.{State}
 use Rattle.unit_state.specs.State.{HasKey, KeepsRules, MayHold}
-use Rattle.book_record.specs.KeyParts as key_row
+use Rattle.book_record.specs.KeyParts.{HasKeyTypes}
 use Rattle.book_record.specs.Record.{IsKey}
-use Rattle.book_record.specs.SaParts as sa_row
-use Rattle.image_content.specs.Content.{key_parts, sa_parts}
+use Rattle.book_record.specs.SaParts.{HasSaTypes, sa_parts}
+use Rattle.image_content.specs.Reading.{IsTypedKey, IsTypedSa}
 use Rattle.law_image.proofs.Deciding.{Decided, decided_all, decided_and, decided_as, decided_channels, decided_eq}
 use Rattle.law_image.proofs.Deciding.{decided_four, decided_key_length, decided_le, decided_lt, decided_not, decided_or}
 use Rattle.law_image.proofs.Deciding.{decided_some_and, decided_three, decided_width}
@@ -93,7 +93,7 @@ key_book rows = decided_as
     (λ all. record { most = all.0; rules = record { each = all.1; identifiers = all.2; digests = all.3 } })
     (λ is. (is.most, is.rules.each, is.rules.identifiers, is.rules.digests))
 
-key_types : (row : KeyRow) → Decided (key_row.HasKeyTypes (key_parts row))
+key_types : (row : KeyRow) → Decided (HasKeyTypes row)
 key_types row = decided_as
     (decided_four (decided_and (decided_lt 0 row.id) (decided_lt row.id (2 ^ 16))) (decided_eq (length row.digest) 32)
     (decided_lt row.mark (2 ^ 64)) (decided_lt row.floor (2 ^ 64)))
@@ -101,7 +101,7 @@ key_types row = decided_as
     (λ is. (is.id, is.digest, is.mark, is.floor))
 
 -- a row is one of its types
-pub decided_key : (row : KeyRow) → Decided (key_row.IsKeyRow (key_parts row) (key_row.key_row_octets (key_parts row)))
+pub decided_key : (row : KeyRow) → Decided (IsTypedKey row)
 decided_key row = decided_as
     (decided_and (key_types row) (decided_or (decided_eq (length row.bytes) 0) (decided_key_length (length row.bytes))))
     (λ both. record { types = both.0; fits = both.1; spelled = refl })
@@ -162,7 +162,7 @@ sa_book rows = decided_as
     (λ all. record { most = all.0; each = all.1; apart = all.2 })
     (λ is. (is.most, is.each, is.apart))
 
-sa_types : (row : SaRow) → Decided (sa_row.HasSaTypes (sa_parts row))
+sa_types : (row : SaRow) → Decided (HasSaTypes (sa_parts row))
 sa_types row = decided_as
     (decided_three (decided_and (decided_lt 0 row.spi) (decided_lt row.spi 65535))
     (decided_if_some IsKey (λ key. decided_and (decided_lt 0 key) (decided_lt key (2 ^ 16))) row.key)
@@ -170,7 +170,7 @@ sa_types row = decided_as
     (λ all. record { spi = all.0; key = all.1; window = all.2 })
     (λ is. (is.spi, is.key, is.window))
 
-pub decided_association : (row : SaRow) → Decided (sa_row.IsSaRow (sa_parts row) (sa_row.sa_row_octets (sa_parts row)))
+pub decided_association : (row : SaRow) → Decided (IsTypedSa row)
 decided_association row = decided_as (decided_and (sa_types row) (decided_channels row.channels))
     (λ both. record { types = both.0; fits = both.1; spelled = refl })
     (λ is. (is.types, is.fits))

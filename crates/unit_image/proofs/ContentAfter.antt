@@ -23,8 +23,8 @@ use Rattle.unit_state.specs.Applied.{applied}
 use Rattle.unit_state.specs.Restart.{restarted, restarted_row}
 use Rattle.unit_state.proofs.KeyRules.{stands}
 use Rattle.book_record.specs.KeyParts.{IsKeyRow, key_row_octets}
-use Rattle.book_record.specs.SaParts.{IsSaRow, sa_row_octets}
-use Rattle.image_content.specs.Content.{key_parts, sa_parts, sa_rows, content_of, replaced}
+use Rattle.book_record.specs.SaParts.{IsSaRow, sa_parts, sa_row_octets}
+use Rattle.image_content.specs.Content.{sa_rows, content_of, replaced}
 use Rattle.image_content.specs.Reading.{HasRows, IsContent, IsTypedKey, IsTypedSa}
 use Rattle.unit_image.proofs.Restarted.{restarted_rules}
 
@@ -155,13 +155,13 @@ abbrev pub IsRowLaw : Type 0
 IsRowLaw = (state : State) (front back : List KeyRow) (old new : KeyRow) → HasRows Two state
     → state.keys ≡ front ++ old ∷ back
     → IsTypedKey new → content_of Two (record state { keys = front ++ new ∷ back })
-    ≡ replaced (503 + 96 * length front) (key_row_octets (key_parts new)) (content_of Two state)
+    ≡ replaced (503 + 96 * length front) (key_row_octets new) (content_of Two state)
 
 -- the row of the key was put at its place
 pub marks_written : IsRowLaw → (state : State) (key mark floor place end : ℕ) (row : KeyRow) (octets old new : List ℕ)
     → AreKeyRows state.keys → HasRows Two state
     → place_of state.keys key ≡ Some place → row_of state.keys key ≡ Some row
-    → IsKeyRow (key_parts (marked mark floor row)) octets
+    → IsKeyRow (marked mark floor row) octets
     → old ≡ content_of Two state → end ≡ 503 + 96 * place + length octets
     → take end new ≡ take (503 + 96 * place) old ++ octets
     → drop end new ≡ drop end old → new ≡ content_of Two (applied state (Marks key mark floor))
@@ -173,8 +173,8 @@ marks_written law state key mark floor place end row octets old new rules has at
     put_replaced (503 + 96 * place) end octets old new ends written rest
     ∙ ap (λ (s : List ℕ). replaced (503 + 96 * place) octets s) was
     ∙ ap (λ (s : List ℕ). replaced (503 + 96 * place) s (content_of Two state)) typed.spelled
-    ∙ ap (λ (n : ℕ). replaced (503 + 96 * n) (key_row_octets (key_parts (marked mark floor row)))
-    (content_of Two state)) (sym is.size)
+    ∙ ap (λ (n : ℕ). replaced (503 + 96 * n) (key_row_octets (marked mark floor row)) (content_of Two state))
+    (sym is.size)
     ∙ sym (law state (take place state.keys) (drop (suc place) state.keys) row (marked mark floor row) has is.split own)
     ∙ ap (λ (keys : List KeyRow). content_of Two (record state { keys = keys })) (sym is.joined)
     ∙ sym (lowered_content next key floor)

@@ -8,7 +8,7 @@ ghost use Rattle.unit_state.specs.State.{KeepsRules, key_row};
 ghost use Rattle.unit_state.specs.Allows.{Allows};
 ghost use Rattle.unit_state.specs.Applied.{applied};
 ghost use Rattle.unit_state.specs.Restart.{IsLight, IsStorable, restarted};
-ghost use Rattle.image_content.specs.Content.{content_of, key_parts};
+ghost use Rattle.image_content.specs.Content.{content_of};
 ghost use Rattle.image_content.specs.Reading.{HasRows, IsContent};
 
 use book_record::KEY_ROW_LENGTH;
@@ -22,7 +22,7 @@ use unit_state::State;
 /// The row of a key, with another mark and another floor.
 fn marked_row(row: &KeyRow, mark: u64, floor: u64) -> [u8; KEY_ROW_LENGTH]
     requires { key_rows.IsKeyRow row.now }
-    ensures { IsKeyRow (key_parts (record row.now { mark = mark; floor = floor })) result }
+    ensures { IsKeyRow (record row.now { mark = mark; floor = floor }) result }
 {
     spell_key_row(&KeyRow {
         mark,

@@ -1,6 +1,6 @@
 use Rattle.std.proofs.Common.{sym, ap, subst, ◌∙◌, length}
 use Rattle.std.proofs.lemmas.Result.{err_from_is_err_and}
-use Rattle.book_record.specs.declared.key_parts.KeyParts.{KeyParts}
+use Rattle.key_book.specs.declared.key_row.KeyRow.{KeyRow}
 use Rattle.book_record.specs.KeyParts.{key_row_octets, IsRowKeyLength}
 use Rattle.book_record.proofs.Again.{unequal, wants_memory}
 use Rattle.book_record.proofs.Rows.{key_row_says, row_bytes_fit}
@@ -19,11 +19,11 @@ returns-then-eq-clause-only c = λ parts is. c.in_ok-parts.ensures.1 ∙ (key_ro
 pub returns-else-eq-clause-only : goal.returns-else-eq-clause-only
 returns-else-eq-clause-only c =
     λ parts is.
-    let same = c.view.ensures ∙ c.in_ok-parts.ensures.1 ∙ (key_row_says parts c.args.row.now is).value in
+    let same = c.of.ensures ∙ c.in_ok-parts.ensures.1 ∙ (key_row_says parts c.args.row.now is).value in
     absurd (unequal c.write_key_row.result c.args.row.now c.if-eq.ensures
     (c.write_key_row.ensures.spelled ∙ ap key_row_octets same ∙ sym is.spelled))
 
 pub write_key_row-requires : goal.write_key_row-requires
 write_key_row-requires c =
-    subst (λ (parts : KeyParts). IsRowKeyLength (length parts.bytes)) (sym (c.view.ensures ∙ c.in_ok-parts.ensures.1))
+    subst (λ (parts : KeyRow). IsRowKeyLength (length parts.bytes)) (sym (c.of.ensures ∙ c.in_ok-parts.ensures.1))
     (row_bytes_fit c.args.row.now c.told-row c.in_ok-parts.ensures.0)

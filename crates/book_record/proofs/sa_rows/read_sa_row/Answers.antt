@@ -1,23 +1,9 @@
-use Rattle.std.proofs.Common.{sym, ap, ◌∙◌}
-use Rattle.std.proofs.lemmas.Result.{err_from_is_err_and}
-use Rattle.book_record.specs.SaParts.{sa_row_octets}
-use Rattle.book_record.proofs.Again.{unequal, wants_memory}
-use Rattle.book_record.proofs.Rows.{sa_row_says}
+use Rattle.std.proofs.Common.{◌∙◌}
+use Rattle.book_record.specs.SaParts.{sa_parts}
+use Rattle.book_record.proofs.Rows.{one_sa_row}
 use Rattle.book_record.proofs.sa_rows.read_sa_row.Goals as goal
 
-pub returns-in_err-parts-clause-only : goal.returns-in_err-parts-clause-only
-returns-in_err-parts-clause-only c =
-    let p = err_from_is_err_and c.from_residual.result c.from_residual.ensures.1 in
-    λ parts is.
-    rw (p.1, p.2) (wants_memory c.in_err-parts.field-0.0 c.in_err-parts.ensures
-    (sa_row_says parts c.args.row.now is).may)
-
-pub returns-then-eq-clause-only : goal.returns-then-eq-clause-only
-returns-then-eq-clause-only c = λ parts is. c.in_ok-parts.ensures.1 ∙ (sa_row_says parts c.args.row.now is).value
-
-pub returns-else-eq-clause-only : goal.returns-else-eq-clause-only
-returns-else-eq-clause-only c =
-    λ parts is.
-    let same = c.view.ensures ∙ c.in_ok-parts.ensures.1 ∙ (sa_row_says parts c.args.row.now is).value in
-    absurd (unequal c.write_sa_row.result c.args.row.now c.if-eq.ensures
-    (c.write_sa_row.ensures.spelled ∙ ap sa_row_octets same ∙ sym is.spelled))
+pub returns-clause-only : goal.returns-clause-only
+returns-clause-only c =
+    λ parts is. c.of.ensures
+    ∙ one_sa_row (sa_parts c.in_ok-association.association) parts c.args.row.now c.in_ok-association.ensures.found is

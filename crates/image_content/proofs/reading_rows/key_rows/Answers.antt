@@ -3,16 +3,17 @@ use Rattle.std.proofs.Common.{append_assoc}
 use Rattle.std.proofs.lemmas.List.{flat_map_more, take-append-drop}
 use Rattle.std.proofs.lemmas.List.Elements.{All-nil, All-push}
 use Rattle.std.proofs.lemmas.Result.{err_from_is_err_and}
+use Rattle.book_record.proofs.Rows.{one_key_row}
+use Rattle.book_record.specs.KeyParts.{key_row_octets, IsKeyRow}
 use Rattle.key_book.specs.declared.key_row.KeyRow.{KeyRow}
 use Rattle.image_content.specs.Content.{key_rows}
-use Rattle.image_content.specs.Reading.{AreKeyRows}
-use Rattle.image_content.proofs.RowsRead.{IsKey, key_octets, SplitAt, head_of, split_more, whole_cause, key_sized}
-use Rattle.image_content.proofs.RowsRead.{same_key}
+use Rattle.image_content.specs.Reading.{AreKeyRows, IsTypedKey}
+use Rattle.image_content.proofs.RowsRead.{SplitAt, head_of, split_more, whole_cause, key_sized}
 use Rattle.image_content.proofs.reading_rows.key_rows.Goals as goal
 
 pub loop-rest-init : goal.loop-rest-init
 loop-rest-init c = rw c.new-rows.ensures.items (record {
-  each = All-nil (λ (row : KeyRow). IsKey row (key_octets row));
+  each = All-nil IsTypedKey;
   put = refl;
   only = λ all are. record { others = all; split = refl; behind = are };
   whole = c.requires;
@@ -32,19 +33,19 @@ loop-rest-preserved c =
     c.split_at.ensures.back
     ∙ take-append-drop 96 c.loop-rest.rest.now in
     record {
-      each = subst (All (λ (row : KeyRow). IsKey row (key_octets row))) (sym items)
-          (All-push (λ (row : KeyRow). IsKey row (key_octets row)) rows row before.each
-          (subst (IsKey row) is.spelled is));
+      each = subst (All IsTypedKey) (sym items)
+          (All-push IsTypedKey rows row before.each
+          (subst (IsKeyRow row) is.spelled is));
       put = ap (λ (rows : List KeyRow). key_rows rows ++ behind) items
-          ∙ ap (λ (s : List ℕ). s ++ behind) (sym (flat_map_more key_octets [] rows row))
-          ∙ append_assoc (key_rows rows) (key_octets row) behind
+          ∙ ap (λ (s : List ℕ). s ++ behind) (sym (flat_map_more key_row_octets [] rows row))
+          ∙ append_assoc (key_rows rows) (key_row_octets row) behind
           ∙ ap (λ (s : List ℕ). key_rows rows ++ s) (ap (λ (s : List ℕ). s ++ behind) (sym is.spelled) ∙ joined)
           ∙ before.put;
       only = λ all are.
           let s = before.only all are in
-          let h = head_of key_octets IsKey 96 (omega arith) key_sized first behind
+          let h = head_of key_row_octets IsKeyRow 96 (omega arith) key_sized first behind
           (omega (arith, c.split_at.ensures.front_len)) s.others s.behind.each (joined ∙ s.behind.spelled) in
-          let one = same_key row h.head first is h.is in
+          let one = one_key_row row h.head first is h.is in
           subst (λ (rows : List KeyRow). SplitAt (λ others. AreKeyRows others behind) rows all) (sym items)
           (split_more (λ others. AreKeyRows others c.loop-rest.rest.now) (λ others. AreKeyRows others behind) rows all
           row s h.tail
@@ -68,7 +69,7 @@ returns-in_err-key_row-clause-fault c =
     rw (p.1, p.2) (whole_cause c.in_err-key_row.field-0.0
     (λ none all are.
     let s = c.loop-rest.invariant.only all are in
-    let h = head_of key_octets IsKey 96 (omega arith) key_sized first behind
+    let h = head_of key_row_octets IsKeyRow 96 (omega arith) key_sized first behind
     (omega (arith, c.split_at.ensures.front_len)) s.others s.behind.each (joined ∙ s.behind.spelled) in
     none h.head h.is)
     c.in_err-key_row.ensures.fault)

@@ -1,8 +1,8 @@
 use Rattle.std.proofs.Common.{◌≡◌, ℕ, ◌*◌, ◌++◌, List, All, length}
 use Rattle.key_book.specs.declared.key_row.KeyRow.{KeyRow}
 use Rattle.image_content.specs.Content.{key_rows}
-use Rattle.image_content.specs.Reading.{AreKeyRows}
-use Rattle.image_content.proofs.RowsRead.{IsKey, key_octets, SplitAt}
+use Rattle.image_content.specs.Reading.{AreKeyRows, IsTypedKey}
+use Rattle.image_content.proofs.RowsRead.{SplitAt}
 use Rattle.image_content.proofs.reading_rows.key_rows.Given as goal
 
 abbrev pub decreases-loop-rest : goal.decreases-loop-rest
@@ -10,7 +10,7 @@ decreases-loop-rest l = length l.rest
 
 abbrev pub invariant-loop-rest : goal.invariant-loop-rest
 invariant-loop-rest l = record {
-  each : All (λ (row : KeyRow). IsKey row (key_octets row)) l.rows.items;
+  each : All IsTypedKey l.rows.items;
   put : key_rows l.rows.items ++ l.rest ≡ l.octets;
   only : (all : List KeyRow) → AreKeyRows all l.octets → SplitAt (λ others. AreKeyRows others l.rest) l.rows.items all;
   whole : (count : ℕ) × (length l.rest ≡ 96 * count);

@@ -2,10 +2,11 @@ use Rattle.std.proofs.Common.{◌≡◌, ℕ, ◌+◌, List, [], ◌∷◌, ◌+
 use Rattle.std.proofs.Common.{append_assoc}
 use Rattle.std.proofs.lemmas.List.{flat_map_more, take_all, take_more}
 use Rattle.std.proofs.lemmas.List.Elements.{All-push}
+use Rattle.book_record.specs.KeyParts.{key_row_octets}
 use Rattle.key_book.specs.declared.key_row.KeyRow.{KeyRow}
 use Rattle.image_content.specs.Content.{key_rows}
 use Rattle.image_content.specs.Reading.{IsTypedKey}
-use Rattle.image_content.proofs.RowsRead.{key_octets, key_sized}
+use Rattle.image_content.proofs.RowsRead.{key_sized}
 use Rattle.image_content.proofs.rows.put_key_rows.Goals as goal
 
 pub loop-row-preserved : goal.loop-row-preserved
@@ -29,8 +30,8 @@ loop-row-preserved c =
       written = c.put-end.ensures.written
           ∙ ap (λ (s : List ℕ). s ++ c.spell_key_row.result) before.written
           ∙ ap (λ (s : List ℕ). (front ++ key_rows (take i rows)) ++ s) spelled
-          ∙ append_assoc front (key_rows (take i rows)) (key_octets row)
-          ∙ ap (λ (s : List ℕ). front ++ s) (flat_map_more key_octets [] (take i rows) row)
+          ∙ append_assoc front (key_rows (take i rows)) (key_row_octets row)
+          ∙ ap (λ (s : List ℕ). front ++ s) (flat_map_more key_row_octets [] (take i rows) row)
           ∙ ap (λ (all : List KeyRow). front ++ key_rows all) (sym more);
       types = subst (All IsTypedKey) (sym more)
           (All-push IsTypedKey (take i rows) row before.types c.spell_key_row.ensures.types);

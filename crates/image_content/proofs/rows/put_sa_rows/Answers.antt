@@ -3,8 +3,9 @@ use Rattle.std.proofs.Common.{append_assoc}
 use Rattle.std.proofs.lemmas.List.{flat_map_more, take_all, take_more}
 use Rattle.std.proofs.lemmas.List.Elements.{All-push}
 use Rattle.book_record.proofs.Rows.{sa_row_length}
+use Rattle.book_record.specs.SaParts.{sa_parts}
 use Rattle.sa_book.specs.declared.sa_row.SaRow.{SaRow}
-use Rattle.image_content.specs.Content.{sa_parts, sa_rows}
+use Rattle.image_content.specs.Content.{sa_rows}
 use Rattle.image_content.specs.Reading.{IsTypedSa}
 use Rattle.image_content.proofs.RowsRead.{sa_octets}
 use Rattle.image_content.proofs.rows.put_sa_rows.Goals as goal

@@ -1,10 +1,11 @@
 use Rattle.std.proofs.Common.{◌≡◌, ◌+◌, ◌-◌, ◌∙◌, ap, subst, ℕ, take, drop, arith}
 use Rattle.std.proofs.lemmas.Result.{err_from_is_err_and}
+use Rattle.replay_window.specs.Window.{new_window}
 use Rattle.sdls_base.specs.Bounds.{AreChannels}
 use Rattle.sdls_base.specs.Places.{octet_at}
 use Rattle.book_record.proofs.Lists.{fails}
 use Rattle.book_record.proofs.Rows.{room_for}
-use Rattle.book_record.proofs.sa_rows.sa_parts.Goals as goal
+use Rattle.book_record.proofs.sa_rows.sa_row.Goals as goal
 
 pub returns-in_err-count : goal.returns-in_err-count
 returns-in_err-count c =
@@ -22,17 +23,16 @@ returns c =
     let spi = c.in_ok-spi.ensures in
     let direction = c.in_ok-direction.ensures in
     let suite = c.in_ok-suite.ensures in
-    let state = c.in_ok-state.ensures in (
+    let state = c.in_ok-state.ensures in
+    let window = c.new-2.ensures ∙ ap (new_window 0) c.number_at.ensures in (
       (spi.0, direction.0, suite.0, state.0, subst AreChannels slice are),
       λ i. record {
-        sa = record {
-          spi = spi.1 i;
-          direction = direction.1 i;
-          suite = suite.1 i;
-          window = c.number_at.ensures i;
-          channels = same i;
-        };
+        spi = spi.1 i;
+        direction = direction.1 i;
+        suite = suite.1 i;
         state = state.1 i;
         key = c.held_key.ensures i;
+        channels = same i;
+        window = window i;
       },
     )
