@@ -229,135 +229,112 @@ ended old layout generation bank bodies text image turns cleared =
       });
     }
 
--- where a call of turn writes, told by its journal and by its image
-pub record Written (image : List ℕ) (journal : JournalView) (from to generation : ℕ) (bank : Bank) : Type 0 where
-  pub of_image : IsSettledImage image journal
+-- a turn: what it began with, and where it writes, told by its journal
+pub record Turn : Type 0 where
+  pub old : Trace
+  pub journal : JournalView
+  pub text : List ℕ
+  pub from : ℕ
+  pub to : ℕ
+  pub generation : ℕ
+  pub bank : Bank
+  pub of_image : IsSettledImage old.now.image journal
+  pub sized : length text ≡ journal.layout.content_length
   pub from_is : from ≡ bank_at journal.layout journal.bank
   pub bank_is : bank ≡ other journal.bank
   pub to_is : to ≡ bank_at journal.layout bank
   pub later : generation ≡ next journal.generation
 
-pub record Placed (image : List ℕ) (journal : JournalView) (from to : ℕ) (bank : Bank) : Type 0 where
-  pub same_layout : journal.layout ≡ image_layout image
-  pub from_same : from ≡ current_at image
-  pub to_same : to ≡ other_at image
-  pub bank_same : bank ≡ other (current image)
+module _ (turn : Turn) where
+  abbrev image : List ℕ
+  image = turn.old.now.image
 
-pub placed : (image : List ℕ) (journal : JournalView) (from to generation : ℕ) (bank : Bank)
-    → Written image journal from to generation bank
-    → Placed image journal from to bank
-placed image journal from to generation bank written =
-    let layout : journal.layout ≡ image_layout image = written.of_image.closed.of_image.layout in
-    let here : journal.bank ≡ current image = written.of_image.closed.of_image.bank in
-    let bank_same : bank ≡ other (current image) = written.bank_is ∙ ap other here in
-    record {
-      same_layout = layout;
-      from_same = written.from_is ∙ ap (λ (n : Layout). bank_at n journal.bank) layout
-          ∙ ap (bank_at (image_layout image)) here;
-      to_same = written.to_is ∙ ap (λ (n : Layout). bank_at n bank) layout
-          ∙ ap (bank_at (image_layout image)) bank_same;
-      bank_same = bank_same;
-    }
+  -- the image after it, with these in the places of what the turn was told
+  abbrev erased : ℕ → ℕ → Layout → List ℕ → Type 0
+  erased from to layout new = IsErased (from + 1) (bank_length layout - 1)
+      (with_gate CLOSED from (with_gate OPEN to (filled to turn.generation turn.text image))) new
 
-pub turn_within : (old : Trace) (journal : JournalView) (from to generation : ℕ) (bank : Bank)
-    → Written old.now.image journal from to generation bank
-    → (from + bank_length journal.layout ≤ length old.now.image) ×
-    (to + bank_length journal.layout ≤ length old.now.image)
-turn_within old journal from to generation bank written =
-    let image = old.now.image in
-    let at = placed image journal from to generation bank written in
-    let front = (starts_of image journal written.of_image).stands.front in (
-      subst (λ (n : ℕ). n + bank_length journal.layout ≤ length image) (sym at.from_same)
-          (subst (λ (n : Layout). current_at image + bank_length n ≤ length image) (sym at.same_layout)
-          (bank_within image (image_layout image) (current image) front)),
-      subst (λ (n : ℕ). n + bank_length journal.layout ≤ length image) (sym at.to_same)
-          (subst (λ (n : Layout). other_at image + bank_length n ≤ length image) (sym at.same_layout)
-          (bank_within image (image_layout image) (other (current image)) front)),
-    )
+  abbrev IsStored : Trace → Type 0
+  IsStored new = IsSynced new.now × erased turn.from turn.to turn.journal.layout new.now.image
 
-sized_there : (image : List ℕ) (journal : JournalView) (text : List ℕ) → IsSettledImage image journal
-    → length text ≡ journal.layout.content_length → length text ≡ (image_layout image).content_length
-sized_there image journal text settled sized = sized
-    ∙ ap (λ (one : Layout). one.content_length) settled.closed.of_image.layout
+  -- where it writes, told by its image
+  same_layout : turn.journal.layout ≡ image_layout image
+  same_layout = turn.of_image.closed.of_image.layout
 
-pub turn_moments : (old new : Trace) (journal : JournalView) (text : List ℕ) (from to generation : ℕ) (bank : Bank)
-    → Written old.now.image journal from to generation bank → length text ≡ journal.layout.content_length
-    → EachImage old new (Steps from to (head_length journal.layout)
-    (bank_length journal.layout) generation text old.now.image)
-    → EachImage old new (Becomes (held old.now.image) (turned text (held old.now.image)))
-turn_moments old new journal text from to generation bank written sized each =
-    let image = old.now.image in
-    let at = placed image journal from to generation bank written in
-    image_weaker old new (Steps from to (head_length journal.layout) (bank_length journal.layout) generation text image)
-    (Becomes (held image) (turned text (held image)))
-    (λ left steps.
-    steps_become image (image_layout image) generation (current image) (records image) text left
-    (turns_of image text journal generation written.of_image
-    (sized_there image journal text written.of_image sized) written.later)
-    (subst (λ (n : Layout). Steps (current_at image) (other_at image) (head_length n)
-    (bank_length n) generation text image left) at.same_layout
-    (subst (λ (n : ℕ). Steps (current_at image) n (head_length journal.layout)
-    (bank_length journal.layout) generation text image left) at.to_same
-    (subst (λ (n : ℕ). Steps n to (head_length journal.layout) (bank_length journal.layout) generation text image left)
-    at.from_same steps))))
-    each
+  bank_same : turn.bank ≡ other (current image)
+  bank_same = turn.bank_is ∙ ap other turn.of_image.closed.of_image.bank
 
-pub turn_ended : (old new : Trace) (journal : JournalView) (text : List ℕ) (from to generation : ℕ) (bank : Bank)
-    → Written old.now.image journal from to generation bank → length text ≡ journal.layout.content_length
-    → IsErased (from + 1) (bank_length journal.layout - 1)
-    (with_gate CLOSED from (with_gate OPEN to (filled to generation text old.now.image))) new.now.image
-    → Ended old.now.image (image_layout old.now.image) generation (current old.now.image) text new.now.image
-turn_ended old new journal text from to generation bank written sized cleared =
-    let image = old.now.image in
-    let at = placed image journal from to generation bank written in
-    ended image (image_layout image) generation (current image) (records image) text new.now.image
-    (turns_of image text journal generation written.of_image
-    (sized_there image journal text written.of_image sized) written.later)
-    (subst (λ (n : Layout). IsErased (current_at image + 1) (bank_length n - 1)
-    (with_gate CLOSED (current_at image)
-    (with_gate OPEN (other_at image) (filled (other_at image) generation text image))) new.now.image) at.same_layout
-    (subst (λ (n : ℕ). IsErased (current_at image + 1) (bank_length journal.layout - 1)
-    (with_gate CLOSED (current_at image) (with_gate OPEN n (filled n generation text image))) new.now.image) at.to_same
-    (subst (λ (n : ℕ). IsErased (n + 1) (bank_length journal.layout - 1)
-    (with_gate CLOSED n (with_gate OPEN to (filled to generation text image))) new.now.image) at.from_same cleared)))
+  from_same : turn.from ≡ current_at image
+  from_same = turn.from_is ∙ ap (λ (n : Layout). bank_at n turn.journal.bank) same_layout
+      ∙ ap (bank_at (image_layout image)) turn.of_image.closed.of_image.bank
 
-pub turn_stored : (old new : Trace) (journal : JournalView) (text : List ℕ) (from to generation : ℕ) (bank : Bank)
-    → Written old.now.image journal from to generation bank → length text ≡ journal.layout.content_length
-    → IsSynced new.now × IsErased (from + 1) (bank_length journal.layout - 1)
-    (with_gate CLOSED from (with_gate OPEN to (filled to generation text old.now.image))) new.now.image
-    → IsSettled new (fresh_view journal.plan_length journal.layout bank generation) ×
-    (held new.now.image ≡ turned text (held old.now.image))
-turn_stored old new journal text from to generation bank written sized stored =
-    let at = placed old.now.image journal from to generation bank written in
-    let end = turn_ended old new journal text from to generation bank written sized stored.1 in (
-      record {
-        synced = stored.0;
-        of_image = subst (λ (n : Layout). IsSettledImage new.now.image
-            (fresh_view journal.plan_length n bank generation)) (sym at.same_layout)
-            (subst (λ (one : Bank). IsSettledImage new.now.image
-            (fresh_view journal.plan_length (image_layout old.now.image) one generation)) (sym at.bank_same)
-            (end.of_image journal.plan_length written.of_image.closed.of_image.plan));
-      },
-      end.holds.is,
-    )
+  to_same : turn.to ≡ other_at image
+  to_same = turn.to_is ∙ ap (λ (n : Layout). bank_at n turn.bank) same_layout
+      ∙ ap (bank_at (image_layout image)) bank_same
 
-pub turn_rest : (old new : Trace) (journal : JournalView) (text : List ℕ) (from to generation : ℕ) (bank : Bank)
-    → Written old.now.image journal from to generation bank → length text ≡ journal.layout.content_length
-    → IsSynced new.now × IsErased (from + 1) (bank_length journal.layout - 1)
-    (with_gate CLOSED from (with_gate OPEN to (filled to generation text old.now.image))) new.now.image
-    → (image : List ℕ) → Leaves new.now image → IsRest image bank generation text
-turn_rest old new journal text from to generation bank written sized stored image leaves =
-    let at = placed old.now.image journal from to generation bank written in
-    let end = turn_ended old new journal text from to generation bank written sized stored.1 in
-    synced_holds new.now (λ left. IsRest left bank generation text) stored.0
-    (subst (λ (one : Bank). IsRest new.now.image one generation text) (sym at.bank_same) end.rest) image leaves
+  pub turn_within : (turn.from + bank_length turn.journal.layout ≤ length image)
+      × (turn.to + bank_length turn.journal.layout ≤ length image)
+  turn_within =
+      let front = (starts_of image turn.journal turn.of_image).stands.front in (
+        subst (λ (n : ℕ). n + bank_length turn.journal.layout ≤ length image) (sym from_same)
+            (subst (λ (n : Layout). current_at image + bank_length n ≤ length image) (sym same_layout)
+            (bank_within image (image_layout image) (current image) front)),
+        subst (λ (n : ℕ). n + bank_length turn.journal.layout ≤ length image) (sym to_same)
+            (subst (λ (n : Layout). other_at image + bank_length n ≤ length image) (sym same_layout)
+            (bank_within image (image_layout image) (other (current image)) front)),
+      )
 
-pub turn_beside : (old new : Trace) (journal : JournalView) (text : List ℕ) (from to generation : ℕ) (bank : Bank)
-    → Written old.now.image journal from to generation bank → length text ≡ journal.layout.content_length
-    → IsSynced new.now × IsErased (from + 1) (bank_length journal.layout - 1)
-    (with_gate CLOSED from (with_gate OPEN to (filled to generation text old.now.image))) new.now.image
-    → KeepsBeside journal.layout old.now.image new.now.image
-turn_beside old new journal text from to generation bank written sized stored =
-    let at = placed old.now.image journal from to generation bank written in
-    subst (λ (one : Layout). KeepsBeside one old.now.image new.now.image) (sym at.same_layout)
-    (turn_ended old new journal text from to generation bank written sized stored.1).beside
+  turns : Turns image (image_layout image) turn.generation (current image) (records image) turn.text
+  turns = turns_of image turn.text turn.journal turn.generation turn.of_image
+      (turn.sized ∙ ap (λ (one : Layout). one.content_length) same_layout) turn.later
+
+  pub turn_moments : (new : Trace)
+      → EachImage turn.old new (Steps turn.from turn.to (head_length turn.journal.layout)
+      (bank_length turn.journal.layout) turn.generation turn.text image)
+      → EachImage turn.old new (Becomes (held image) (turned turn.text (held image)))
+  turn_moments new each =
+      let Step : ℕ → ℕ → Layout → List ℕ → Type 0 = λ from to layout left.
+      Steps from to (head_length layout) (bank_length layout) turn.generation turn.text image left in
+      image_weaker turn.old new (Step turn.from turn.to turn.journal.layout)
+      (Becomes (held image) (turned turn.text (held image)))
+      (λ left steps.
+      steps_become image (image_layout image) turn.generation (current image) (records image) turn.text left turns
+      (subst (λ (n : Layout). Step (current_at image) (other_at image) n left) same_layout
+      (subst (λ (n : ℕ). Step (current_at image) n turn.journal.layout left) to_same
+      (subst (λ (n : ℕ). Step n turn.to turn.journal.layout left) from_same steps))))
+      each
+
+  turn_ended : (new : Trace) → IsStored new
+      → Ended image (image_layout image) turn.generation (current image) turn.text new.now.image
+  turn_ended new stored =
+      ended image (image_layout image) turn.generation (current image) (records image) turn.text new.now.image turns
+      (subst (λ (n : Layout). erased (current_at image) (other_at image) n new.now.image) same_layout
+      (subst (λ (n : ℕ). erased (current_at image) n turn.journal.layout new.now.image) to_same
+      (subst (λ (n : ℕ). erased n turn.to turn.journal.layout new.now.image) from_same stored.1)))
+
+  pub turn_stored : (new : Trace) → IsStored new
+      → IsSettled new (fresh_view turn.journal.plan_length turn.journal.layout turn.bank turn.generation) ×
+      (held new.now.image ≡ turned turn.text (held image))
+  turn_stored new stored =
+      let end = turn_ended new stored in
+      let View : Layout → Bank → JournalView = λ layout bank.
+      fresh_view turn.journal.plan_length layout bank turn.generation in (
+        record {
+          synced = stored.0;
+          of_image = subst (λ (n : Layout). IsSettledImage new.now.image (View n turn.bank)) (sym same_layout)
+              (subst (λ (one : Bank). IsSettledImage new.now.image (View (image_layout image) one)) (sym bank_same)
+              (end.of_image turn.journal.plan_length turn.of_image.closed.of_image.plan));
+        },
+        end.holds.is,
+      )
+
+  pub turn_rest : (new : Trace) → IsStored new
+      → (left : List ℕ) → Leaves new.now left → IsRest left turn.bank turn.generation turn.text
+  turn_rest new stored =
+      synced_holds new.now (λ left. IsRest left turn.bank turn.generation turn.text) stored.0
+      (subst (λ (one : Bank). IsRest new.now.image one turn.generation turn.text) (sym bank_same)
+      (turn_ended new stored).rest)
+
+  pub turn_beside : (new : Trace) → IsStored new → KeepsBeside turn.journal.layout image new.now.image
+  turn_beside new stored =
+      subst (λ (one : Layout). KeepsBeside one image new.now.image) (sym same_layout) (turn_ended new stored).beside

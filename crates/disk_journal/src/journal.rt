@@ -344,9 +344,9 @@ impl Journal {
         ensures puts { O.put_faults site.new ≡ O.put_faults site.old }
     {
         let from = self.layout.bank_at(self.bank);
+        let generation = next_generation(self.generation);
         let bank = self.bank.other();
         let to = self.layout.bank_at(bank);
-        let generation = next_generation(self.generation);
         match turn_banks(site, self.layout, from, to, generation, content) {
             Ok(()) => {
                 self.used = 0;
