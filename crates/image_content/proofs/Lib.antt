@@ -1,4 +1,3 @@
-mod Lacking
 mod Lists
 mod Fields
 pub mod RowsRead

@@ -1,13 +1,12 @@
 //! What a book of keys asks of a row.
 
-ghost use Rattle.std.specs.Prelude.{◌≡◌, ◌≢◌, ◌↔◌, IsTrue, length, All};
+ghost use Rattle.std.specs.Prelude.{◌≡◌, ◌↔◌, IsTrue, length, All};
 ghost use Rattle.sha2.specs.Sha256.{sha256};
 ghost use Rattle.sdls_base.specs.Bounds.{IsKeyLength};
 ghost use Rattle.key_book.specs.KeyRow.{HasBytes, IsKeyRow};
-ghost use Rattle.key_book.specs.KeyBook.{MayFollow};
 
-use key_book::{KeyBook, KeyRow};
-use sdls_base::{KeyId, KeyState, MOST_KEYS};
+use key_book::KeyRow;
+use sdls_base::KeyState;
 
 fn is_key_length(length: usize) -> bool
     ensures { IsTrue result ↔ IsKeyLength length }
@@ -43,26 +42,14 @@ pub fn is_key_row(row: &KeyRow) -> bool
     has_bytes(row) && 1 <= row.mark && row.mark <= end && row.floor < end
 }
 
-/// Whether no row is that of this key.
-fn lacks(book: &KeyBook, id: KeyId) -> bool
-    ensures { IsTrue result ↔ All (λ other. other.id ≢ id) book.now }
+/// Whether each row keeps the rules of one key. Takes no memory.
+pub(crate) fn are_key_rows(rows: &[KeyRow]) -> bool
+    ensures { IsTrue result ↔ All IsKeyRow rows.now }
 {
-    book.find(id).is_none()
-}
-
-/// Whether no row has this digest.
-fn lacks_digest(book: &KeyBook, digest: &[u8; 32]) -> bool
-    ensures { IsTrue result ↔ All (λ other. other.digest ≢ digest.now) book.now }
-{
-    book.twin(digest).is_none()
-}
-
-/// Whether the row may be put behind those of the book: the condition of `KeyBook::add_row`. Takes no memory.
-pub fn may_follow_keys(book: &KeyBook, row: &KeyRow) -> bool
-    ensures { IsTrue result ↔ MayFollow book.now row.now }
-{
-    book.rows().len() < MOST_KEYS
-        && is_key_row(row)
-        && lacks(book, row.id)
-        && lacks_digest(book, &row.digest)
+    for row in rows {
+        if !is_key_row(row) {
+            return false;
+        }
+    }
+    true
 }

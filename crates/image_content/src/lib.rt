@@ -5,9 +5,10 @@
 //! [`write_content`] and [`write_content_two`] write it without taking memory. [`read_content`] gives the state back,
 //! or says that the octets are no content. Read `specs/Content.antt` first.
 //!
-//! Nothing is known of a row that is read, so each rule of a state is tested. [`may_follow_keys`] and
-//! [`may_follow_associations`] are the conditions of `add_row` of the two books, as tests. [`holds_key`] is what a
-//! state asks of an association and the keys. [`keys_of`] and [`state_of_rows`] make the book of keys, and the state.
+//! Nothing is known of a row that is read, so each rule of a state is tested. [`is_key_row`] is what a book asks of the
+//! row of a key, and [`may_follow_associations`] the condition of `add_row` of the book of associations. [`holds_key`]
+//! is what a state asks of an association and the keys. [`keys_of`] and [`state_of_rows`] make the book of keys, and
+//! the state.
 #![tactic(auto)]
 
 mod associations;
@@ -24,7 +25,7 @@ mod writing;
 
 pub use associations::{is_association_row, may_follow_associations};
 pub use held::holds_key;
-pub use keys::{is_key_row, may_follow_keys};
+pub use keys::is_key_row;
 pub use laws::{key_row_changes, marks_change, one_state, restart_leaves_content, sa_row_changes};
 pub use layout::KEYS_AT;
 pub use making::{keys_of, state_of_rows};

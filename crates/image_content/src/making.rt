@@ -8,11 +8,11 @@ ghost use Rattle.image_content.specs.Rows.{MakesOf, state_of};
 
 use crate::associations::may_follow_associations;
 use crate::held::holds_key;
-use crate::keys::may_follow_keys;
+use crate::keys::are_key_rows;
 use crate::rows_fault::RowsFault;
 use key_book::{KeyBook, KeyRow};
 use sa_book::{SaBook, SaRow};
-use sdls_base::ChannelList;
+use sdls_base::{ChannelList, MOST_KEYS, NoMemory};
 use std::alloc::Global;
 use unit_state::State;
 
@@ -20,16 +20,20 @@ use unit_state::State;
 pub fn keys_of(alloc: Global, rows: Vec<KeyRow>) -> Result<KeyBook, RowsFault>
     ensures { MakesOf result IsKeyBook rows.items }
 {
-    key_book::rows_may_follow();
-    let mut book = KeyBook::new(alloc);
-    for row in rows {
-        if !may_follow_keys(&book, &row) {
-            return Err(RowsFault::Unfit);
-        }
-        book.add_row(row)?;
+    if rows.len() > MOST_KEYS {
+        return Err(RowsFault::Unfit);
     }
-    let _rules = book.rows();
-    Ok(book)
+    if !are_key_rows(&rows) {
+        return Err(RowsFault::Unfit);
+    }
+    match KeyBook::of_rows(alloc, rows) {
+        Ok(Some(book)) => {
+            let _rules = book.rows();
+            Ok(book)
+        }
+        Ok(None) => Err(RowsFault::Unfit),
+        Err(NoMemory) => Err(RowsFault::NoMemory),
+    }
 }
 
 /// The book of these rows.

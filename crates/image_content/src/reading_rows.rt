@@ -1,6 +1,6 @@
 //! The rows of a content, read.
 
-ghost use Rattle.std.specs.Prelude.{◌≡◌, ◌*◌, ℕ, List, length, IfOk, IfErr};
+ghost use Rattle.std.specs.Prelude.{◌≡◌, ◌*◌, ℕ, List, [], length, IfOk, IfErr};
 ghost use Rattle.std.specs.Option.{option_map_or};
 ghost use Rattle.key_book.specs.declared.key_row.KeyRow.{KeyRow};
 ghost use Rattle.key_book.specs.KeyBook.{IsKeyBook, row_of};
@@ -15,7 +15,7 @@ use crate::rows_fault::RowsFault;
 use book_record::{KEY_ROW_LENGTH, RecordError, SA_ROW_LENGTH, read_association, read_key_row};
 use key_book::{KeyBook, KeyRow};
 use sa_book::SaRow;
-use sdls_base::{Direction, KeyId};
+use sdls_base::{Direction, KeyId, NoMemory};
 use std::alloc::Global;
 
 /// The row of a key that these octets are.
@@ -73,6 +73,13 @@ fn sa_row(alloc: Global, keys: &KeyBook, octets: &[u8]) -> Result<SaRow, RowsFau
     }
 }
 
+/// Room for so many rows.
+fn room_for(alloc: Global, count: usize) -> Result<Vec<KeyRow>, NoMemory>
+    ensures { IfOk result (λ rows. rows.items ≡ []) }
+{
+    Ok(Vec::with_capacity(alloc, count)?)
+}
+
 /// The rows of keys that these octets are, one behind the other.
 fn key_rows(alloc: Global, octets: &[u8]) -> Result<Vec<KeyRow>, RowsFault>
     requires { (count : ℕ) × (length octets.now ≡ KEY_ROW_LENGTH * count) }
@@ -80,7 +87,7 @@ fn key_rows(alloc: Global, octets: &[u8]) -> Result<Vec<KeyRow>, RowsFault>
     ensures fault { IfErr result (λ fault. HasRowsCause fault
         ((rows : List KeyRow) → ¬ AreKeyRows rows octets.now)) }
 {
-    let mut rows = Vec::new(alloc);
+    let mut rows = room_for(alloc, octets.len() / KEY_ROW_LENGTH)?;
     let mut rest = octets;
     while !rest.is_empty() {
         let (first, behind) = rest.split_at(KEY_ROW_LENGTH);

@@ -1,6 +1,7 @@
 //! An index: where numbers first stand in a list.
 
-ghost use Rattle.std.specs.Prelude.{◌≡◌, ℕ, ◌+◌, ◌<◌, ◌≤◌, [], IfErr, IfOk, OnOk, vec_capacity, vec_len};
+ghost use Rattle.std.specs.Prelude.{◌≡◌, ◌↔◌, ℕ, ◌+◌, ◌<◌, ◌≤◌, [], IfErr, IfOk, IfSome, OnOk, IsPermutation, IsTrue};
+ghost use Rattle.std.specs.Prelude.{vec_capacity, vec_len};
 ghost use Rattle.key_book.specs.Index.{place_in, place_noted, IsAscending, IsAt, IsGapFor};
 
 use sdls_base::NoMemory;
@@ -11,6 +12,18 @@ use std::alloc::Global;
 pub(crate) struct Entry {
     pub(crate) number: u32,
     pub(crate) place: u16,
+}
+
+/// Whether the numbers rise, so that none comes twice.
+fn is_ascending(entries: &[Entry]) -> bool
+    ensures { IsTrue result ↔ IsAscending entries.now }
+{
+    for i in 1..entries.len() {
+        if entries[i - 1].number >= entries[i].number {
+            return false;
+        }
+    }
+    true
 }
 
 /// The numbers of a list with the first place of each, ascending by number.
@@ -25,6 +38,19 @@ impl Index {
     {
         Index {
             entries: Vec::new(alloc),
+        }
+    }
+
+    /// The index of these entries, sorted at once, if no two have one number. Takes no memory.
+    pub(crate) fn sorted(mut entries: Vec<Entry>) -> Option<Index>
+        ensures same { IfSome result (λ index. IsPermutation entries.items index.entries.items) }
+        ensures ascending { IfSome result (λ index. IsAscending index.entries.items) }
+    {
+        entries.sort_unstable_by_key(|entry| entry.number);
+        if is_ascending(&entries) {
+            Some(Index { entries })
+        } else {
+            None
         }
     }
 

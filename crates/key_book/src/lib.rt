@@ -13,6 +13,7 @@ mod key_book;
 mod key_octets;
 mod key_refusal;
 mod key_row;
+mod making;
 mod moves;
 mod refusals;
 mod table;

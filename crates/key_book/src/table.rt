@@ -1,14 +1,15 @@
 //! The rows of a book, with an index by identifier and one by digest.
 
-ghost use Rattle.std.specs.Prelude.{◌≡◌, ℕ, ◌+◌, ◌<◌, ◌≤◌, ◌++◌, [], ◌∷◌, length, map, All, IfOk, OnOk, OnErr};
+ghost use Rattle.std.specs.Prelude.{◌≡◌, ℕ, ◌+◌, ◌<◌, ◌≤◌, ◌++◌, [], ◌∷◌, length, map, All, IfOk, IfSome, OnOk};
+ghost use Rattle.std.specs.Prelude.{OnErr};
 ghost use Rattle.sdls_base.specs.Bounds.{IsKeyLength};
 ghost use Rattle.sdls_base.specs.declared.TheConstants.{MOST_KEYS};
 ghost use Rattle.key_book.specs.KeyRow.{new_row};
 ghost use Rattle.key_book.specs.KeyBook.{place_of};
 ghost use Rattle.key_book.specs.KeyRefusal.{place_with};
-ghost use Rattle.key_book.specs.Table.{front, IsIndexed, HasRoom};
+ghost use Rattle.key_book.specs.Table.{front, AreNumbersOf, IsIndexApart, IsIndexed, HasRoom};
 
-use crate::index::Index;
+use crate::index::{Entry, Index};
 use crate::key_row::{KeyRow, digest};
 use sdls_base::{KeyId, KeyItem, NoMemory};
 use std::alloc::Global;
@@ -34,6 +35,70 @@ fn scan(rows: &[KeyRow], digest: &[u8; 32]) -> Option<usize>
     ensures { result ≡ place_with rows.now digest.now }
 {
     rows.iter().position(|row| row.digest == *digest)
+}
+
+/// The identifier of each row, with the row's place.
+fn identifiers(alloc: Global, rows: &[KeyRow]) -> Result<Vec<Entry>, NoMemory>
+    requires { length rows.now ≤ MOST_KEYS }
+    ensures { IfOk result (λ entries. AreNumbersOf (λ row. row.id) rows.now entries.items) }
+{
+    let mut entries = Vec::with_capacity(alloc, rows.len())?;
+    for (i, row) in rows.iter().enumerate() {
+        let number = u32::from(row.id.get());
+        let place = i as u16;
+        entries.push(Entry { number, place })?;
+    }
+    Ok(entries)
+}
+
+/// The front of each row's digest, with the row's place.
+fn fronts(alloc: Global, rows: &[KeyRow]) -> Result<Vec<Entry>, NoMemory>
+    requires { length rows.now ≤ MOST_KEYS }
+    ensures { IfOk result (λ entries. AreNumbersOf (λ row. front row.digest) rows.now entries.items) }
+{
+    let mut entries = Vec::with_capacity(alloc, rows.len())?;
+    for (i, row) in rows.iter().enumerate() {
+        let number = front(&row.digest);
+        let place = i as u16;
+        entries.push(Entry { number, place })?;
+    }
+    Ok(entries)
+}
+
+/// The index of the rows by identifier, if no two have one.
+fn index_by_id(alloc: Global, rows: &[KeyRow]) -> Result<Option<Index>, NoMemory>
+    requires { length rows.now ≤ MOST_KEYS }
+    ensures { IfOk result (λ found. IfSome found (λ index.
+        IsIndexApart (λ row. row.id) rows.now index.entries.items)) }
+{
+    let entries = identifiers(alloc, rows)?;
+    Ok(Index::sorted(entries))
+}
+
+/// The index of the rows by the front of the digest, if no two have one.
+fn index_by_front(alloc: Global, rows: &[KeyRow]) -> Result<Option<Index>, NoMemory>
+    requires { length rows.now ≤ MOST_KEYS }
+    ensures { IfOk result (λ found. IfSome found (λ index.
+        IsIndexApart (λ row. front row.digest) rows.now index.entries.items)) }
+{
+    let entries = fronts(alloc, rows)?;
+    Ok(Index::sorted(entries))
+}
+
+/// The indexes of the rows, by identifier and by the front of the digest, if no two have one of either.
+pub(crate) fn indexes_of(alloc: Global, rows: &[KeyRow]) -> Result<Option<(Index, Index)>, NoMemory>
+    requires { length rows.now ≤ MOST_KEYS }
+    ensures { IfOk result (λ found. IfSome found (λ indexes.
+        IsIndexApart (λ row. row.id) rows.now indexes.0.entries.items
+        × IsIndexApart (λ row. front row.digest) rows.now indexes.1.entries.items)) }
+{
+    let Some(by_id) = index_by_id(alloc, rows)? else {
+        return Ok(None);
+    };
+    match index_by_front(alloc, rows)? {
+        Some(by_front) => Ok(Some((by_id, by_front))),
+        None => Ok(None),
+    }
 }
 
 impl Table {

@@ -1,7 +1,7 @@
 use Rattle.std.proofs.Common.{◌++◌, ◌∙◌, List, sym, ap}
 use Rattle.sa_book.specs.declared.sa_row.SaRow.{SaRow}
 use Rattle.sa_book.specs.SaBook.{MayFollow}
-use Rattle.image_content.proofs.Lists.{next_follows}
+use Rattle.key_book.proofs.Lacking.{next_follows}
 use Rattle.image_content.proofs.making.associations_of.Goals as goal
 
 pub returns-then-not-may_follow_associations : goal.returns-then-not-may_follow_associations

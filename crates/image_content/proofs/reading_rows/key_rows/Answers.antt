@@ -12,7 +12,7 @@ use Rattle.image_content.proofs.RowsRead.{SplitAt, head_of, split_more, whole_ca
 use Rattle.image_content.proofs.reading_rows.key_rows.Goals as goal
 
 pub loop-rest-init : goal.loop-rest-init
-loop-rest-init c = rw c.new-rows.ensures.items (record {
+loop-rest-init c = rw c.in_ok-rows.ensures (record {
   each = All-nil IsTypedKey;
   put = refl;
   only = λ all are. record { others = all; split = refl; behind = are };
@@ -59,7 +59,7 @@ loop-rest-preserved c =
 
 pub returns-in_err-key_row-clause-fault : goal.returns-in_err-key_row-clause-fault
 returns-in_err-key_row-clause-fault c =
-    let p = err_from_is_err_and c.from_residual.result c.from_residual.ensures.1 in
+    let p = err_from_is_err_and c.from_residual-in_err-key_row.result c.from_residual-in_err-key_row.ensures.1 in
     let first = c.split_at.result.0.now in
     let behind = c.split_at.result.1.now in
     let joined : first ++ behind ≡ c.loop-rest.rest.now =

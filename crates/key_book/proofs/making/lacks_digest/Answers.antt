@@ -1,6 +1,6 @@
-use Rattle.image_content.proofs.Lacking.{no_digest, digest_nowhere, none_if_mapped, true_if_mapped}
+use Rattle.key_book.proofs.Lacking.{no_digest, digest_nowhere, none_if_mapped, true_if_mapped}
 use Rattle.key_book.specs.declared.key_row.KeyRow.{KeyRow}
-use Rattle.image_content.proofs.keys.lacks_digest.Goals as goal
+use Rattle.key_book.proofs.making.lacks_digest.Goals as goal
 
 pub returns : goal.returns
 returns c = (

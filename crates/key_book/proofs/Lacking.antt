@@ -1,7 +1,9 @@
--- Rows among which a key or a digest is not.
-use Rattle.std.proofs.Common.{◌≡◌, ◌≢◌, ℕ, Bool, true, false, not, is_some, IsTrue, cond, nat_eq, List, [], ◌∷◌, All}
-use Rattle.std.proofs.Common.{Option, Some, None, sym, refl, ap, ◌∙◌, arith}
+-- Rows among which a key or a digest is not, and what each row may follow: for `making`.
+use Rattle.std.proofs.Common.{◌≡◌, ◌≢◌, ℕ, ◌<◌, Bool, true, false, not, is_some, IsTrue, cond, nat_eq, List, [], ◌∷◌}
+use Rattle.std.proofs.Common.{◌++◌, length, length-append, get_or, take, All, Option, Some, None, sym, refl, ap, ◌∙◌}
+use Rattle.std.proofs.Common.{subst, arith}
 use Rattle.std.specs.List.{find}
+use Rattle.std.proofs.Math.Seq.{take-append_seam, get_or-append_seam}
 use Rattle.std.specs.Option.{option_map}
 use Rattle.std.specs.Str.{bytes_eq}
 use Rattle.std.proofs.lemmas.Bool.{false≢true}
@@ -73,3 +75,13 @@ pub true_if_mapped : {X Y : Type 0} (f : X → Y) (found : Option X) (mapped : O
 true_if_mapped f None mapped true same says nothing = refl
 true_if_mapped f None mapped false same says nothing = absurd (false≢true (sym (ap is_some same) ∙ says))
 true_if_mapped f (Some x) mapped none same says nothing = absurd (cc)
+
+-- what each element may follow, the one behind a front may
+pub next_follows : {X : Type 0} (MayFollow : List X → X → Type 0) (front rest all : List X) (x : X)
+    → front ++ x ∷ rest ≡ all
+    → ((i : ℕ) (d : X) → i < length all → MayFollow (take i all) (get_or all i d)) → MayFollow front x
+next_follows MayFollow front rest all x split each =
+    let inside : length front < length all = omega (arith, ap length split, length-append front (x ∷ rest)) in
+    let there = subst (λ ys. MayFollow (take (length front) ys) (get_or ys (length front) x)) (sym split)
+    (each (length front) x inside) in
+    rw (take-append_seam front (x ∷ rest), get_or-append_seam front x rest x) at there

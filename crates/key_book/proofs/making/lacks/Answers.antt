@@ -1,5 +1,5 @@
-use Rattle.image_content.proofs.Lacking.{no_key, key_nowhere, none_if, true_if}
-use Rattle.image_content.proofs.keys.lacks.Goals as goal
+use Rattle.key_book.proofs.Lacking.{no_key, key_nowhere, none_if, true_if}
+use Rattle.key_book.proofs.making.lacks.Goals as goal
 
 pub returns : goal.returns
 returns c = (

@@ -1,0 +1,7 @@
+use Rattle.key_book.specs.declared.key_row.KeyRow.{KeyRow}
+use Rattle.key_book.specs.Table.{front}
+use Rattle.key_book.proofs.Sorted.{AreNumbersTo}
+use Rattle.key_book.proofs.table.fronts.Given as goal
+
+abbrev pub invariant-loop-i : goal.invariant-loop-i
+invariant-loop-i l = AreNumbersTo (λ (row : KeyRow). front row.digest) l.rows l.entries.items l.i

@@ -1,0 +1,9 @@
+use Rattle.key_book.specs.declared.key_row.KeyRow.{KeyRow}
+use Rattle.key_book.specs.Table.{front}
+use Rattle.key_book.proofs.Sorted.{index_found}
+use Rattle.key_book.proofs.table.index_by_front.Goals as goal
+
+pub returns : goal.returns
+returns c =
+    index_found (λ (row : KeyRow). front row.digest) c.args.rows.now c.in_ok-entries.entries.items c.sorted.result
+    c.in_ok-entries.ensures c.sorted.ensures.same c.sorted.ensures.ascending
