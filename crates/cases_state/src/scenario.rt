@@ -173,6 +173,9 @@ impl Scenario {
     pub fn bind(&self, link: u8, clear: &[u8]) -> Result<Option<Binding>, ShieldFault>
         ensures { IfOk result (λ found. IfSome found IsBinding) }
     {
-        binding(&self.plan, &self.state, link, clear)
+        match binding(&self.plan, &self.state, link, clear)? {
+            Some(found) => Ok(Some(found.binding)),
+            None => Ok(None),
+        }
     }
 }

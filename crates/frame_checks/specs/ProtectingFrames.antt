@@ -12,12 +12,19 @@ use Rattle.unit_state.specs.declared.state.State.{State}
 use Rattle.frame_shield.specs.declared.binding.Binding.{Binding}
 use Rattle.frame_shield.specs.declared.protecting_frames.ShieldFault.{ShieldFault}
 use Rattle.frame_shield.specs.declared.protecting_frames.ShieldFault.TheVariants.{Layout, Channel, State as NoSender}
+use Rattle.frame_checks.specs.declared.protecting_frames.ChannelBinding.{ChannelBinding}
 use Rattle.frame_checks.specs.Header.{lacks_header, is_clear, channel_of}
 use Rattle.frame_checks.specs.Binding.{binding_of}
 
 -- what checks answer: a refusal, no security, or the binding under which the frame is protected
 abbrev pub Answer : Type 0
 Answer = Result (Option Binding) ShieldFault
+
+-- the answer of `binding` without the channel that stands in it
+abbrev pub without_channel : Result (Option ChannelBinding) ShieldFault → Answer
+without_channel (Ok (Some found)) = Ok (Some found.binding)
+without_channel (Ok None) = Ok None
+without_channel (Err fault) = Err fault
 
 -- the association that sends on the frame's channel
 abbrev pub sender_of : PlanLines → State → ℕ → Link → List ℕ → Option SaRow

@@ -20,5 +20,5 @@ mod trying;
 pub use laws::{accepted_may_be, binding_stays, opener_stays};
 pub use open_reply::OpenReply;
 pub use opening_frames::open_frame;
-pub use protecting_frames::{binding, channel};
+pub use protecting_frames::{ChannelBinding, binding, channel};
 pub use trying::{Opener, open_tried, opener_of, try_frame};

@@ -7,7 +7,7 @@ ghost use Rattle.sdls_base.specs.declared.states.SaState.TheVariants.{Operationa
 ghost use Rattle.unit_state.specs.State.{HasKey, KeepsRules};
 ghost use Rattle.frame_shield.specs.Binding.{IsBinding};
 ghost use Rattle.frame_checks.specs.Binding.{binding_of};
-ghost use Rattle.frame_checks.specs.ProtectingFrames.{IsSentClear, channel_check, protect_check};
+ghost use Rattle.frame_checks.specs.ProtectingFrames.{IsSentClear, channel_check, protect_check, without_channel};
 
 use crate::header::{channel_of, is_clear, lacks_header};
 use aes_block::Schedule;
@@ -16,6 +16,14 @@ use sa_book::SaRow;
 use sdls_base::{ChannelId, Link};
 use unit_plan::Plan;
 use unit_state::State;
+
+/// What a frame that is to be protected was found to be: of this channel, and protected under this.
+#[derive(Drop)]
+pub struct ChannelBinding {
+    pub channel: ChannelId,
+    /// What the operational association that sends on the channel binds the frame to.
+    pub binding: Binding,
+}
 
 /// What an operational association binds frames on a link to.
 pub(crate) fn binding_of(plan: &Plan, state: &State, line: &Link, row: &SaRow) -> Binding
@@ -60,9 +68,9 @@ pub fn channel(plan: &Plan, link: u8, clear: &[u8]) -> Result<Option<ChannelId>,
     }
 }
 
-/// Makes the first checks of a frame in clear that is to be protected, in their order, and answers what it is to be
-/// protected under: the one operational association that sends on its channel. `None` is a TC control command or an AOS
-/// idle frame, which the caller sends as it stands.
+/// Makes the first checks of a frame in clear that is to be protected, in their order, and answers its channel with
+/// what it is to be protected under: the one operational association that sends there. `None` is a TC control command
+/// or an AOS idle frame, which the caller sends as it stands.
 ///
 /// Refused are, first to last: a link without a line in the plan (`Layout(0)`), a frame without the octets of its
 /// headers (`Layout(1)`), one of no channel of the plan (`Channel`), one on whose channel no operational association
@@ -72,12 +80,15 @@ pub fn binding(
     state: &State,
     link: u8,
     clear: &[u8],
-) -> Result<Option<Binding>, ShieldFault>
+) -> Result<Option<ChannelBinding>, ShieldFault>
     requires { KeepsRules state.now }
-    ensures checked { result ≡ protect_check plan.now state.now link clear.now }
+    ensures checked { without_channel result ≡ protect_check plan.now state.now link clear.now }
     ensures clear { (result ≡ Ok None) ↔ IsSentClear plan.now link clear.now }
+    // The channel is the one that `channel` answers.
+    ensures channel { IfOk result (λ answer. IfSome answer
+        (λ found. channel_check plan.now link clear.now ≡ Ok (Some found.channel))) }
     // What `fits` and `shield` ask of a binding.
-    ensures binding { IfOk result (λ found. IfSome found IsBinding) }
+    ensures binding { IfOk result (λ answer. IfSome answer (λ found. IsBinding found.binding)) }
 {
     let Some(line) = plan.link(link) else {
         return Err(ShieldFault::Layout(0));
@@ -94,5 +105,8 @@ pub fn binding(
     let Some(row) = state.associations.sender_on(channel) else {
         return Err(ShieldFault::State);
     };
-    Ok(Some(binding_of(plan, state, line, row)))
+    Ok(Some(ChannelBinding {
+        channel,
+        binding: binding_of(plan, state, line, row),
+    }))
 }

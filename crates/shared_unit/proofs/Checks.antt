@@ -141,26 +141,6 @@ bound_check plan state link clear channel b h is bound =
     (sender_on state.associations) (binding_of plan state b.link) channel b
     (sym (ap (λ (o : Option Link). option_map_or (channel_on plan link clear) o (Err (Layout 0))) is) ∙ h) bound
 
--- where a binding is answered, the frame has a channel
-pub bound_channel : (plan : PlanLines) (state : State) (link : ℕ) (clear : List ℕ) (b : Binding)
-    → protect_check plan state link clear ≡ Ok (Some b)
-    → (channel : ℕ) × (channel_check plan link clear ≡ Ok (Some channel))
-bound_channel plan state link clear b k = by_line (link_of plan.links link) refl k where
-  by_checks : (lacks clear_ : Bool) (channel : Option ℕ) (sender : ℕ → Option SaRow) (bind : SaRow → Option Binding)
-      → answer lacks clear_ channel sender bind ≡ Ok (Some b) → (c : ℕ) × (chan lacks clear_ channel ≡ Ok (Some c))
-  by_checks true clear_ channel sender bind q = absurd cc
-  by_checks false true channel sender bind q = absurd cc
-  by_checks false false None sender bind q = absurd cc
-  by_checks false false (Some c) sender bind q = (c, refl)
-
-  by_line : (o : Option Link) → link_of plan.links link ≡ o
-      → option_map_or (answer_on plan state link clear) o (Err (Layout 0)) ≡ Ok (Some b)
-      → (channel : ℕ) × (option_map_or (channel_on plan link clear) o (Err (Layout 0)) ≡ Ok (Some channel))
-  by_line None is q = absurd cc
-  by_line (Some line) is q =
-      by_checks (lacks_header line.layout clear) (is_clear line.layout clear) (channel_of plan link line.layout clear)
-      (sender_on state.associations) (binding_of plan state line) q
-
 -- a frame that is sent as it stands has no channel
 pub clear_channel : (plan : PlanLines) (link : ℕ) (clear : List ℕ) → IsSentClear plan link clear
     → channel_check plan link clear ≡ Ok None

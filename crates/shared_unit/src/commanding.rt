@@ -1,6 +1,5 @@
 //! Commands: the words are asked first, under the turn.
 ghost use Rattle.std.specs.Prelude.{◌≡◌, ◌⊎◌, ◌<◌, ◌+◌, ℕ, Some, true};
-ghost use Rattle.sdls_base.specs.declared.TheConstants.{MOST_KEYS};
 ghost use Rattle.key_book.specs.KeyBook.{place_of};
 ghost use Rattle.ep_core.specs.declared.need.Need.TheVariants as needs;
 ghost use Rattle.counter_table.specs.Known.{LowersNoMark};
@@ -24,19 +23,6 @@ use std::sync::Wait;
 use unit_book::BookFault;
 
 impl<O: Site> Unit<O> {
-    // The row of a key that the held book has.
-    fn row_in(&self, held: &Held<Shelf<O>>, key: KeyId) -> u16
-        requires there { (row : ℕ) × (place_of held.now.book.state.keys key ≡ Some row) }
-        ensures row { place_of held.now.book.state.keys key ≡ Some result }
-        ensures below { result < MOST_KEYS }
-    {
-        held.book.look();
-        let Some(row) = held.book.row_of(key) else {
-            unreachable!()
-        };
-        row as u16
-    }
-
     // Draws a number of the key, reserves and spends it.
     fn draw_and_reserve(
         &self,
@@ -57,7 +43,7 @@ impl<O: Site> Unit<O> {
         ensures seen { IsSeen (needs.Number key) result held.old.book held.new.book (view worker.old)
             (view worker.new) }
     {
-        let row = self.row_in(held, key);
+        let row = held.book.row_in(key);
         let ticket = match self.draw_below(worker, row, key.end()) {
             Ok(ticket) => ticket,
             Err(number) => return Ok(Seen::Exhausted(number)),
@@ -88,11 +74,11 @@ impl<O: Site> Unit<O> {
         match need {
             Need::Nothing => Ok(Seen::Nothing),
             Need::Look(key) => {
-                let row = self.row_in(held, key);
+                let row = held.book.row_in(key);
                 Ok(Seen::Word(self.counters.raise_next(worker, held, row, 1)))
             }
             Need::Raise(key, number) => {
-                let row = self.row_in(held, key);
+                let row = held.book.row_in(key);
                 Ok(Seen::Word(self.counters.raise_next(worker, held, row, number)))
             }
             Need::Number(key) => self.draw_and_reserve(worker, held, key),

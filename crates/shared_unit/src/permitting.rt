@@ -1,5 +1,5 @@
 //! Permits, as the holder of the turn gives them.
-ghost use Rattle.std.specs.Prelude.{◌≡◌, ℕ};
+ghost use Rattle.std.specs.Prelude.{ℕ};
 ghost use Rattle.counter_table.specs.declared.view.Turn.{Turn};
 ghost use Rattle.counter_table.specs.Worker.{view, KeepsNumbers};
 ghost use Rattle.unit_book.specs.Book.{BookView, IsKept};
@@ -11,9 +11,9 @@ use crate::permit::{Permit, PermitReply};
 use crate::shelf::Shelf;
 use crate::unit::{Unit, Worker};
 use counter_table::Counted;
+use frame_checks::ChannelBinding;
 use sdls_outside::Site;
 use std::sync::Wait;
-use unit_plan::Plan;
 
 /// Law: a permit that is true for a worker stays true while what the worker knows grows.
 pub fn permits_stay()
@@ -21,13 +21,7 @@ pub fn permits_stay()
 {}
 
 /// What the held book permits for a frame.
-pub(crate) fn permit_in<O: Site>(
-    plan: &Plan,
-    shelf: &Shelf<O>,
-    link: u8,
-    clear: &[u8],
-) -> PermitReply
-    requires { plan.now ≡ shelf.now.plan }
+pub(crate) fn permit_in<O: Site>(shelf: &Shelf<O>, link: u8, clear: &[u8]) -> PermitReply
     ensures kept { IsKept O.told shelf.now }
     ensures permits { Permits link clear.now result shelf.now }
 {
@@ -35,17 +29,12 @@ pub(crate) fn permit_in<O: Site>(
     match shelf.binding(link, clear) {
         Err(fault) => PermitReply::Refused(fault, epoch),
         Ok(None) => PermitReply::Clear,
-        Ok(Some(binding)) => {
-            let Ok(on) = frame_checks::channel(plan, link, clear) else {
-                unreachable!()
-            };
-            let Some(channel) = on else { unreachable!() };
-            let Some(row) = shelf.row_of(binding.key) else {
-                unreachable!()
-            };
+        Ok(Some(found)) => {
+            let ChannelBinding { channel, binding } = found;
+            let row = shelf.row_in(binding.key);
             PermitReply::Permit(Permit {
                 binding,
-                row: row as u16,
+                row,
                 epoch,
                 channel,
                 link,
@@ -73,7 +62,7 @@ impl<O: Site> Unit<O> {
             × IsOfPermit self.now.plan permit clear.now) }
     {
         let held = self.counters.take(rt, worker);
-        let reply = permit_in(&self.plan, &held.book, link, clear);
+        let reply = permit_in(&held.book, link, clear);
         self.counters.give(worker, held);
         reply
     }

@@ -130,7 +130,7 @@ impl<O: Site> Unit<O> {
         ensures epoch { (view worker.new).turn.epoch ≡ (view worker.old).turn.epoch }
     {
         let mut held = self.counters.take(rt, worker);
-        match permit_in(&self.plan, &held.book, link, clear) {
+        match permit_in(&held.book, link, clear) {
             PermitReply::Refused(fault, epoch) => {
                 self.counters.give(worker, held);
                 Protected::Refused(fault, epoch)

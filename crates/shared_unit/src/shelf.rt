@@ -1,11 +1,13 @@
 //! The book in its place between the words.
-ghost use Rattle.std.specs.Prelude.{◌≡◌, ◌<◌, ◌↔◌, Ok, None, IsSome, IsNone, IfOk, IfSome, MatchResult, length};
+ghost use Rattle.std.specs.Prelude.{◌≡◌, ◌<◌, ◌↔◌, ℕ, Ok, Some, None, IsSome, IsNone, IfOk, IfSome, MatchResult};
+ghost use Rattle.std.specs.Prelude.{length};
 ghost use Rattle.sdls_base.specs.KeyId.{end_of};
+ghost use Rattle.sdls_base.specs.declared.TheConstants.{MOST_KEYS};
 ghost use Rattle.key_book.specs.KeyBook.{place_of};
 ghost use Rattle.unit_state.specs.State.{key_row};
 ghost use Rattle.frame_shield.specs.Binding.{IsBinding};
 ghost use Rattle.frame_checks.specs.Accepting.{LeavesOctets, field_in};
-ghost use Rattle.frame_checks.specs.ProtectingFrames.{IsSentClear, protect_check};
+ghost use Rattle.frame_checks.specs.ProtectingFrames.{IsSentClear, channel_check, protect_check, without_channel};
 ghost use Rattle.frame_checks.specs.Trying.{IsOpener, IsTried};
 ghost use Rattle.ep_core.specs.declared.need.Need.{Need};
 ghost use Rattle.ep_core.specs.Seen.{MeetsNeed};
@@ -20,8 +22,8 @@ ghost use Rattle.shared_unit.specs.Told.{known_of_book};
 
 use counter_table::Counted;
 use ep_core::{Need, Reply};
-use frame_checks::{OpenReply, Opener};
-use frame_shield::{Binding, Opened, ShieldFault};
+use frame_checks::{ChannelBinding, OpenReply, Opener};
+use frame_shield::{Opened, ShieldFault};
 use sdls_base::{KeyId, NoMemory, Seen};
 use sdls_outside::Site;
 use std::alloc::{AllocFailed, Global};
@@ -106,16 +108,28 @@ impl<O: Site> Shelf<O> {
         self.book.count()
     }
 
-    pub(crate) fn row_of(&self, key: KeyId) -> Option<usize>
-        ensures { result ≡ place_of self.now.state.keys key }
+    /// The row of a key that the book has.
+    pub(crate) fn row_in(&self, key: KeyId) -> u16
+        requires there { (row : ℕ) × (place_of self.now.state.keys key ≡ Some row) }
+        ensures row { place_of self.now.state.keys key ≡ Some result }
+        ensures below { result < MOST_KEYS }
     {
-        self.book.row_of(key)
+        let Some(row) = self.book.row_of(key) else {
+            unreachable!()
+        };
+        row as u16
     }
 
-    pub(crate) fn binding(&self, link: u8, clear: &[u8]) -> Result<Option<Binding>, ShieldFault>
-        ensures checked { result ≡ protect_check self.now.plan self.now.state link clear.now }
+    pub(crate) fn binding(
+        &self,
+        link: u8,
+        clear: &[u8],
+    ) -> Result<Option<ChannelBinding>, ShieldFault>
+        ensures checked { without_channel result ≡ protect_check self.now.plan self.now.state link clear.now }
         ensures clear { (result ≡ Ok None) ↔ IsSentClear self.now.plan link clear.now }
-        ensures binding { IfOk result (λ found. IfSome found IsBinding) }
+        ensures channel { IfOk result (λ answer. IfSome answer
+            (λ found. channel_check self.now.plan link clear.now ≡ Ok (Some found.channel))) }
+        ensures binding { IfOk result (λ answer. IfSome answer (λ found. IsBinding found.binding)) }
         ensures kept { IsKept O.told self.now }
     {
         frame_checks::binding(self.book.plan(), self.book.state(), link, clear)

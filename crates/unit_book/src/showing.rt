@@ -71,6 +71,9 @@ impl<O: Site> Book<O> {
         ensures checked { result ≡ protect_check self.entry.now.plan self.entry.now.state link clear.now }
         ensures binding { IfOk result (λ found. IfSome found IsBinding) }
     {
-        frame_checks::binding(&self.plan, &self.state, link, clear)
+        match frame_checks::binding(&self.plan, &self.state, link, clear)? {
+            Some(found) => Ok(Some(found.binding)),
+            None => Ok(None),
+        }
     }
 }

@@ -1,26 +1,34 @@
-use Rattle.std.proofs.Common.{◌≡◌, Ok, Some, None, Option, sym, ap, ◌∙◌}
-use Rattle.frame_shield.specs.declared.binding.Binding.{Binding}
-use Rattle.frame_checks.specs.ProtectingFrames.{Answer, protect_check}
-use Rattle.shared_unit.proofs.Checks.{bound_channel, bound_there, clear_channel}
+use Rattle.std.proofs.Common.{◌≡◌, Ok, Some, None, Option, Result, sym, ap, ◌∙◌}
+use Rattle.frame_shield.specs.declared.protecting_frames.ShieldFault.{ShieldFault}
+use Rattle.frame_checks.specs.declared.protecting_frames.ChannelBinding.{ChannelBinding}
+use Rattle.frame_checks.specs.ProtectingFrames.{protect_check, without_channel}
+use Rattle.shared_unit.proofs.Checks.{bound_there, clear_channel}
 use Rattle.shared_unit.proofs.Places.{there_place}
 use Rattle.shared_unit.proofs.permitting.permit_in.Goals as goal
 
-pub unreachable-requires-in_default-row_of : goal.unreachable-requires-in_default-row_of
-unreachable-requires-in_default-row_of g c =
-    let b : Binding = c.in-Ok-Some.binding in
+abbrev Found : Type 0
+Found = Result (Option ChannelBinding) ShieldFault
+
+abbrev on : Option ChannelBinding → Found
+on found = Ok found
+
+pub row_in-row-requires : goal.row_in-row-requires
+row_in-row-requires g c =
     let plan = c.args.shelf.now.plan in
     let state = c.args.shelf.now.state in
-    let bound : protect_check plan state c.args.link c.args.clear.now ≡ Ok (Some b) =
-    sym c.binding.ensures.checked ∙ c.in-Ok-Some.is ∙ ap (λ (o : Option Binding). let a : Answer = Ok o in
-    a) c.in-Ok-Some.field-0-is in
-    let on = bound_channel plan state c.args.link c.args.clear.now b bound in
-    let row = there_place state.keys b.key (bound_there plan state c.args.link c.args.clear.now on.0 b on.1 bound) in
-    c.in_default-row_of.not-Some row.0 (c.row_of.ensures ∙ row.1)
+    let found : ChannelBinding = c.in-Ok-Some.found in
+    let is : c.binding.result ≡ on (Some found) = c.in-Ok-Some.is ∙ ap on c.in-Ok-Some.field-0-is in
+    let bound : protect_check plan state c.args.link c.args.clear.now ≡ Ok (Some found.binding) =
+    sym c.binding.ensures.checked ∙ ap without_channel is in
+    record {
+      there = there_place state.keys found.binding.key
+          (bound_there plan state c.args.link c.args.clear.now found.channel found.binding
+          (rw is at c.binding.ensures.channel) bound);
+    }
 
 pub returns-in-Ok-None-clause-permits : goal.returns-in-Ok-None-clause-permits
 returns-in-Ok-None-clause-permits g c =
-    let none : c.binding.result ≡ Ok None =
-    c.in-Ok-None.is ∙ ap (λ (o : Option Binding). let a : Answer = Ok o in a) c.in-Ok-None.field-0-is in (
+    let none : c.binding.result ≡ on None = c.in-Ok-None.is ∙ ap on c.in-Ok-None.field-0-is in (
       clear_channel c.args.shelf.now.plan c.args.link c.args.clear.now (c.binding.ensures.clear.0 none),
-      sym c.binding.ensures.checked ∙ none,
+      sym c.binding.ensures.checked ∙ ap without_channel none,
     )
