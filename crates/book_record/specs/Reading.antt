@@ -73,7 +73,7 @@ AreItems (suc count) at octets = IsItem at octets × AreItems count (behind_item
 abbrev pub channels_at : ℕ → List ℕ → List ℕ
 channels_at at octets = take (octet_at at octets) (drop (at + 1) octets)
 
--- ---- the change that a body of each kind tells
+-- ---- the change that a body of each kind says
 
 unfoldable pub change_at : Kind → List ℕ → Change
 change_at kinds.Marks octets = Marks (word_at 3 octets) (number_at 5 octets) (number_at 13 octets)

@@ -63,7 +63,7 @@ impl Data {
         self.put(&n.to_be_bytes());
     }
 
-    /// Puts octets, and zeros behind them up to so many.
+    /// Writes octets, and zeros behind them up to so many.
     pub(crate) fn put_padded(&mut self, field: &[u8], width: usize)
         requires fits { length field.now ≤ width }
         requires width { width ≤ MOST_PADDED }

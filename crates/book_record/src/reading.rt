@@ -157,7 +157,7 @@ fn set_window(body: &[u8]) -> Result<Change, RecordError>
     })
 }
 
-/// The change that a body of a kind tells, whatever its length says, and whatever stands behind its data.
+/// The change that a body of a kind says, whatever its length says, and whatever stands behind its data.
 fn change(alloc: Global, kind: Kind, body: &[u8]) -> Result<Change, RecordError>
     requires { length body.now ≡ BODY_LENGTH }
     ensures { Judges result (MayStand kind body.now) (change_at kind body.now) }

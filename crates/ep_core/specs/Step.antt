@@ -90,7 +90,7 @@ composed device master held number clear =
     let sealed = gcm_seal held.bytes vector (front master (length clear)) clear in
     replies.Compose master vector sealed.0 sealed.1
 
--- the states of keys, as an inventory tells them
+-- the states of keys, as an inventory says them
 abbrev pub IsInventoryOf : State → ℕ → ℕ → Change × Reply → Type 0
 IsInventoryOf state first last step = (found : Listing) × IsInventory state.keys first last found
     × (step ≡ telling (replies.Inventory found.total found.rows))

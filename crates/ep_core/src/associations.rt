@@ -13,7 +13,7 @@ use sa_book::{SaRefusal, SaRow};
 use sdls_base::{KeyId, NewSa, SaState, Spi};
 use unit_state::{State, least_with};
 
-/// What the book refuses of an association, and of a key where the command names one, as a reply tells it.
+/// What the book refuses of an association, and of a key where the command names one, as a reply says it.
 fn as_refusal(spi: Spi, key: Option<KeyId>, refusal: Option<SaRefusal>) -> Option<Refusal>
     ensures { result ≡ from_associations spi key refusal }
 {

@@ -35,7 +35,7 @@ fn octets_of(state: &State, key: KeyId) -> &[u8]
     }
 }
 
-/// Puts a key: its identifier, how many octets it has, and these.
+/// Writes a key: its identifier, how many octets it has, and these.
 fn put_item(text: &mut Vec<u8>, key: KeyId, bytes: &[u8]) -> Result<(), NoMemory>
     requires { length bytes.now ≤ 32 }
     ensures { OnOk result (text.new.items

@@ -11,7 +11,7 @@ use key_book::KeyRefusal;
 use sdls_base::{KeyItems, KeyList, KeyState, NoMemory};
 use unit_state::State;
 
-/// What the book refuses of keys, as a reply tells it.
+/// What the book refuses of keys, as a reply says it.
 fn as_refusal(refusal: Option<KeyRefusal>) -> Option<Refusal>
     ensures { result ≡ from_keys refusal }
 {

@@ -14,7 +14,7 @@ pub enum Reply {
         key: Option<KeyId>,
         /// The number that was used, or 0.
         number: u64,
-        /// The message that tells it.
+        /// The message that says it.
         pdu: ReplyOctets,
     },
     /// The command was refused, and nothing changed.

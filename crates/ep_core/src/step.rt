@@ -1,4 +1,4 @@
-//! The parts of a step: a change with the reply that tells it.
+//! The parts of a step: a change with the reply that says it.
 
 ghost use Rattle.std.specs.Prelude.{◌≡◌, IfOk};
 ghost use Rattle.ep_codec.specs.ReplyPdu.{IsInBounds, reply_octets};

@@ -11,7 +11,7 @@ use Rattle.frame_checks.specs.declared.open_reply.OpenReply.{OpenReply}
 use Rattle.frame_checks.specs.Header.{HasRoom, channel_of}
 use Rattle.frame_checks.specs.OpeningFrames.{association_in, frame_checks}
 
--- a check of the frame, before those of its association, tells the reply
+-- a check of the frame, before those of its association, gives the reply
 pub record IsRefusedBefore (plan : PlanLines) (state : State) (link : ℕ) (line : Link) (frame : List ℕ)
     (reply : OpenReply) : Type 0 where
   pub room : List ℕ

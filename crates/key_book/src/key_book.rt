@@ -182,7 +182,7 @@ impl KeyBook {
         self.table.rows.as_slice()
     }
 
-    /// Puts a row last. Rows put so into an empty book, in order, make an equal book.
+    /// Writes a row last. Rows put so into an empty book, in order, make an equal book.
     pub fn add_row(&mut self, row: KeyRow) -> Result<(), NoMemory>
         requires { MayFollow self.old row }
         ensures added { OnOk result (self.new ≡ self.old ++ row ∷ []) }

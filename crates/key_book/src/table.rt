@@ -146,7 +146,7 @@ impl Table {
         self.by_front.reserve(more)
     }
 
-    /// Puts a row last. Room for it was reserved.
+    /// Writes a row last. Room for it was reserved.
     fn push_reserved(&mut self, row: KeyRow)
         requires indexed { IsIndexed self.old }
         requires room { HasRoom 1 self.old }
@@ -161,7 +161,7 @@ impl Table {
         self.rows.push_reserved(row);
     }
 
-    /// Puts a row last, or leaves all as it was.
+    /// Writes a row last, or leaves all as it was.
     pub(crate) fn push(&mut self, row: KeyRow) -> Result<(), NoMemory>
         requires indexed { IsIndexed self.old }
         requires few { length self.old.rows.items < MOST_KEYS }
@@ -174,7 +174,7 @@ impl Table {
         Ok(())
     }
 
-    /// Puts the rows of loaded keys last, or leaves all as it was.
+    /// Writes the rows of loaded keys last, or leaves all as it was.
     pub(crate) fn append(&mut self, items: &[KeyItem]) -> Result<(), NoMemory>
         requires indexed { IsIndexed self.old }
         requires lengths { All (λ item. IsKeyLength (length item.bytes)) items.now }

@@ -1,7 +1,7 @@
 //! The state of a space link security unit (CCSDS 355.0-B-2 and 355.1-B-1): its keys, its security associations, and
 //! the changes that commands, frames and reserves make of them.
 //!
-//! Read `specs/Applied.antt` first: what each change makes of a state. `State::allows` tells whether a state allows a
+//! Read `specs/Applied.antt` first: what each change makes of a state. `State::allows` says whether a state allows a
 //! change, and `State::apply` makes it. Nothing here decides on commands, and nothing is stored.
 #![tactic(auto)]
 
