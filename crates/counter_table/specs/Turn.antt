@@ -25,6 +25,7 @@ no_turn = record {
   filled = false;
   turns = 0;
   epoch = 0;
+  loads = 0;
   known = unknown;
   made = [];
   one = unknown;
@@ -53,9 +54,13 @@ giving book v =
 abbrev pub learning : List ℕ → Turn → Turn
 learning marks v = record v { known = record v.known { marks = marks } }
 
--- after the word `epoch` was loaded
+-- after so many loads of the word `epoch`, of which the last found this one
+abbrev pub loading : ℕ → ℕ → Turn → Turn
+loading count epoch v = record v { epoch = epoch; loads = v.loads + count }
+
+-- after the word `epoch` was loaded, once
 abbrev pub seeing : ℕ → Turn → Turn
-seeing epoch v = record v { epoch = epoch }
+seeing epoch v = loading 1 epoch v
 
 -- after the word `epoch` was turned on
 abbrev pub turning : Turn → Turn
@@ -72,6 +77,7 @@ merged v w =
       filled = v.filled || w.filled;
       turns = v.turns + w.turns;
       epoch = max v.epoch w.epoch;
+      loads = v.loads + w.loads;
       made = v.made ++ w.made;
       one = v.known;
       other = w.known;

@@ -83,6 +83,8 @@ pub struct Turn {
     pub turns: u64,
     /// The word `epoch` that it loaded last.
     pub epoch: u64,
+    /// How often it loaded that word.
+    pub loads: u64,
     /// What it knew of the book last. The marks count while it holds the turn.
     pub known: Known,
     /// The places of the log that it made.

@@ -23,7 +23,7 @@ use Rattle.counter_table.specs.declared.view.Opening.{Opening}
 use Rattle.counter_table.specs.declared.view.Turn.{Turn}
 use Rattle.counter_table.specs.declared.view.View.{View}
 use Rattle.counter_table.specs.Numbers.{top}
-use Rattle.counter_table.specs.Turn.{epoch_seen, seeing}
+use Rattle.counter_table.specs.Turn.{epoch_seen, loading}
 use Rattle.run_promise.specs.Answers.{Told, plain, numbered, fault_told, unbound_told, Uses}
 use Rattle.run_promise.specs.History.{drawers}
 use Rattle.run_promise.specs.Fits.{Fits, FitsKind, IsBound, CanAppend, CanReserve, IsUnmarked, MayAppend, state_after}
@@ -42,7 +42,7 @@ use Rattle.shared_unit.specs.Protecting.{FailsAt, Funds, IsDrawnAndProtected, Is
 use Rattle.shared_unit.specs.Protecting.{MayTakeTurn, Rests, RunsOutUnder, TakesTurn}
 use Rattle.shared_unit.specs.Told.{entry_count}
 use Rattle.shared_unit.proofs.Checks.{bound_check}
-use Rattle.shared_unit.proofs.Passing.{reserves_changes}
+use Rattle.shared_unit.proofs.Passing.{none_looks, reserves_changes}
 use Rattle.run_promise.specs.Call.{Begin}
 use Rattle.law_workers.specs.Views.{IsBetween, IsRow, entries_in}
 use Rattle.run_promise.specs.Deed.{deed_of, is_entered, is_protected, epoch_told}
@@ -105,7 +105,7 @@ module _ (told : Bool) (begin : Begin) (layout : Layout) (segment : ℕ) (task :
     };
     sparing = (omega arith, λ rose low all. rose);
     opening = refl;
-    epochs = l.later;
+    epochs = l.loads.later;
     low = omega arith;
     log_is = sym (append-nil v.turn.known.log);
     made = sym (append-nil v.turn.made);
@@ -129,19 +129,19 @@ module _ (told : Bool) (begin : Begin) (layout : Layout) (segment : ℕ) (task :
     task = task;
     old_view = v;
     new_view = w;
-    taken = seeing t.epoch v.turn;
+    taken = loading t.count t.epoch v.turn;
     found = t.found;
     given = t.given;
     began = began;
     free = free;
     visits = t.visits;
     known = refl;
-    seen = t.later;
+    seen = t.loads.later;
     pass = λ log es p. record {
       earlier = p.earlier;
       sparing = p.sparing;
       opening = p.opening;
-      epochs = (let a = t.later in let b = p.epochs in omega arith);
+      epochs = (let a = t.loads.later in let b = p.epochs in omega arith);
       low = p.low;
       log_is = p.log_is;
       made = p.made;
@@ -237,19 +237,20 @@ module _ (told : Bool) (begin : Begin) (layout : Layout) (segment : ℕ) (task :
           let seen = used.trusted.seen in
           let loaded : w.turn.epoch ≡ t.epoch = ap (λ (k : Turn). k.epoch) t.visits.takes.turn in
           let follows = t.visits.takes.follows.epoch in
-          let changes = changes_are told begin t.found t.given (seeing t.epoch v.turn) w.turn began free t.visits in
+          let changes = changes_are told begin t.found t.given (loading t.count t.epoch v.turn) w.turn began free
+          t.visits in
           let counted : t.found.changes ≡ epoch_after (take t.found.standing (entries_of t.found.log)) =
           t.visits.found_kept.epoch in
           let same : epoch_after (take t.found.standing (entries_in w))
           ≡ epoch_after (take t.found.standing (entries_of t.found.log)) =
-          ap epoch_after (standing_found told begin t.found t.given (seeing t.epoch v.turn) w.turn began free
+          ap epoch_after (standing_found told begin t.found t.given (loading t.count t.epoch v.turn) w.turn began free
           t.visits) in
           omega arith
 
       place_found : place_of t.found.state.keys p.binding.key ≡ Some p.row
       place_found =
           ap (λ (s : State). place_of s.keys p.binding.key)
-          (led_known told begin t.found t.given (seeing t.epoch v.turn) w.turn began free t.visits)
+          (led_known told begin t.found t.given (loading t.count t.epoch v.turn) w.turn began free t.visits)
           ∙ row_before begin.start (entries_in w) t.found.standing p.epoch p.binding.key p.row reached_found place_then
 
       -- the frame can need a reserve of the number
@@ -361,7 +362,7 @@ module _ (told : Bool) (begin : Begin) (layout : Layout) (segment : ℕ) (task :
       subst (λ (n : ℕ). Handled layout begin v w (task ∷ []) (deed_of segment task (answer_of fields n) ∷ []))
       (sym zero_is)
       (looks_finish [] [] [] [] (counted_none begin task v w numbers)
-      (record { epoch = v.turn.epoch; later = omega arith; is = turn })
+      (none_looks v.turn w.turn turn)
       (answer_of fields 0)
       (by_protect (answer_of fields 0)
       (inr (inl (record { reached = omega arith; told = reply; epoch_looked_at = inl refl }))))

@@ -26,7 +26,7 @@ use Rattle.counter_table.specs.declared.view.Turn.{Turn}
 use Rattle.counter_table.specs.declared.view.View.{View}
 use Rattle.counter_table.specs.Known.{Earlier}
 use Rattle.counter_table.specs.Numbers.{top, arming}
-use Rattle.counter_table.specs.Turn.{epoch_seen, places, seeing}
+use Rattle.counter_table.specs.Turn.{epoch_seen, loading, places}
 use Rattle.frame_shield.specs.Binding.{clear_fault}
 use Rattle.frame_checks.specs.ProtectingFrames.{channel_check}
 use Rattle.run_promise.specs.History.{draws}
@@ -46,6 +46,7 @@ use Rattle.shared_unit.specs.Numbers.{Draws, ComesBack}
 use Rattle.shared_unit.specs.Protecting.{CoversIfTaken, Funds, IsDrawnAndProtected, IsProtectStep, IsRefusedAt, IsUsed}
 use Rattle.shared_unit.specs.Protecting.{Looks, MayTakeTurn, Rests, RunsOutUnder, TakesTurn}
 use Rattle.shared_unit.specs.Told.{known_of_book}
+use Rattle.shared_unit.proofs.Passing.{none_looks}
 use Rattle.shared_unit.proofs.Steps.{earlier_again}
 use Rattle.run_promise.specs.Call.{Begin}
 use Rattle.law_workers.specs.Views.{entries_in, log_of}
@@ -133,7 +134,7 @@ module _ (told : Bool) (begin : Begin) (layout : Layout) (segment : ℕ) (task :
         → t.given.log ≡ t.found.log ++ lines_of es → Turned t.found.log es v.turn w.turn
     by_lines done t es is =
         (call_of told begin layout segment task v w began free protects done t).pass t.found.log es
-        (turned told begin t.found t.given (seeing t.epoch v.turn) w.turn began free t.visits es is)
+        (turned told begin t.found t.given (loading t.count t.epoch v.turn) w.turn began free t.visits es is)
 
     none_left : (found given : BookView) → given ≡ found → given.log ≡ found.log ++ lines_of []
     none_left found given same = ap (λ (b : BookView). b.log) same ∙ sym (append-nil found.log)
@@ -143,7 +144,7 @@ module _ (told : Bool) (begin : Begin) (layout : Layout) (segment : ℕ) (task :
         → w.numbers.spent ≡ v.numbers.spent ++ spent
         → Passes begin v w t.found.log es (by_lines done t es is) spent
     passes done t es is spent spent_is =
-        takes_pass told begin t.found t.given (seeing t.epoch v.turn) v w began free t.visits es
+        takes_pass told begin t.found t.given (loading t.count t.epoch v.turn) v w began free t.visits es
         (by_lines done t es is) spent spent_is
         (covers_spent done t (places (length t.found.log) (length es)) (by_lines done t es is).made)
 
@@ -172,7 +173,8 @@ module _ (told : Bool) (begin : Begin) (layout : Layout) (segment : ℕ) (task :
 
     was_clean : (done : BookView → BookView → Type 0) (t : TakesTurn told done v.turn w.turn) → FoundClean done t
         → IsClean v
-    was_clean done t clean = clean_found told begin t.found t.given (seeing t.epoch v.turn) v w began free t.visits refl
+    was_clean done t clean = clean_found told begin t.found t.given (loading t.count t.epoch v.turn) v w began free
+        t.visits refl
         clean
 
     stood_v : (done : BookView → BookView → Type 0) (t : TakesTurn told done v.turn w.turn) → FoundClean done t
@@ -259,7 +261,8 @@ module _ (told : Bool) (begin : Begin) (layout : Layout) (segment : ℕ) (task :
 
       stands : (done : BookView → BookView → Type 0) (t : TakesTurn told done v.turn w.turn) → FoundClean done t
           → Stands begin t.found
-      stands done t clean = stands_found told begin t.found t.given (seeing t.epoch v.turn) v w began free t.visits
+      stands done t clean = stands_found told begin t.found t.given (loading t.count t.epoch v.turn) v w began free
+          t.visits
           clean
 
       -- the state that was found, and the reserve in it, where the log that was found is the one that was known
@@ -277,7 +280,7 @@ module _ (told : Bool) (begin : Begin) (layout : Layout) (segment : ℕ) (task :
           p.binding.key n
       reserve_here done t n clean same level =
           ap (λ (q : PlanLines). reserve_of q t.found.state p.binding.key n)
-          (plan_is told begin t.found t.given (seeing t.epoch v.turn) w.turn began free t.visits)
+          (plan_is told begin t.found t.given (loading t.count t.epoch v.turn) w.turn began free t.visits)
           ∙ ap (λ (st : State). reserve_of begin.plan st p.binding.key n) (state_here done t clean same level)
 
       done : (out : List ℕ) (d : Done) → IsDrawnAndProtected p task.octets out d v w
@@ -390,7 +393,8 @@ module _ (told : Bool) (begin : Begin) (layout : Layout) (segment : ℕ) (task :
                   (reserve_of t.found.plan t.found.state p.binding.key d.number ∷ [])
                   (ap (λ (b : BookView). b.log) made.1.1.1.is))
                   here (level.all (was_clean (Funds p.binding.key d.number) t made.1.1.0.0))
-                  (given_entered told begin t.found t.given (seeing t.epoch v.turn) v w began free t.visits t.found
+                  (given_entered told begin t.found t.given (loading t.count t.epoch v.turn) v w began free t.visits
+                  t.found
                   (reserve_of t.found.plan t.found.state p.binding.key d.number) made.1.0 made.1.1.1
                   (t.visits.found_kept.whole made.1.1.0.0)))
                   (λ here. by_funds (reserve_of t.found.plan t.found.state p.binding.key d.number ∷ []) refl opening
@@ -486,13 +490,14 @@ module _ (told : Bool) (begin : Begin) (layout : Layout) (segment : ℕ) (task :
             → AnsweredExactly begin segment v w task (fault_answer other position)
         by_case (unmarked, inl (is_barred, same)) =
             ends [] (none_left k.found k.given same) tt
-            (λ faulty here all. same_stands told begin k.found k.given (seeing k.epoch v.turn) v w began free k.visits
+            (λ faulty here all. same_stands told begin k.found k.given (loading k.count k.epoch v.turn) v w began free
+            k.visits
             same refl here all)
             (λ is.
             let full = subst (IsBarred k.found) is is_barred in (
               omega arith,
               was_clean (Reserves p.binding.key n (Err other)) k full.0,
-              given_as told begin k.found k.given (seeing k.epoch v.turn) v w began free k.visits k.found same
+              given_as told begin k.found k.given (loading k.count k.epoch v.turn) v w began free k.visits k.found same
                   (k.visits.found_kept.whole full.0),
             )) (λ is. subst (IsBarred k.found) is is_barred)
         by_case (unmarked, inr (can, h)) = by_fault other refl h where
@@ -526,7 +531,7 @@ module _ (told : Bool) (begin : Begin) (layout : Layout) (segment : ℕ) (task :
         done p (subst (λ (q : PlanLines). IsUsed q task.link task.octets p w.turn) (sym planned_is) used) out d is turn
     protects_exactly plan kept out protecteds.Clear planned_is (sent_clear, numbers, same) =
         looks_finish Kept (moves_none begin v w numbers) [] (no_spent numbers)
-        (record { epoch = v.turn.epoch; later = omega arith; is = same }) (answer_of (plain CLEAR 0) 0)
+        (none_looks v.turn w.turn same) (answer_of (plain CLEAR 0) 0)
         (kept_tells (plain CLEAR 0) 0 (inl refl))
         (λ level backed all.
         let check : channel_check begin.plan task.link task.octets ≡ Ok None =
@@ -547,7 +552,7 @@ module _ (told : Bool) (begin : Begin) (layout : Layout) (segment : ℕ) (task :
               → AnsweredExactly begin segment v w task (Some (answer_of (fault_told fault) epoch))
           by_refusal (inl (refuses, zero_is, same)) =
               looks_finish Kept (moves_none begin v w numbers) [] (no_spent numbers)
-              (record { epoch = v.turn.epoch; later = omega arith; is = same })
+              (none_looks v.turn w.turn same)
               (answer_of (fault_told fault) epoch) (kept_tells (fault_told fault) epoch (fault_code fault))
               (λ level backed all.
               let check : channel_check begin.plan task.link task.octets ≡ Err fault =
@@ -625,8 +630,9 @@ pub covers_taken : (told : Bool) (begin : Begin) (v w : View)
 covers_taken told begin v w began free (inl l) done t =
     let one : w.turn.turns ≡ v.turn.turns = ap (λ (k : Turn). k.turns) l.is in
     let two : w.turn.turns ≡ v.turn.turns + 1 = ap (λ (k : Turn). k.turns) t.visits.takes.turn in absurd (omega arith)
-covers_taken told begin v w began free (inr (epoch, low, h)) done t =
-    covers told begin v (record v { turn = seeing epoch v.turn }) w began free refl low refl refl earlier h
+covers_taken told begin v w began free (inr (count, epoch, loads, h)) done t =
+    covers told begin v (record v { turn = loading count epoch v.turn }) w began free refl loads.later refl refl earlier
+    h
   where
     earlier : Earlier v.turn.known w.turn.known
     earlier = subst (λ (k : Turn). Earlier v.turn.known k.known) (sym h.visits.takes.turn)

@@ -1,6 +1,6 @@
 -- The numbers spent before a take are below the marks of the book found, as it is seen from before what led to the
 -- take.
-use Rattle.std.proofs.Common.{◌≡◌, ◌⊎◌, inl, inr, ℕ, ◌≤◌, Bool, List, ap, subst, ◌∙◌, arith}
+use Rattle.std.proofs.Common.{◌≡◌, ◌⊎◌, inl, inr, ℕ, ◌≤◌, Bool, List, ap, subst, sym, ◌∙◌}
 use Rattle.sdls_base.specs.Numbers.{times, once_below}
 use Rattle.sdls_base.specs.declared.TheConstants.{MOST_KEYS}
 use Rattle.counter_table.specs.declared.view.Known.{Known}
@@ -13,7 +13,7 @@ use Rattle.shared_unit.specs.Told.{known_of_book}
 use Rattle.shared_unit.specs.Turn.{FindsCovered, Loads, Visits}
 use Rattle.shared_unit.specs.Numbers.{ComesBack}
 use Rattle.shared_unit.specs.Protecting.{CoversIfTaken}
-use Rattle.shared_unit.proofs.Passing.{loads_looks, none_looks}
+use Rattle.shared_unit.proofs.Passing.{loaded_once, loading_none, loads_looks, none_looks, not_loaded}
 
 -- a ticket that comes back spends no number
 pub back_spent : (row end n : ℕ) (v w : Numbers) → ComesBack row end n v w → w.spent ≡ v.spent
@@ -36,8 +36,9 @@ module _ (told : Bool) where
       → FindsCovered told u w
       → CoversIfTaken told v w
   covers_after e v u w loads same finds = inr (
+    1,
     e,
-    (let later = loads.later in omega arith),
+    loaded_once e v.turn u.turn loads,
     record {
       found = finds.found;
       given = finds.given;
@@ -50,12 +51,14 @@ module _ (told : Bool) where
       → ((u.turn ≡ v.turn) ⊎ ((epoch : ℕ) × Loads epoch v.turn u.turn))
       → FindsCovered told u w → CoversIfTaken told v w
   covers_on v u w numbers (inl same) finds = inr (
+    0,
     v.turn.epoch,
-    omega arith,
+    not_loaded v.turn,
     record {
       found = finds.found;
       given = finds.given;
-      visits = subst (λ (t : Turn). Visits told finds.found finds.given t w.turn) same finds.visits;
+      visits = subst (λ (t : Turn). Visits told finds.found finds.given t w.turn) (same ∙ sym (loading_none v.turn))
+          finds.visits;
       covered = covers_before v.numbers u.numbers (known_of_book finds.found) (ap (λ (k : Numbers). k.spent) numbers)
           finds.covered;
     },

@@ -1,12 +1,12 @@
 -- The parts of a call, put together: what became of the turn.
-use Rattle.std.proofs.Common.{◌≡◌, ◌⊎◌, inl, inr, ℕ, ◌<◌, ◌≤◌, Bool, [], Option, Some, None, Result, Ok, Err, refl, sym}
+use Rattle.std.proofs.Common.{◌≡◌, ◌⊎◌, inl, inr, ℕ, ◌+◌, ◌<◌, ◌≤◌, Bool, [], Option, Some, None, Result, Ok, Err, refl, sym}
 use Rattle.std.proofs.Common.{ap, subst, ◌∙◌, append-nil, arith}
 use Rattle.unit_plan.specs.PlanLines.{PlanLines}
 use Rattle.counter_table.specs.declared.view.Opening.{Opening}
 use Rattle.counter_table.specs.declared.view.Turn.{Turn}
 use Rattle.counter_table.specs.declared.counters.Counters.{Counters}
 use Rattle.counter_table.specs.declared.counters.Worker.{Worker}
-use Rattle.counter_table.specs.Turn.{epoch_seen, seeing}
+use Rattle.counter_table.specs.Turn.{epoch_seen, loading, seeing}
 use Rattle.counter_table.specs.Worker.{view, IsSame}
 use Rattle.unit_book.specs.declared.fault.BookFault.{BookFault}
 use Rattle.unit_book.specs.declared.fault.BookFault.TheVariants.{SiteFault, Stopped, SessionFull, NoMemory}
@@ -14,7 +14,7 @@ use Rattle.unit_book.specs.Book.{BookView, IsBarred, IsUnstored, CanEnter, Made}
 use Rattle.run_promise.specs.Numbers.{mark_of, reserve_of}
 use Rattle.shared_unit.specs.declared.permit.Permit.{Permit}
 use Rattle.shared_unit.specs.Told.{known_of_book}
-use Rattle.shared_unit.specs.Turn.{IsReady, Visits, KnowsMoreOfBook, Loads}
+use Rattle.shared_unit.specs.Turn.{IsReady, Visits, KnowsMoreOfBook, Loads, LoadsAtMostOnce}
 use Rattle.shared_unit.specs.Funding.{Reserves}
 use Rattle.shared_unit.specs.Protecting.{AddsReserve, Looks, MayTakeTurn, TakesTurn, TakesAtMostOnce, IsTrueIfKept}
 use Rattle.shared_unit.proofs.Steps.{takes_grows}
@@ -71,11 +71,34 @@ ready_kept counters plan one other ready same is = record {
   planned = ap (λ (t : Turn). t.known.opening.plan) is ∙ ready.planned;
 }
 
+-- ---- the epoch was loaded once, or not at all
+
+pub loaded_once : (e : ℕ) (v w : Turn) → Loads e v w → LoadsAtMostOnce 1 e v
+loaded_once e v w l = record { later = (let a = l.later in omega arith); once = inl refl }
+
+pub not_loaded : (v : Turn) → LoadsAtMostOnce 0 v.epoch v
+not_loaded v = record { later = omega arith; once = inr (refl, refl) }
+
+pub loading_none : (v : Turn) → loading 0 v.epoch v ≡ v
+loading_none v = ap (λ (n : ℕ). record v { loads = n }) (let same : v.loads + 0 ≡ v.loads = omega arith in same)
+
+-- where it was not loaded the worker knows what it knew
+none_loaded : (count epoch : ℕ) (v : Turn) → LoadsAtMostOnce count epoch v → count ≡ 0 → loading count epoch v ≡ v
+none_loaded count epoch v loads none = by_case loads.once where
+  by_case : (count ≡ 1) ⊎ ((count ≡ 0) × (epoch ≡ v.epoch)) → loading count epoch v ≡ v
+  by_case (inl one) = absurd (omega arith)
+  by_case (inr same) = ap (λ (e : ℕ). loading count e v) same.1 ∙ ap (λ (n : ℕ). loading n v.epoch v) none
+      ∙ loading_none v
+
 pub loads_looks : (e : ℕ) (v w : Turn) → Loads e v w → Looks v w
-loads_looks e v w l = record { epoch = e; later = (let a = l.later in omega arith); is = l.is }
+loads_looks e v w l = record { count = 1; epoch = e; loads = loaded_once e v w l; is = l.is }
 
 pub none_looks : (v w : Turn) → w ≡ v → Looks v w
-none_looks v w is = record { epoch = v.epoch; later = omega arith; is = is }
+none_looks v w is = record { count = 0; epoch = v.epoch; loads = not_loaded v; is = is ∙ sym (loading_none v) }
+
+looks_still : (v w : Turn) → Looks v w → w.loads ≡ v.loads → w ≡ v
+looks_still v w l still =
+    let more = ap (λ (k : Turn). k.loads) l.is in l.is ∙ none_loaded l.count l.epoch v l.loads (omega arith)
 
 module _ (told : Bool) where
   pub ready_after : {B : Type 0} (counters : Counters B) (plan : PlanLines) (one other : Worker B)
@@ -96,39 +119,56 @@ module _ (told : Bool) where
       → Visits told found given v w → done found given
       → TakesTurn told done v w
   visit_takes done found given v w visits does =
-      record { epoch = v.epoch; later = omega arith; found = found; given = given; visits = visits; does = does }
-
-  pub takes_after : (done : BookView → BookView → Type 0) (e : ℕ) (v u w : Turn) → Loads e v u → TakesTurn told done u w
-      → TakesTurn told done v w
-  takes_after done e v u w l t =
-      let q : TakesTurn told done (seeing e v) w = subst (λ (k : Turn). TakesTurn told done k w) l.is t in
       record {
-        epoch = q.epoch;
-        later = (let a = q.later in let b = l.later in omega arith);
-        found = q.found;
-        given = q.given;
-        visits = q.visits;
-        does = q.does;
+        count = 0;
+        epoch = v.epoch;
+        loads = not_loaded v;
+        found = found;
+        given = given;
+        visits = subst (λ (k : Turn). Visits told found given k w) (sym (loading_none v)) visits;
+        does = does;
       }
 
-  pub takes_on : (done : BookView → BookView → Type 0) (v u w : Turn) → ((u ≡ v) ⊎ ((epoch : ℕ) × Loads epoch v u))
-      → TakesTurn told done u w
+  pub loads_takes : (done : BookView → BookView → Type 0) (e : ℕ) (found given : BookView) (v u w : Turn) → Loads e v u
+      → Visits told found given u w → done found given
       → TakesTurn told done v w
-  takes_on done v u w (inl same) t = subst (λ (k : Turn). TakesTurn told done k w) same t
-  takes_on done v u w (inr l) t = takes_after done l.0 v u w l.1 t
+  loads_takes done e found given v u w l visits does =
+      record {
+        count = 1;
+        epoch = e;
+        loads = loaded_once e v u l;
+        found = found;
+        given = given;
+        visits = subst (λ (k : Turn). Visits told found given k w) l.is visits;
+        does = does;
+      }
 
-  pub may_after : (done : BookView → BookView → Type 0) (e : ℕ) (v u w : Turn) → Loads e v u → MayTakeTurn told done u w
-      → MayTakeTurn told done v w
-  may_after done e v u w l (inl look) =
-      let q : Looks (seeing e v) w = subst (λ (k : Turn). Looks k w) l.is look in
-      inl (record { epoch = q.epoch; later = (let a = q.later in let b = l.later in omega arith); is = q.is })
-  may_after done e v u w l (inr t) = inr (takes_after done e v u w l t)
+  -- the turn was taken, and the epoch not loaded
+  takes_still : (done : BookView → BookView → Type 0) (v w : Turn) (t : TakesTurn told done v w) → w.loads ≡ v.loads
+      → Visits told t.found t.given v w
+  takes_still done v w t still =
+      let more = ap (λ (k : Turn). k.loads) t.visits.takes.turn in
+      subst (λ (k : Turn). Visits told t.found t.given k w) (none_loaded t.count t.epoch v t.loads (omega arith))
+      t.visits
+
+  pub takes_on : (done : BookView → BookView → Type 0) (v u w : Turn) → ((u ≡ v) ⊎ ((epoch : ℕ) × Loads epoch v u))
+      → w.loads ≡ u.loads → TakesTurn told done u w
+      → TakesTurn told done v w
+  takes_on done v u w (inl same) still t = subst (λ (k : Turn). TakesTurn told done k w) same t
+  takes_on done v u w (inr l) still t =
+      loads_takes done l.0 t.found t.given v u w l.1 (takes_still done u w t still) t.does
 
   pub may_on : (done : BookView → BookView → Type 0) (v u w : Turn) → ((u ≡ v) ⊎ ((epoch : ℕ) × Loads epoch v u))
-      → MayTakeTurn told done u w
+      → w.loads ≡ u.loads → MayTakeTurn told done u w
       → MayTakeTurn told done v w
-  may_on done v u w (inl same) t = subst (λ (k : Turn). MayTakeTurn told done k w) same t
-  may_on done v u w (inr l) t = may_after done l.0 v u w l.1 t
+  may_on done v u w (inl same) still t = subst (λ (k : Turn). MayTakeTurn told done k w) same t
+  may_on done v u w (inr l) still (inl look) = inl (record {
+    count = 1;
+    epoch = l.0;
+    loads = loaded_once l.0 v u l.1;
+    is = looks_still u w look still ∙ l.1.is;
+  })
+  may_on done v u w (inr l) still (inr t) = inr (takes_on done v u w (inr l) still t)
 
   abbrev Once : BookView → BookView → Type 0
   Once found given = (key : ℕ) × AddsReserve told key found given
@@ -143,14 +183,11 @@ module _ (told : Bool) where
       → AddsReserve told key found given → TakesAtMostOnce told v w
   passes_served key found given v w s a = inr (visit_takes Once found given v w s (key, a))
 
-  pub passes_after : (e : ℕ) (v u w : Turn) → Loads e v u → TakesAtMostOnce told u w → TakesAtMostOnce told v w
-  passes_after e v u w l p = may_after Once e v u w l p
-
   pub passes_funded : (p : Permit) (n : ℕ) (result : Result ℕ BookFault) (v u w : Turn) (found given : BookView)
       → Loads p.epoch v u → Visits told found given u w → Reserves p.binding.key n result found given
       → TakesAtMostOnce told v w
   passes_funded p n result v u w found given l s r =
-      passes_after p.epoch v u w l (passes_served p.binding.key found given u w s (inr (n, result, r)))
+      inr (loads_takes Once p.epoch found given v u w l s (p.binding.key, inr (n, result, r)))
 
   looks_grows : (v w : Turn) → Looks v w → KnowsMoreOfBook v w
   looks_grows v w l = subst (λ (t : Turn). KnowsMoreOfBook v t) (sym l.is) (record {
@@ -165,13 +202,14 @@ module _ (told : Bool) where
     };
     sparing = (omega arith, λ rose low all. rose);
     opening = refl;
-    epoch = l.later;
+    epoch = l.loads.later;
   })
 
   pub passes_grows : (v w : Turn) → TakesAtMostOnce told v w → KnowsMoreOfBook v w
   passes_grows v w (inl look) = looks_grows v w look
   passes_grows v w (inr t) =
-      let g = takes_grows (known_of_book t.found) (known_of_book t.given) (seeing t.epoch v) w t.visits.takes in
+      let g = takes_grows (known_of_book t.found) (known_of_book t.given) (loading t.count t.epoch v) w
+      t.visits.takes in
       record {
         earlier = record {
           log = g.earlier.log;
@@ -184,13 +222,14 @@ module _ (told : Bool) where
         };
         sparing = g.sparing;
         opening = g.opening;
-        epoch = (let a = t.later in let b = g.epoch in omega arith);
+        epoch = (let a = t.loads.later in let b = g.epoch in omega arith);
       }
 
   pub kept_stays : (o : Option Permit) (v w : Turn) → TakesAtMostOnce told v w → IsTrueIfKept o v → IsTrueIfKept o w
   kept_stays None v w p k = k
   kept_stays (Some q) v w p k = permit_stays q v w (passes_grows v w p) k
 
-  pub passes_on : (v u w : Turn) → ((u ≡ v) ⊎ ((epoch : ℕ) × Loads epoch v u)) → TakesAtMostOnce told u w
+  pub passes_on : (v u w : Turn) → ((u ≡ v) ⊎ ((epoch : ℕ) × Loads epoch v u)) → w.loads ≡ u.loads
+      → TakesAtMostOnce told u w
       → TakesAtMostOnce told v w
-  passes_on v u w h p = may_on Once v u w h p
+  passes_on v u w h still p = may_on Once v u w h still p

@@ -35,7 +35,7 @@ use Rattle.shared_unit.proofs.Checks.{bound_check, refused_answer, unfit_answer}
 use Rattle.shared_unit.proofs.Kept.{IsLevel}
 use Rattle.shared_unit.proofs.Steps.{may_give, may_give_learned, visits, visits_learned}
 use Rattle.shared_unit.proofs.Using.{spends_uses, funded_uses}
-use Rattle.shared_unit.proofs.Passing.{loads_looks, may_on, reserves_changes, takes_after, takes_on, visit_takes}
+use Rattle.shared_unit.proofs.Passing.{loads_looks, loads_takes, may_on, reserves_changes, takes_on, visit_takes}
 
 -- a frame without its layout fails the last check, under a permit that is true
 pub fails_at : (plan : PlanLines) (p : Permit) (link : ℕ) (clear : List ℕ) (fault : ShieldFault) (epoch : ℕ) (w : Turn)
@@ -128,8 +128,8 @@ module _ (told : Bool) (p : Permit) (clear out : List ℕ) where
             back = 1;
             uses = subst (λ (n : ℕ). UsesNumber p.row n 1 v.numbers w.numbers) (sym funded.0) uses;
           },
-          inr (takes_after told (Funds p.binding.key d.number) p.epoch v.turn u.turn w.turn need.1
-              (visit_takes told (Funds p.binding.key d.number) funded.3.0 funded.3.1 u.turn w.turn visit funds)),
+          inr (loads_takes told (Funds p.binding.key d.number) p.epoch funded.3.0 funded.3.1 v.turn u.turn w.turn need.1
+              visit funds),
         ),
         omega arith,
       )
@@ -155,8 +155,8 @@ module _ (told : Bool) (p : Permit) (clear out : List ℕ) where
             t.1,
             need.3,
             inr (subst (λ (k : Numbers). ComesBack p.row (end_of p.binding.key) t.1 v.numbers k) (sym funded.0) need.4),
-            takes_after told (Reserves p.binding.key t.1 (Err fault)) p.epoch v.turn u.turn w.turn need.1
-                (visit_takes told (Reserves p.binding.key t.1 (Err fault)) found given u.turn w.turn visit funded.1.3),
+            loads_takes told (Reserves p.binding.key t.1 (Err fault)) p.epoch found given v.turn u.turn w.turn need.1
+                visit funded.1.3,
           ),
         ),
         omega arith,
@@ -308,9 +308,9 @@ module _ (told : Bool) (p : Permit) (clear out : List ℕ) where
 
   -- the same, as it is seen from before a load of the epoch
   under_from : (a : Protected) (v u w : View) → u.numbers ≡ v.numbers
-      → ((u.turn ≡ v.turn) ⊎ ((epoch : ℕ) × Loads epoch v.turn u.turn))
+      → ((u.turn ≡ v.turn) ⊎ ((epoch : ℕ) × Loads epoch v.turn u.turn)) → w.turn.loads ≡ u.turn.loads
       → IsUnder told p clear out a u w → IsUnder told p clear out a v w
-  under_from (answers.Done d) v u w same turn h = (
+  under_from (answers.Done d) v u w same turn still h = (
     record {
       fits = h.0.fits;
       protected = h.0.protected;
@@ -318,17 +318,17 @@ module _ (told : Bool) (p : Permit) (clear out : List ℕ) where
       back = h.0.back;
       uses = subst (λ (k : Numbers). UsesNumber p.row d.number h.0.back k w.numbers) same h.0.uses;
     },
-    may_on told (Funds p.binding.key d.number) v.turn u.turn w.turn turn h.1,
+    may_on told (Funds p.binding.key d.number) v.turn u.turn w.turn turn still h.1,
   )
-  under_from answers.Clear v u w same turn h = absurd h
-  under_from (answers.Refused fault epoch) v u w same turn h = (
+  under_from answers.Clear v u w same turn still h = absurd h
+  under_from (answers.Refused fault epoch) v u w same turn still h = (
     h.0,
     h.1,
     h.2 ∙ same,
     (let on = seen_on v.turn u.turn turn in let low = h.3 in omega arith),
-    may_on told Rests v.turn u.turn w.turn turn h.4,
+    may_on told Rests v.turn u.turn w.turn turn still h.4,
   )
-  under_from (answers.Exhausted key n epoch) v u w same turn h = (
+  under_from (answers.Exhausted key n epoch) v u w same turn still h = (
     (
       h.0.0,
       h.0.1,
@@ -336,9 +336,9 @@ module _ (told : Bool) (p : Permit) (clear out : List ℕ) where
       subst (λ (k : Numbers). RunsOut p.row (end_of key) n k w.numbers) same h.0.3,
       let on = seen_on v.turn u.turn turn in let low = h.0.4 in omega arith,
     ),
-    may_on told Rests v.turn u.turn w.turn turn h.1,
+    may_on told Rests v.turn u.turn w.turn turn still h.1,
   )
-  under_from (answers.Fault fault position) v u w same turn h = (
+  under_from (answers.Fault fault position) v u w same turn still h = (
     h.0,
     (let on = seen_on v.turn u.turn turn in let low = h.1 in omega arith),
     h.2,
@@ -347,7 +347,7 @@ module _ (told : Bool) (p : Permit) (clear out : List ℕ) where
       h.3.1,
       subst (λ (k : Numbers). Draws p.row (end_of p.binding.key) h.3.0 k w.numbers
           ⊎ ComesBack p.row (end_of p.binding.key) h.3.0 k w.numbers) same h.3.2,
-      takes_on told (Reserves p.binding.key h.3.0 (Err fault)) v.turn u.turn w.turn turn h.3.3,
+      takes_on told (Reserves p.binding.key h.3.0 (Err fault)) v.turn u.turn w.turn turn still h.3.3,
     ),
   )
 
@@ -377,16 +377,16 @@ module _ (told : Bool) where
   -- with a new one
   pub step_from : (plan : PlanLines) (link : ℕ) (clear out : List ℕ) (o : Option Permit) (a : Protected) (v u w : View)
       → u.numbers ≡ v.numbers
-      → ((u.turn ≡ v.turn) ⊎ ((epoch : ℕ) × Loads epoch v.turn u.turn)) → (channel : ℕ)
-      → channel_check plan link clear ≡ Ok (Some channel)
+      → ((u.turn ≡ v.turn) ⊎ ((epoch : ℕ) × Loads epoch v.turn u.turn)) → w.turn.loads ≡ u.turn.loads
+      → (channel : ℕ) → channel_check plan link clear ≡ Ok (Some channel)
       → IsProtectStep told plan link clear out o a u w → IsProtectStep told plan link clear out o a v w
-  step_from plan link clear out o (answers.Done d) v u w same turn channel passes h =
-      (h.0, h.1, h.2, under_from told h.0 clear out (answers.Done d) v u w same turn h.3)
-  step_from plan link clear out o answers.Clear v u w same turn channel passes h =
+  step_from plan link clear out o (answers.Done d) v u w same turn still channel passes h =
+      (h.0, h.1, h.2, under_from told h.0 clear out (answers.Done d) v u w same turn still h.3)
+  step_from plan link clear out o answers.Clear v u w same turn still channel passes h =
       absurd (no_clear (channel_check plan link clear) passes h.0) where
         no_clear : (r : Result (Option ℕ) ShieldFault) → r ≡ Ok (Some channel) → r ≡ Ok None → ⊥
         no_clear r a b = cc
-  step_from plan link clear out o (answers.Refused fault epoch) v u w same turn channel passes h =
+  step_from plan link clear out o (answers.Refused fault epoch) v u w same turn still channel passes h =
       (by_case h.0, h.1 ∙ same) where
         no_fault : (r : Result (Option ℕ) ShieldFault) → r ≡ Ok (Some channel) → r ≡ Err fault → ⊥
         no_fault r a b = cc
@@ -397,9 +397,9 @@ module _ (told : Bool) where
         by_case (inr k) = inr (
           k.0,
           (let on = seen_on v.turn u.turn turn in let low = k.1 in omega arith),
-          may_on told Rests v.turn u.turn w.turn turn k.2,
+          may_on told Rests v.turn u.turn w.turn turn still k.2,
         )
-  step_from plan link clear out o (answers.Exhausted key n epoch) v u w same turn channel passes h =
-      (h.0, h.1, under_from told h.0 clear out (answers.Exhausted key n epoch) v u w same turn h.2)
-  step_from plan link clear out o (answers.Fault fault position) v u w same turn channel passes h =
-      (h.0, h.1, under_from told h.0 clear out (answers.Fault fault position) v u w same turn h.2)
+  step_from plan link clear out o (answers.Exhausted key n epoch) v u w same turn still channel passes h =
+      (h.0, h.1, under_from told h.0 clear out (answers.Exhausted key n epoch) v u w same turn still h.2)
+  step_from plan link clear out o (answers.Fault fault position) v u w same turn still channel passes h =
+      (h.0, h.1, under_from told h.0 clear out (answers.Fault fault position) v u w same turn still h.2)

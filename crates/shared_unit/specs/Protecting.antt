@@ -9,7 +9,7 @@ use Rattle.frame_checks.specs.ProtectingFrames.{channel_check}
 use Rattle.run_promise.specs.Fits.{protect_reply}
 use Rattle.counter_table.specs.declared.view.Turn.{Turn}
 use Rattle.counter_table.specs.declared.view.View.{View}
-use Rattle.counter_table.specs.Turn.{epoch_seen, seeing}
+use Rattle.counter_table.specs.Turn.{epoch_seen, loading}
 use Rattle.counter_table.specs.Worker.{view, IsSame}
 use Rattle.counter_table.specs.declared.counters.Counters.{Counters}
 use Rattle.counter_table.specs.declared.counters.Worker.{Worker}
@@ -21,7 +21,7 @@ use Rattle.shared_unit.specs.declared.permit.Done.{Done}
 use Rattle.shared_unit.specs.declared.permit.Protected.{Protected}
 use Rattle.shared_unit.specs.declared.permit.Protected.TheVariants as answers
 use Rattle.shared_unit.specs.Told.{state_at, entry_count}
-use Rattle.shared_unit.specs.Turn.{FindsCovered, IsReady, Visits, Loads}
+use Rattle.shared_unit.specs.Turn.{FindsCovered, IsReady, Visits, Loads, LoadsAtMostOnce}
 use Rattle.shared_unit.specs.Numbers.{Draws, ComesBack, RunsOut, UsesNumber}
 use Rattle.shared_unit.specs.Permit.{IsTrueFor, IsOfPermit, IsProtectedUnder, LacksLayout}
 use Rattle.shared_unit.specs.Funding.{Reserves}
@@ -81,11 +81,23 @@ LeavesUnanswered (Some answer) old new = LeavesUnprotected answer old new
 abbrev pub TakesByTicket : View → View → Type 0
 TakesByTicket v w = w.turn.turns + v.numbers.tickets ≤ v.turn.turns + w.numbers.tickets
 
--- the epoch was loaded, at most
+-- the epoch was loaded once at most, and nothing else was done
 pub record Looks (v w : Turn) : Type 0 where
+  pub count : ℕ
   pub epoch : ℕ
-  pub later : epoch_seen v ≤ epoch_seen (seeing epoch v)
-  pub is : w ≡ seeing epoch v
+  pub loads : LoadsAtMostOnce count epoch v
+  pub is : w ≡ loading count epoch v
+
+-- the epoch was loaded once in between, and is this one
+abbrev pub HasLoaded : Turn → Turn → ℕ → Type 0
+HasLoaded v w epoch = (w.loads ≡ v.loads + 1) × (w.epoch ≡ epoch)
+
+-- The epoch was loaded once where the permit that is kept is one of the frame's link and channel, and else not at all.
+abbrev pub LoadsByKept : PlanLines → ℕ → List ℕ → Option Permit → Turn → Turn → Type 0
+LoadsByKept plan link clear None v w = w.loads ≡ v.loads
+LoadsByKept plan link clear (Some p) v w =
+    (p.link ≡ link → IsOfPermit plan p clear → w.loads ≡ v.loads + 1)
+    × ((p.link ≡ link → IsOfPermit plan p clear → ⊥) → w.loads ≡ v.loads)
 
 -- the book was given back as it was found
 abbrev pub Rests : BookView → BookView → Type 0
@@ -96,40 +108,41 @@ abbrev pub Funds : ℕ → ℕ → BookView → BookView → Type 0
 Funds key n found given = (mark : ℕ) × Reserves key n (Ok mark) found given
 
 module _ (told : Bool) where
-  -- The epoch was loaded, at most, and then the turn was taken once: with this done to the book.
+  -- The epoch was loaded once at most, and then the turn was taken once: with this done to the book.
   pub record TakesTurn (done : BookView → BookView → Type 0) (v w : Turn) : Type 0 where
+    pub count : ℕ
     pub epoch : ℕ
-    pub later : epoch_seen v ≤ epoch_seen (seeing epoch v)
+    pub loads : LoadsAtMostOnce count epoch v
     pub found : BookView
     pub given : BookView
-    pub visits : Visits told found given (seeing epoch v) w
+    pub visits : Visits told found given (loading count epoch v) w
     pub does : done found given
 
   -- the turn was taken once at most, with this done to the book
   abbrev pub MayTakeTurn : (BookView → BookView → Type 0) → Turn → Turn → Type 0
   MayTakeTurn done v w = Looks v w ⊎ TakesTurn done v w
 
-  -- The epoch was loaded, at most; or it was, and then the turn was taken once, and the book found is above each number
-  -- that the worker had spent before.
+  -- The epoch was loaded once at most; or it was, and then the turn was taken once, and the book found is above each
+  -- number that the worker had spent before.
   abbrev pub CoversIfTaken : View → View → Type 0
   CoversIfTaken v w = Looks v.turn w.turn
-      ⊎ ((epoch : ℕ) × (epoch_seen v.turn ≤ epoch_seen (seeing epoch v.turn))
-      × FindsCovered told (record v { turn = seeing epoch v.turn }) w)
+      ⊎ ((count : ℕ) × (epoch : ℕ) × LoadsAtMostOnce count epoch v.turn
+      × FindsCovered told (record v { turn = loading count epoch v.turn }) w)
 
   -- the turn was taken once, and the book found had counted so many changes
   abbrev pub FindsEpoch : Turn → Turn → ℕ → Type 0
   FindsEpoch v w epoch = TakesTurn (λ found given. found.changes ≡ epoch) v w
 
-  -- the epoch is the one loaded last, or that of the book held
+  -- the epoch is the one that was loaded in between, or that of the book held
   abbrev pub IsEpochOf : Turn → Turn → ℕ → Type 0
-  IsEpochOf v w epoch = (w.epoch ≡ epoch) ⊎ FindsEpoch v w epoch
+  IsEpochOf v w epoch = HasLoaded v w epoch ⊎ FindsEpoch v w epoch
 
   -- one reserve was stored, or refused, or there was none
   abbrev pub AddsReserve : ℕ → BookView → BookView → Type 0
   AddsReserve key found given = (given ≡ found) ⊎
       ((n : ℕ) × (result : Result ℕ BookFault) × Reserves key n result found given)
 
-  -- the epoch was loaded, and the turn was taken at most once, for at most one reserve
+  -- the epoch was loaded, and the turn was taken, at most once each, for at most one reserve
   abbrev pub TakesAtMostOnce : Turn → Turn → Type 0
   TakesAtMostOnce v w = MayTakeTurn (λ found given. (key : ℕ) × AddsReserve key found given) v w
 
@@ -205,9 +218,12 @@ pub record ProtectsFrame {B : Type 0} (told : Bool) (counters : Counters B) (pla
   -- no number was spent by the worker that is not below its row's mark in the book that the call found, if it took the
   -- turn
   pub covered : CoversIfTaken told (view old) (view new)
-  -- the epoch beside an answer is the one loaded last, or that of the book held; where the plan is enough there is none
+  -- the epoch beside an answer was loaded in this call, or is that of the book held; where the plan is enough there is
+  -- none
   pub epochs : (channel : ℕ) → channel_check plan link clear ≡ Ok (Some channel)
       → IfEpoch result (IsEpochOf told (view old).turn (view new).turn)
+  -- with a permit of the frame kept before, the epoch is loaded once in this call, and else not
+  pub loads : LoadsByKept plan link clear before (view old).turn (view new).turn
   -- with the kept permit, where its epoch was the one loaded last, the turn is taken for a ticket that came back alone
   pub turns : (p : Permit) (d : Done) → before ≡ Some p → p.link ≡ link → IsOfPermit plan p clear
       → result ≡ answers.Done d → d.epoch ≡ p.epoch → TakesByTicket (view old) (view new)

@@ -1,5 +1,5 @@
 -- What a call that takes the turn once makes of what the worker knows of the book (profile).
-use Rattle.std.specs.Prelude.{◌≡◌, ℕ, ◌+◌, ◌-◌, ◌≤◌, Bool, true, false, ◌++◌, length}
+use Rattle.std.specs.Prelude.{◌≡◌, ◌⊎◌, ℕ, ◌+◌, ◌-◌, ◌≤◌, Bool, true, false, ◌++◌, length}
 use Rattle.sdls_base.specs.declared.TheConstants.{MOST_KEYS}
 use Rattle.unit_plan.specs.PlanLines.{PlanLines}
 use Rattle.counter_table.specs.declared.view.Known.{Known}
@@ -8,7 +8,7 @@ use Rattle.counter_table.specs.declared.view.View.{View}
 use Rattle.counter_table.specs.declared.counters.Counters.{Counters}
 use Rattle.counter_table.specs.declared.counters.Worker.{Worker}
 use Rattle.counter_table.specs.Known.{Earlier, IsSparing}
-use Rattle.counter_table.specs.Turn.{epoch_seen, places, seeing}
+use Rattle.counter_table.specs.Turn.{epoch_seen, loading, places, seeing}
 use Rattle.counter_table.specs.Play.{Follows, IsCovered}
 use Rattle.counter_table.specs.Worker.{view, IsOf}
 use Rattle.unit_book.specs.Book.{BookView, IsKept}
@@ -58,7 +58,12 @@ pub record KnowsMoreOfBook (v w : Turn) : Type 0 where
   pub opening : w.known.opening ≡ v.known.opening
   pub epoch : epoch_seen v ≤ epoch_seen w
 
--- the epoch was loaded, which is no less than the one seen before
+-- the epoch was loaded once, and is no less than the one seen before
 pub record Loads (epoch : ℕ) (v w : Turn) : Type 0 where
   pub later : epoch_seen v ≤ epoch
   pub is : w ≡ seeing epoch v
+
+-- The epoch was loaded so often, once or not at all: this is the one that was found, or else the one that was known.
+pub record LoadsAtMostOnce (count epoch : ℕ) (v : Turn) : Type 0 where
+  pub later : epoch_seen v ≤ epoch_seen (loading count epoch v)
+  pub once : (count ≡ 1) ⊎ ((count ≡ 0) × (epoch ≡ v.epoch))

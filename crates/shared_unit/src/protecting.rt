@@ -7,8 +7,9 @@ ghost use Rattle.counter_table.specs.Worker.{view, IsSame};
 ghost use Rattle.shared_unit.specs.declared.permit.Permit.{Permit};
 ghost use Rattle.shared_unit.specs.declared.permit.Done.{Done};
 ghost use Rattle.shared_unit.specs.Permit.{IsOfPermit, IsTrueFor};
-ghost use Rattle.shared_unit.specs.Protecting.{CoversIfTaken, FindsEpoch, IfEpoch, IsByKept, IsKeptStep, IsProtectStep};
-ghost use Rattle.shared_unit.specs.Protecting.{IsTrueIfKept, LeavesUnanswered, LeavesUnprotected, ProtectsFrame};
+ghost use Rattle.shared_unit.specs.Protecting.{CoversIfTaken, FindsEpoch, HasLoaded, IfEpoch, IsByKept, IsKeptStep};
+ghost use Rattle.shared_unit.specs.Protecting.{IsProtectStep, IsTrueIfKept, LeavesUnanswered, LeavesUnprotected};
+ghost use Rattle.shared_unit.specs.Protecting.{LoadsByKept, ProtectsFrame};
 ghost use Rattle.shared_unit.specs.Protecting.{TakesAtMostOnce};
 ghost use Rattle.shared_unit.specs.Turn.{FindsCovered, IsReady};
 
@@ -38,6 +39,7 @@ impl<O: Site> Unit<O> {
         ensures turn { TakesAtMostOnce O.told (view worker.old).turn
             (view worker.new).turn }
         ensures covered { CoversIfTaken O.told (view worker.old) (view worker.new) }
+        ensures loads { (view worker.new).turn.loads ≡ (view worker.old).turn.loads + 1 }
         ensures epoch { IfSome result (λ answer. IfEpoch answer (λ epoch. (view worker.new).turn.epoch ≡ epoch)) }
         ensures step { IsKeptStep O.told permit.now clear.now out.new result
             (view worker.old) (view worker.new) }
@@ -84,7 +86,10 @@ impl<O: Site> Unit<O> {
         ensures turn { TakesAtMostOnce O.told (view worker.old).turn
             (view worker.new).turn }
         ensures covered { CoversIfTaken O.told (view worker.old) (view worker.new) }
-        ensures epoch { IfSome result (λ answer. IfEpoch answer (λ epoch. (view worker.new).turn.epoch ≡ epoch)) }
+        ensures loads { LoadsByKept self.now.plan link clear.now kept.now (view worker.old).turn
+            (view worker.new).turn }
+        ensures epoch { IfSome result (λ answer. IfEpoch answer
+            (HasLoaded (view worker.old).turn (view worker.new).turn)) }
         ensures step { IsByKept O.told self.now.plan kept.now link clear.now out.new
             result (view worker.old) (view worker.new) }
         ensures leaves { LeavesUnanswered result out.old out.new }
@@ -128,6 +133,7 @@ impl<O: Site> Unit<O> {
             (view worker.new).turn) }
         ensures later { (d : Done) → result ≡ Protected.Done d → epoch_seen (view worker.old).turn ≤ d.epoch }
         ensures epoch { (view worker.new).turn.epoch ≡ (view worker.old).turn.epoch }
+        ensures loads { (view worker.new).turn.loads ≡ (view worker.old).turn.loads }
     {
         let mut held = self.counters.take(rt, worker);
         match permit_in(&held.book, link, clear) {

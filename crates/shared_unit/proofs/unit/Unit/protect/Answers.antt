@@ -1,4 +1,4 @@
-use Rattle.std.proofs.Common.{◌≡◌, ℕ, Some, Ok, Err, Option, Result, inl, refl, sym, subst, ap, arith, ◌∙◌}
+use Rattle.std.proofs.Common.{◌≡◌, ℕ, Some, None, Ok, Err, Option, Result, inl, refl, sym, subst, ap, arith, ◌∙◌}
 use Rattle.std.specs.Prelude.{List}
 use Rattle.frame_shield.specs.declared.protecting_frames.ShieldFault.{ShieldFault}
 use Rattle.counter_table.specs.declared.view.Numbers.{Numbers}
@@ -9,7 +9,7 @@ use Rattle.shared_unit.proofs.Shares.{kept_shares, step_shares}
 use Rattle.shared_unit.proofs.Passing.{passes_none, passes_on, same_twice}
 use Rattle.shared_unit.proofs.Covering.{covers_none, covers_on}
 use Rattle.shared_unit.proofs.Renewing.{kept_step, step_from}
-use Rattle.shared_unit.proofs.Naming.{found_epoch, loaded_epoch}
+use Rattle.shared_unit.proofs.Naming.{found_epoch, loaded_epoch, loads_none, loads_on}
 use Rattle.shared_unit.proofs.unit.Unit.protect.Goals as goal
 
 -- what the plan says of the frame's channel
@@ -22,6 +22,9 @@ on channel = Ok channel
 apart : (channel : Channel) (fault : ShieldFault) (found : ℕ) → channel ≡ Err fault → channel ≡ on (Some found) → ⊥
 apart channel fault found a b = cc
 
+apart_clear : (channel : Channel) (found : ℕ) → channel ≡ on None → channel ≡ on (Some found) → ⊥
+apart_clear channel found a b = cc
+
 pub returns-in-Err : goal.returns-in-Err
 returns-in-Err g c = record {
   ready = c.requires.ready;
@@ -33,6 +36,8 @@ returns-in-Err g c = record {
   leaves = refl;
   covered = covers_none g.O.Site.told _ _ refl;
   epochs = λ channel passes. absurd (apart _ c.in-Err.fault channel (sym c.channel.ensures ∙ c.in-Err.is) passes);
+  loads = loads_none c.args.self.now.plan c.args.link c.args.clear.now c.args.kept.now _
+      (λ channel passes. apart _ c.in-Err.fault channel (sym c.channel.ensures ∙ c.in-Err.is) passes);
   turns = λ p d was linked of done epoch. omega arith;
   turns_kept = λ p was linked of low. omega arith;
 }
@@ -48,6 +53,9 @@ returns-in-Ok-None g c = record {
   leaves = refl;
   covered = covers_none g.O.Site.told _ _ refl;
   epochs = λ channel passes. tt;
+  loads = loads_none c.args.self.now.plan c.args.link c.args.clear.now c.args.kept.now _
+      (λ channel passes. apart_clear _ channel
+      (sym c.channel.ensures ∙ c.in-Ok-None.is ∙ ap on c.in-Ok-None.field-0-is) passes);
   turns = λ p d was linked of done epoch. omega arith;
   turns_kept = λ p was linked of low. omega arith;
 }
@@ -70,6 +78,7 @@ returns-in-Some g c =
       covered = c.protect_if_kept.ensures.covered;
       epochs = λ channel passes. loaded_epoch g.O.Site.told c.in-Some.answer
           (view c.args.worker.now).turn (view c.protect_if_kept.new.worker).turn c.in-Some.ensures.epoch;
+      loads = c.protect_if_kept.ensures.loads;
       turns = λ p d was linked of done epoch. step.3.1;
       turns_kept = λ p was linked of low. step.3.1;
     }
@@ -87,11 +96,11 @@ returns g c =
           (view c.protect_if_kept.new.worker) (view new.new.worker) new.ensures.step
           ∙ ap (λ (k : Numbers). k.shares) none.0;
       turn = passes_on g.O.Site.told (view c.args.worker.now).turn (view c.protect_if_kept.new.worker).turn
-          (view new.new.worker).turn none.1 new.ensures.turn;
+          (view new.new.worker).turn none.1 new.ensures.loads new.ensures.turn;
       step = step_from g.O.Site.told c.args.self.now.plan c.args.link c.args.clear.now new.new.out new.new.kept
           new.result
           (view c.args.worker.now) (view c.protect_if_kept.new.worker) (view new.new.worker) none.0 none.1
-          c.in-Ok-Some.channel
+          new.ensures.loads c.in-Ok-Some.channel
           (sym c.channel.ensures ∙ c.in-Ok-Some.is ∙ ap on c.in-Ok-Some.field-0-is) new.ensures.step;
       kept = new.ensures.kept;
       leaves = subst (λ (room : List ℕ). LeavesUnprotected new.result room new.new.out) c.in_default.ensures.leaves
@@ -100,7 +109,10 @@ returns g c =
           (view new.new.worker) none.0 none.1 new.ensures.covered;
       epochs = λ channel passes. found_epoch g.O.Site.told new.result
           (view c.args.worker.now).turn (view c.protect_if_kept.new.worker).turn (view new.new.worker).turn none.1
-          new.ensures.epochs;
+          new.ensures.loads new.ensures.epochs;
+      loads = loads_on c.args.self.now.plan c.args.link c.args.clear.now c.args.kept.now
+          (view c.args.worker.now).turn (view c.protect_if_kept.new.worker).turn (view new.new.worker).turn
+          c.protect_if_kept.ensures.loads new.ensures.loads;
       turns = λ p d was linked of done epoch.
           absurd (let behind = none.2 p was linked of in let later = new.ensures.later d done in omega arith);
       turns_kept = λ p was linked of low.

@@ -9,6 +9,7 @@ use Rattle.shared_unit.specs.Permit.{IsTrueFor, IsOfPermit}
 use Rattle.shared_unit.proofs.Trust.{permit_stays}
 use Rattle.shared_unit.proofs.Passing.{passes_none, passes_grows}
 use Rattle.shared_unit.proofs.Covering.{covers_none}
+use Rattle.shared_unit.proofs.Naming.{loads_kept}
 use Rattle.shared_unit.proofs.Renewing.{by_kept_step}
 use Rattle.shared_unit.proofs.unit.Unit.protect_if_kept.Goals as goal
 
@@ -48,3 +49,23 @@ returns-clause-step g c =
 
 pub returns-in_default-clause-covered : goal.returns-in_default-clause-covered
 returns-in_default-clause-covered g c = covers_none g.O.Site.told _ _ refl
+
+pub returns-clause-loads : goal.returns-clause-loads
+returns-clause-loads g c =
+    loads_kept c.args.self.now.plan c.args.link c.args.clear.now c.args.kept.now c.in-Some.permit
+    (view c.args.worker.now).turn (view c.protect_with_kept.new.worker).turn c.in-Some.is c.if-permit-link.false
+    (of_frame c.args.self.now.plan c.in-Some.permit c.args.link c.args.channel c.args.clear.now c.if-permit-link.false
+    (same_number c.in-Some.permit.channel c.args.channel (sym c.if-ne.false ∙ c.ne.ensures)) c.requires.channel)
+    c.protect_with_kept.ensures.loads
+
+pub returns-then-permit-link-clause-turn : goal.returns-then-permit-link-clause-turn
+returns-then-permit-link-clause-turn g c = passes_none g.O.Site.told _ _ refl
+
+pub returns-then-permit-link-clause-covered : goal.returns-then-permit-link-clause-covered
+returns-then-permit-link-clause-covered g c = covers_none g.O.Site.told _ _ refl
+
+pub returns-then-ne-clause-turn : goal.returns-then-ne-clause-turn
+returns-then-ne-clause-turn g c = passes_none g.O.Site.told _ _ refl
+
+pub returns-then-ne-clause-covered : goal.returns-then-ne-clause-covered
+returns-then-ne-clause-covered g c = covers_none g.O.Site.told _ _ refl
