@@ -60,8 +60,11 @@ filled_met now [] h = h
 filled_met now (p ∷ parts) h = filled_met (meeting now p.knows) parts (ap (λ (b : Bool). b || p.knows.turn.filled) h)
 
 -- a slice of a whole list, given back
+abbrev pub IsGivenBack : {X : Type 0} → ℕ → List X → List X → Type 0
+IsGivenBack n new old = take n (new ++ drop (length new) old) ≡ new
+
 pub slice_whole : {X : Type 0} (n : ℕ) (new old : List X) → length new ≡ length old → n ≡ length old
-    → take n (new ++ drop (length new) old) ≡ new
+    → IsGivenBack n new old
 slice_whole {X} n new old same is =
     let none : drop (length new) old ≡ [] = drop_all (length new) old (omega arith) in
     ap (λ (l : List X). take n (new ++ l)) none ∙ (ap (take n) (append-nil new) ∙ take_all n new (omega arith))
@@ -189,6 +192,24 @@ none_elsewhere n rs r p at up off = none_of_it (indexed r.index (of_lane n rs)) 
       ]
     ])
 
+-- what is known of a segment once its lanes are joined, of the parts that they did
+pub record Served (told : Bool) (rs : List Record) (base last : View) (parts : List Part) : Type 0 where
+  pub shares : last.numbers.shares ≡ base.numbers.shares
+  pub handled : (begin : Begin) (layout : Layout) (s : ℕ) → BeganWith told begin base.turn.known.opening
+      → LiesIn layout s rs → (answers : List Answer) → All (Contains (parts_deeds s rs parts)) (deeds_of s rs answers)
+      → Handled layout begin base last rs (deeds_of s rs answers)
+  pub moved : (begin : Begin) (s : ℕ) → BeganWith told begin base.turn.known.opening → (answers : List Answer)
+      → All (Contains (parts_deeds s rs parts)) (deeds_of s rs answers)
+      → MovesWords begin base last rs (deeds_of s rs answers)
+  pub alone : (lane : ℕ) → All (λ (t : Record). t.lane ≡ lane) rs → All (λ (t : Record). t.lane < LANES) rs
+      → (begin : Begin) (s : ℕ) → BeganWith told begin base.turn.known.opening → (answers rest : List Answer)
+      → answers ++ rest ≡ answers_of lane parts
+      → (length answers ≡ length rs) ⊎ StopsAt rs (λ n. answers_of n parts) (length answers)
+      → ServedAlone begin base last (length rs) (deeds_of s rs answers)
+  pub ends : (begin : Begin) → BeganWith told begin base.turn.known.opening → All (λ (t : Record). t.lane < LANES) rs
+      → Ascend rs → (answers : List Answer) → StopsAt rs (λ n. answers_of n parts) (length answers)
+      → EndsSegment begin base last rs answers true
+
 module _ {B : Type 0} (ready : Worker B → Type 0) (told : Bool) (rs : List Record) (base : View)
     (old new : List (Lane B))
     (split : All (IsSplit ready rs base) old) (apart : AllPairs HaveOwnNumbers old)
@@ -301,7 +322,7 @@ module _ {B : Type 0} (ready : Worker B → Type 0) (told : Bool) (rs : List Rec
       abbrev last : View
       last = meeting (keeping joined) (starting joined)
 
-      pub all_handled : (begin : Begin) (layout : Layout) (s : ℕ) → BeganWith told begin base.turn.known.opening
+      all_handled : (begin : Begin) (layout : Layout) (s : ℕ) → BeganWith told begin base.turn.known.opening
           → LiesIn layout s rs → (answers : List Answer)
           → All (Contains (parts_deeds s rs (parts_of new))) (deeds_of s rs answers)
           → Handled layout begin base last rs (deeds_of s rs answers)
@@ -328,7 +349,7 @@ module _ {B : Type 0} (ready : Worker B → Type 0) (told : Bool) (rs : List Rec
           (subst (λ (n : ℕ). Meets n (keeping joined) (starting joined)) (sym rows) back)).does.grows
 
       -- on however many lanes, the words were moved as the answers tell
-      pub all_moved : (begin : Begin) (s : ℕ) → BeganWith told begin base.turn.known.opening → (answers : List Answer)
+      all_moved : (begin : Begin) (s : ℕ) → BeganWith told begin base.turn.known.opening → (answers : List Answer)
           → All (Contains (parts_deeds s rs (parts_of new))) (deeds_of s rs answers)
           → MovesWords begin base last rs (deeds_of s rs answers)
       all_moved begin s b answers among =
@@ -365,7 +386,7 @@ module _ {B : Type 0} (ready : Worker B → Type 0) (told : Bool) (rs : List Rec
       last_of : List (Lane B) → View
       last_of ns = looked (meeting_all now (parts_of ns))
 
-      pub all_exactly : (lane : ℕ) → All (λ (t : Record). t.lane ≡ lane) rs → All (λ (t : Record). t.lane < LANES) rs
+      all_exactly : (lane : ℕ) → All (λ (t : Record). t.lane ≡ lane) rs → All (λ (t : Record). t.lane < LANES) rs
           → (begin : Begin) (s : ℕ)
           → BeganWith told begin base.turn.known.opening → (answers rest : List Answer)
           → answers ++ rest ≡ answers_of lane (parts_of new)
@@ -474,7 +495,7 @@ module _ {B : Type 0} (ready : Worker B → Type 0) (told : Bool) (rs : List Rec
 
       -- the first record without an answer is one for which the history is full, and none of the lines made is its
       -- entry
-      pub all_ends : (begin : Begin) → BeganWith told begin base.turn.known.opening
+      all_ends : (begin : Begin) → BeganWith told begin base.turn.known.opening
           → All (λ (t : Record). t.lane < LANES) rs → Ascend rs → (answers : List Answer)
           → StopsAt rs (λ n. answers_of n (parts_of new)) (length answers) → EndsSegment begin base last rs answers true
       all_ends begin b lanes up answers stop =
@@ -577,3 +598,12 @@ module _ {B : Type 0} (ready : Worker B → Type 0) (told : Bool) (rs : List Rec
                     ≡ 0) new
                     (λ j d inside. lane_none stop j d (omega arith)))),
               )
+
+      pub served : Served told rs base last (parts_of new)
+      served = record {
+        shares = (let shares = joined_shares in omega arith);
+        handled = all_handled;
+        moved = all_moved;
+        alone = all_exactly;
+        ends = all_ends;
+      }
