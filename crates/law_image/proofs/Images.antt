@@ -1,24 +1,26 @@
 -- What an opening or a migration leaves that is cut off: for `opening_keeps_forms` and `migration_keeps_state`. With
 -- it,
 -- lemmas on what images and their opened forms hold, passed on for what lies above.
-use Rattle.std.proofs.Common.{slice_index, ◌≢◌, ◌≡◌, ◌⊎◌, ℕ, ◌+◌, ◌≤◌, List, length, set, None, refl, sym, ap, ◌∙◌}
-use Rattle.std.proofs.Common.{subst, inl, inr, arith}
+use Rattle.std.proofs.Common.{slice_index, ◌≢◌, ◌≡◌, ◌⊎◌, ℕ, ◌+◌, ◌-◌, ◌<◌, ◌≤◌, List, length, set, take, drop, min}
+use Rattle.std.proofs.Common.{None, refl, sym, ap, ◌∙◌, length-drop, subst, inl, inr, arith}
+use Rattle.std.proofs.lemmas.Bool.{cases_lt}
+use Rattle.std.proofs.lemmas.List.{ext_get_or, get_or-drop, get_or-take, length-take}
 use Rattle.disk_journal.proofs.Gating.{AreRecords, records_are}
 use Rattle.disk_journal.proofs.Ranges.{set_but}
 use Rattle.disk_journal.specs.Moments.{AllBut}
 use Rattle.disk_journal.specs.Banks.{bank_at, slot_at, other, slot_gate, slot_body}
-use Rattle.disk_journal.specs.Image.{Held, IsAtRest, IsOpenedForm, held, migrated, plan_of, records, image_layout}
-use Rattle.disk_journal.specs.Image.{current, current_at, first_closed, slot_count}
+use Rattle.disk_journal.specs.Image.{Held, IsAtRest, IsClosedGate, IsOpenedForm, held, migrated, plan_of, records}
+use Rattle.disk_journal.specs.Image.{current, current_at, first_closed, image_layout, slot_count}
 use Rattle.disk_journal.specs.Fault.{image_fault}
-use Rattle.disk_journal.specs.Forms.{Holds, HasOneClosed, Becomes, StaysWithin}
+use Rattle.disk_journal.specs.Forms.{Holds, HasOneClosed, Becomes, Regates, StaysWithin}
 use Rattle.disk_journal.proofs.Again.{stays_within}
-use Rattle.disk_journal.proofs.Headers.{header_octet, old_tests}
-use Rattle.disk_journal.proofs.Keeping.{plan_kept}
+use Rattle.disk_journal.proofs.Headers.{alike, header_octet, old_tests, plan_alike}
+use Rattle.disk_journal.proofs.Keeping.{header_bounds, plan_kept}
 use Rattle.disk_journal.proofs.Moving.{moved_plan}
-use Rattle.disk_journal.proofs.Stands.{HasFront, behind, opens_stands}
+use Rattle.disk_journal.proofs.Stands.{HasFront, behind, layout_behind, opens_stands}
 use Rattle.disk_journal.specs.declared.layout.HeaderForm.TheVariants.{Old}
 use Rattle.disk_journal.specs.declared.layout.TheConstants.{MIGRATED_AT, HEADER_LENGTH, OPEN, PLAN_ROOM}
-use Rattle.disk_journal.specs.Header.{header_of}
+use Rattle.disk_journal.specs.Header.{header_of, plan_length_in}
 use Rattle.unit_state.specs.declared.state.State.{State}
 use Rattle.unit_image.specs.OpeningImage.{IsMigration, LeftByOpening, IsMigrating}
 use Rattle.unit_image.specs.Shows.{Says, Shows}
@@ -144,6 +146,111 @@ form_plan image form opens opened =
           opened.3
       | inr (inr moves) ↦ moving_plan image form front (opened.3 ∙ ap (λ (at : ℕ). set image at OPEN) moves.1)
     ]
+
+-- ---- the plan in what an opening leaves
+
+-- the octets before the first bank are the same, but for the one that migrates an image of version 1
+abbrev SameFront : List ℕ → List ℕ → Type 0
+SameFront old new = (i : ℕ) → i < HEADER_LENGTH + PLAN_ROOM → (i < MIGRATED_AT) ⊎ (MIGRATED_AT + 1 ≤ i)
+    → slice_index new i ≡ slice_index old i
+
+-- then so is the plan
+front_plan : (old new : List ℕ) → image_fault old ≡ None → length new ≡ length old → SameFront old new
+    → plan_of new ≡ plan_of old
+front_plan old new opens long same =
+    let front : HasFront old (image_layout old) = (opens_stands old opens).front in
+    let whole : HEADER_LENGTH ≤ length old = front.whole in
+    let room : plan_length_in (header_of old) ≤ PLAN_ROOM =
+    (header_bounds (header_of old) (length old) front.header).plan in
+    let text : take (plan_length_in (header_of old)) (drop HEADER_LENGTH new)
+    ≡ take (plan_length_in (header_of old)) (drop HEADER_LENGTH old) =
+    same_part HEADER_LENGTH (plan_length_in (header_of old)) old new long
+    (λ i from below. same i (omega arith) (inr (omega arith))) in
+    plan_alike old new (alike old new whole (omega arith) (λ i below away. same i (omega arith) away)) text
+  where
+    same_part : (from size : ℕ) (old new : List ℕ) → length new ≡ length old
+        → ((i : ℕ) → from ≤ i → i < from + size → slice_index new i ≡ slice_index old i)
+        → take size (drop from new) ≡ take size (drop from old)
+    same_part from size old new long same =
+        let rest : length (drop from new) ≡ length (drop from old) =
+        length-drop from new ∙ ap (λ (n : ℕ). n - from) long ∙ sym (length-drop from old) in
+        let sizes : length (take size (drop from new)) ≡ length (take size (drop from old)) =
+        length-take size (drop from new) ∙ ap (min size) rest ∙ sym (length-take size (drop from old)) in
+        ext_get_or 0 (take size (drop from new)) (take size (drop from old)) sizes (λ i below.
+        let cut : length (take size (drop from new)) ≡ min size (length (drop from new)) =
+        length-take size (drop from new) in
+        let low : i < size = omega arith in
+        get_or-take size (drop from new) i 0 low ∙ get_or-drop from new i 0
+        ∙ same (from + i) (omega arith) (omega arith)
+        ∙ sym (get_or-drop from old i 0) ∙ sym (get_or-take size (drop from old) i 0 low))
+
+-- no closed gate stands before the first bank, but for the octet that migrates an image
+gate_behind : (image : List ℕ) (at : ℕ) → at < HEADER_LENGTH + PLAN_ROOM
+    → (at < MIGRATED_AT) ⊎ (MIGRATED_AT + 1 ≤ at) → IsClosedGate image at → ⊥
+gate_behind image at low away closed =
+    let layout = image_layout image in
+    let far : HEADER_LENGTH + PLAN_ROOM ≤ layout.banks = layout_behind image in
+    elim closed.1 [
+      | inl slot ↦
+          let bank : HEADER_LENGTH + PLAN_ROOM ≤ bank_at layout (current image) = behind layout (current image) far in
+          let place : at ≡ slot_at layout (bank_at layout (current image)) (first_closed image) = slot.1 in
+          absurd (omega arith)
+      | inr (inl beside) ↦
+          let bank : HEADER_LENGTH + PLAN_ROOM ≤ bank_at layout (other (current image)) =
+          behind layout (other (current image)) far in
+          let place : at ≡ bank_at layout (other (current image)) = beside in
+          absurd (omega arith)
+      | inr (inr moves) ↦ absurd (let same = moves.1 in omega arith)
+    ]
+
+-- an image with other octets at its closed gates has the front of the image, and so has each opened form of it
+gates_front : (image left : List ℕ) → Regates image left → SameFront image left
+gates_front image left gates i low away = gates.others i (gate_behind image i low away)
+
+form_front : (left form : List ℕ) → IsOpenedForm left form → SameFront left form
+form_front left form opened i low away =
+    let change : AllBut opened.0 1 left form =
+    subst (AllBut opened.0 1 left) (sym opened.3) (set_but left opened.0 OPEN) in
+    change.outside i (elim (cases_lt i opened.0) [
+      | inl before ↦ inl before
+      | inr beyond ↦ elim (cases_lt opened.0 i) [
+        | inl behind ↦ inr (omega arith)
+        | inr least ↦
+            let same : i ≡ opened.0 = omega arith in
+            absurd (gate_behind left i low away (subst (IsClosedGate left) (sym same) opened.1))
+      ]
+    ])
+
+left_plan : (image left : List ℕ) → image_fault image ≡ None → LeftByOpening image left
+    → ((held left).plan ≡ (held image).plan)
+    × ((form : List ℕ) → IsOpenedForm left form → (held form).plan ≡ (held image).plan)
+left_plan image left opens (inl (inl gates)) = (
+  front_plan image left opens gates.same_length (gates_front image left gates),
+  λ form is. front_plan image form opens (form_long form is ∙ gates.same_length)
+      (λ i low away. form_front left form is i low away ∙ gates_front image left gates i low away),
+)
+  where
+    form_long : (form : List ℕ) → IsOpenedForm left form → length form ≡ length left
+    form_long form is = ap (λ (l : List ℕ). length l) is.3 ∙ (set_but left is.0 OPEN).same_length
+left_plan image left opens (inl (inr becomes)) = (
+  ap (λ (what : Held). what.plan) (holds_same image left becomes).holds.is,
+  λ form is. ap (λ (what : Held). what.plan) (becomes.forms form is).is,
+)
+left_plan image left opens (inr moves) =
+    let kept : moves.next.plan ≡ (held image).plan = ap (λ (what : Held). what.plan) moves.is_migration.is in (
+      elim moves.becomes.holds [
+        | inl old ↦ ap (λ (what : Held). what.plan) old.is
+        | inr new ↦ ap (λ (what : Held). what.plan) new.is ∙ kept
+      ],
+      λ form is. ap (λ (what : Held). what.plan) (moves.becomes.forms form is).is ∙ kept,
+    )
+
+-- Whatever an opening leaves of an image that shows a state has the plan of that image, and so has each opened form of
+-- it.
+pub opened_plan : (image left : List ℕ) (state : State) → Shows image state → LeftByOpening image left
+    → ((held left).plan ≡ (held image).plan)
+    × ((form : List ℕ) → IsOpenedForm left form → (held form).plan ≡ (held image).plan)
+opened_plan image left state shows leaves = left_plan image left shows.holds.opens leaves
 
 -- ---- what is shown
 

@@ -25,7 +25,7 @@ use Rattle.unit_book.specs.Log.{sunk_between}
 use Rattle.law_workers.proofs.Histories.{entries_both}
 use Rattle.run_promise.specs.declared.end.RunEnd.{RunEnd}
 use Rattle.run_promise.specs.declared.end.RunEnd.TheVariants as ends
-use Rattle.run_promise.specs.Call.{CallSeen, ShowsAtEntry, sunk_since, SiteSeen, Begin}
+use Rattle.run_promise.specs.Call.{CallSeen, ShowsAtEntry, plan_at_entry, sunk_since, SiteSeen, Begin}
 use Rattle.run_promise.specs.Account.{Account, answers_of_first, course_of, deeds_from, due_octets, end_answer}
 use Rattle.run_promise.specs.Account.{end_octets, end_status, CameBy, EndsWithRelease, IsToldFirst, PutsDue, PutsFront}
 use Rattle.run_promise.specs.Account.{StoodUntilRelease, TellsEnd}
@@ -36,7 +36,7 @@ use Rattle.law_runs.specs.Ran.{Ran, begin_by}
 use Rattle.law_runs.proofs.Faults.{told_rose}
 use Rattle.law_runs.proofs.Doing.{ends_run}
 use Rattle.law_runs.proofs.Moved.{moved_run, settled_more}
-use Rattle.law_runs.proofs.Moments.{all_fences, all_moments}
+use Rattle.law_runs.proofs.Moments.{all_fences, all_moments, all_plans}
 use Rattle.law_runs.proofs.Releases.{AreAdded, AreWords, IsRefusedRelease, are_added, are_releases, ends_released}
 use Rattle.law_runs.proofs.Releases.{released_full, released_pieces, released_quietly}
 use Rattle.law_runs.proofs.Placed.{IsBefore, answers_all, places_ascend}
@@ -44,7 +44,7 @@ use Rattle.law_runs.specs.AtEnd.{EndsRun, course_at_end, StaysCovered}
 use Rattle.law_runs.specs.Release.{AreReleases}
 use Rattle.law_runs.specs.Settled.{AreSettled}
 use Rattle.run_promise.specs.Answers.{IsUnmade, SaysSiteFailed, Uses}
-use Rattle.run_promise.specs.Sound.{IsNearBehind, IsSound, deeds_octets}
+use Rattle.run_promise.specs.Sound.{HasPlan, IsNearBehind, IsSound, deeds_octets}
 use Rattle.law_runs.proofs.Stepping.{octets_of}
 use Rattle.run_promise.specs.OneLane.{OneLane, IsExact}
 use Rattle.law_runs.proofs.Exacting.{exact_call}
@@ -54,6 +54,7 @@ use Rattle.run_promise.specs.Words.{MovedWords}
 use Rattle.run_promise.specs.Ends.{ServesSoundly, IsEarly, IsFenced, IsReleased, IsServed, RunEnds}
 use Rattle.law_runs.proofs.Appending.{may_append}
 use Rattle.law_workers.proofs.WholeRun.{near, rules_at_end}
+use Rattle.unit_image.specs.Image.{held}
 use Rattle.unit_image.specs.OpeningImage.{LeftByOpening}
 use Rattle.unit_image.specs.Shows.{Shows, ShowsNone}
 use Rattle.unit_plan.specs.declared.plan_error.PlanFault.{PlanFault}
@@ -193,6 +194,12 @@ module _ (told : Bool) (site after : SiteSeen) (source source_after : SourceSeen
   last_opened = elim end.puts_end [
     | inl broken ↦ ap (λ (b : BookView). b.opened) broken.1 ∙ end.goes_on.opened
     | inr put ↦ ap (λ (b : BookView). b.opened) put.1.made ∙ end.goes_on.opened
+  ]
+
+  last_image : end.last.image ≡ site.trace.now.image
+  last_image = elim end.puts_end [
+    | inl broken ↦ ap (λ (b : BookView). b.image) broken.1 ∙ end.goes_on.image ∙ ran.read
+    | inr put ↦ ap (λ (b : BookView). b.image) put.1.made ∙ end.goes_on.image ∙ ran.read
   ]
 
   last_start : end.last.start ≡ book.start
@@ -770,6 +777,19 @@ module _ (told : Bool) (site after : SiteSeen) (source source_after : SourceSeen
         (ran.come.fenced is_told) (ran.come.earlier is_told) book.opened.trace (ran.opening is_told) (ran.sunk is_told)
         serving
 
+    pub plans_so : EachMoment site.trace after.trace (λ image sunk. IsEarly call account.told image sunk
+        ⊎ HasPlan (plan_at_entry call) image)
+    plans_so =
+        let serving : EachMoment book.opened.trace after.trace
+        (λ image sunk. HasPlan (held site.trace.now.image).plan image) =
+        subst (λ (o : SiteSeen). EachMoment book.opened.trace o.trace
+        (λ image sunk. HasPlan (held site.trace.now.image).plan image)) (sym end.site_is)
+        (subst (λ (o : SiteSeen). EachMoment o.trace end.last.site.trace
+        (λ image sunk. HasPlan (held site.trace.now.image).plan image)) last_opened
+        (subst (λ (read : List ℕ). EachMoment end.last.opened.trace end.last.site.trace
+        (λ image sunk. HasPlan (held read).plan image)) last_image (end.kept.plan_stays is_told))) in
+        all_plans call account book.start book.opened.trace (ran.shows is_told) (ran.opening is_told) serving
+
   -- ---- its releases
 
   full_answer : came ≡ ends.Ended → end.end ≡ ends.SessionFull → (end.answer ≡ Err SessionFull)
@@ -1025,6 +1045,7 @@ module _ (told : Bool) (site after : SiteSeen) (source source_after : SourceSeen
             run = sound_call_run is_told;
             moments = moments_so is_told;
             fences = fences_so is_told;
+            same_plan = plans_so is_told;
             end_widths = end_widths;
           };
           released = r;
@@ -1032,7 +1053,7 @@ module _ (told : Bool) (site after : SiteSeen) (source source_after : SourceSeen
               (sym same) (exact_so is_told one);
           exit = kept_stands told call account book.start end.last is_told end.kept end.site_is end.entries_are
               last_start
-              (ap (λ (s : SiteSeen). s.faults) last_opened ∙ ran.same_faults);
+              (ap (λ (s : SiteSeen). s.faults) last_opened ∙ ran.same_faults) last_image;
         }
 
     pub run_ends_so : RunEnds call

@@ -9,24 +9,27 @@ use Rattle.std.proofs.lemmas.Option.{slice_get_within}
 use Rattle.sdls_base.specs.declared.entry.Entry.{Entry}
 use Rattle.sdls_base.specs.declared.entry.Logged.{Logged}
 use Rattle.sdls_base.specs.declared.entry.Logged.TheVariants as lines
+use Rattle.sdls_outside.specs.Disk.{Leaves}
 use Rattle.sdls_outside.specs.Moments.{Trace, Between, EachMoment}
 use Rattle.sdls_outside.proofs.Moments.{each_then, each_weaker}
 use Rattle.record_io.specs.Answers.{answer_octets, answers_octets}
 use Rattle.record_io.specs.Places.{Place}
 use Rattle.unit_image.specs.OpeningImage.{LeftByOpening, Opening}
+use Rattle.unit_image.specs.Shows.{Shows}
+use Rattle.law_image.proofs.Images.{opened_plan}
 use Rattle.unit_plan.specs.PlanLines.{PlanLines}
 use Rattle.unit_state.specs.declared.state.State.{State}
 use Rattle.run_promise.specs.Log.{entries_of, pieces_of}
 use Rattle.unit_book.specs.Book.{Serves}
 use Rattle.run_promise.specs.Deed.{Deed}
 use Rattle.law_runs.specs.Settled.{AreSettled}
-use Rattle.run_promise.specs.Sound.{EachBegun, ShowsAfter, SoundMoment, deeds_octets}
+use Rattle.run_promise.specs.Sound.{EachBegun, HasPlan, ShowsAfter, SoundMoment, deeds_octets}
 use Rattle.law_runs.specs.AtEnd.{StaysCovered}
 use Rattle.unit_book.proofs.Lines.{entries_front}
 use Rattle.law_workers.proofs.Histories.{get_front, place_of_entry}
 use Rattle.law_workers.proofs.Logs.{entries_low}
 use Rattle.law_runs.proofs.SoundMoments.{moment_sound, pieces_low}
-use Rattle.run_promise.specs.Call.{CallSeen, image_at_entry, sunk_since}
+use Rattle.run_promise.specs.Call.{CallSeen, image_at_entry, plan_at_entry, sunk_since}
 use Rattle.run_promise.specs.Account.{Account, answers_of_first, course_of, deeds_in, end_octets}
 use Rattle.run_promise.specs.Ends.{IsEarly, IsFenced, IsServed}
 
@@ -43,15 +46,20 @@ nothing_since : (call : CallSeen) (sunk : List ℕ) → sunk ≡ call.site.trace
 nothing_since call sunk same = ap (drop (length call.site.trace.now.sunk)) same
     ∙ drop_all (length call.site.trace.now.sunk) call.site.trace.now.sunk (omega arith)
 
+-- a moment of the opening that leaves what one at the entry may leave is early
+early_moment : (call : CallSeen) (account : Account) (image sunk : List ℕ) → Leaves call.site.trace.now image
+    → sunk ≡ call.site.trace.now.sunk → IsEarly call account.told image sunk
+early_moment call account image sunk leaves same = record {
+  leaves = leaves;
+  only_end = subst (λ (l : List ℕ). l ≡ take (length l) (end_octets call account.told))
+      (sym (nothing_since call sunk same)) refl;
+}
+
 pub opening_moment : (call : CallSeen) (account : Account) (plan : PlanLines) (state : State) (image sunk : List ℕ)
     → Opening call.site.trace image sunk → IsEarly call account.told image sunk
     ⊎ IsServed call account plan state image sunk
 opening_moment call account plan state image sunk (inl leaves, same) =
-    let none = nothing_since call sunk same in
-    inl (record {
-      leaves = leaves;
-      only_end = subst (λ (l : List ℕ). l ≡ take (length l) (end_octets call account.told)) (sym none) refl;
-    })
+    inl (early_moment call account image sunk leaves same)
 opening_moment call account plan state image sunk (inr settles, same) =
     let none = nothing_since call sunk same in
     inr (subst (SoundMoment (course_of call account plan state) (deeds_in account) (end_octets call account.told)
@@ -92,11 +100,7 @@ pub opening_fence : (call : CallSeen) (account : Account) (state : State) (image
     → IsEarly call account.told image sunk
     ⊎ (LeftByOpening (image_at_entry call) image ⊎ IsFenced call account state image sunk)
 opening_fence call account state image sunk (inl leaves, same) =
-    let none = nothing_since call sunk same in
-    inl (record {
-      leaves = leaves;
-      only_end = subst (λ (l : List ℕ). l ≡ take (length l) (end_octets call account.told)) (sym none) refl;
-    })
+    inl (early_moment call account image sunk leaves same)
 opening_fence call account state image sunk (inr settles, same) = inr (inl settles)
 
 module _ (call : CallSeen) (account : Account) (state : State) (log own rest : List Logged) (standing : ℕ)
@@ -178,6 +182,34 @@ module _ (call : CallSeen) (account : Account) (state : State) (log own rest : L
         (each_weaker opened call.site_after.trace (Serves state log standing opened.now.sunk) P
         (λ image sunk m. inr (inr (serving_fence image sunk
         (subst (λ (before : List ℕ). Serves state log standing before image sunk) same m)))) serving)
+
+-- ---- the plan
+
+opening_plan : (call : CallSeen) (account : Account) (state : State) → Shows (image_at_entry call) state
+    → (image sunk : List ℕ) → Opening call.site.trace image sunk
+    → IsEarly call account.told image sunk ⊎ HasPlan (plan_at_entry call) image
+opening_plan call account state shows image sunk (inl leaves, same) =
+    inl (early_moment call account image sunk leaves same)
+opening_plan call account state shows image sunk (inr settles, same) =
+    let (here, forms) = opened_plan (image_at_entry call) image state shows settles in
+    inr (record { here = here; forms = forms })
+
+-- all moments of the call
+pub all_plans : (call : CallSeen) (account : Account) (state : State) (opened : Trace)
+    → Shows (image_at_entry call) state
+    → EachMoment call.site.trace opened (Opening call.site.trace)
+    → EachMoment opened call.site_after.trace (λ image sunk. HasPlan (plan_at_entry call) image)
+    → EachMoment call.site.trace call.site_after.trace (λ image sunk. IsEarly call account.told image sunk
+    ⊎ HasPlan (plan_at_entry call) image)
+all_plans call account state opened shows opening serving =
+    let P : List ℕ → List ℕ → Type 0 = λ image sunk. IsEarly call account.told image sunk
+    ⊎ HasPlan (plan_at_entry call) image in
+    each_then call.site.trace opened call.site_after.trace P
+    (each_weaker call.site.trace opened (Opening call.site.trace) P (opening_plan call account state shows) opening)
+    (each_weaker opened call.site_after.trace (λ image sunk. HasPlan (plan_at_entry call) image) P
+    (λ image sunk has. inr has) serving)
+
+-- ---- all together
 
 -- all moments of the call: of the opening, and then of the book
 pub all_moments : (call : CallSeen) (account : Account) (plan : PlanLines) (state : State) (opened : Trace)

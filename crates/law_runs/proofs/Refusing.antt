@@ -22,7 +22,7 @@ use Rattle.key_book.specs.declared.key_row.KeyRow.{KeyRow}
 use Rattle.key_book.specs.KeyBook.{AreKeyRows, place_of, row_of}
 use Rattle.unit_image.specs.Image.{held, OnlySyncs}
 use Rattle.unit_image.specs.OpeningImage.{LeftByOpening}
-use Rattle.law_image.proofs.Images.{only_syncs_moments}
+use Rattle.law_image.proofs.Images.{only_syncs_moments, opened_plan}
 use Rattle.record_io.specs.declared.status.TheConstants.{DONE, SITE_FAULT}
 use Rattle.record_io.specs.Answers.{answer_octets}
 use Rattle.record_io.specs.Reading.{SourceSeen, HasTaken}
@@ -38,12 +38,12 @@ use Rattle.unit_image.specs.declared.fault.OpenFault.TheVariants as openings
 use Rattle.unit_image.specs.OpeningImage.{IsOpenCause}
 use Rattle.unit_image.specs.Shows.{Shows, ShowsNone}
 use Rattle.unit_image.proofs.OpenFaults.{same_image}
-use Rattle.run_promise.specs.Call.{SiteSeen, CallSeen, sunk_since, image_at_entry}
+use Rattle.run_promise.specs.Call.{SiteSeen, CallSeen, sunk_since, image_at_entry, plan_at_entry}
 use Rattle.run_promise.specs.Numbers.{release_at, release_of, released_floor, releases, mark_at, mark_of, kept_floor}
 use Rattle.law_history.proofs.Accepting.{kept_restarted}
 use Rattle.run_promise.specs.OneLane.{IsExact}
 use Rattle.run_promise.specs.Words.{Kept}
-use Rattle.run_promise.specs.Sound.{IsSound}
+use Rattle.run_promise.specs.Sound.{HasPlan, IsSound}
 use Rattle.law_workers.proofs.Rows.{mark_known, row_named, row_placed}
 use Rattle.sdls_base.specs.declared.states.KeyState.TheVariants.{PreActive}
 use Rattle.run_promise.specs.declared.end.RunEnd.TheVariants as ends
@@ -338,11 +338,21 @@ module _ (told : Bool) (site back after : SiteSeen) (source : SourceSeen) (fault
     fenced image sunk (inl leaves, only_end) = inl (record { leaves = leaves; only_end = only_end })
     fenced image sunk (inr settles, only_end) = inr (inl settles)
 
+    planned : Shows site.trace.now.image state → (image sunk : List ℕ)
+        → (Leaves site.trace.now image ⊎ LeftByOpening site.trace.now.image image)
+        × (sunk_since call sunk ≡ take (length (sunk_since call sunk)) (end_octets call refused.end))
+        → IsEarly call refused.end image sunk ⊎ HasPlan (plan_at_entry call) image
+    planned shows image sunk (inl leaves, only_end) = inl (record { leaves = leaves; only_end = only_end })
+    planned shows image sunk (inr settles, only_end) =
+        let (here, forms) = opened_plan site.trace.now.image image state shows settles in
+        inr (record { here = here; forms = forms })
+
     sound_run : IsPlan plan → KeepsRules state → IsSound (course_of call account plan state) [] []
     sound_run plan_is rules = no_records _ plan_is rules refl
 
-    sound_call : IsTrue told → IsPlan plan → KeepsRules state → IsSoundCall call account plan state
-    sound_call is_told plan_is rules = record {
+    sound_call : IsTrue told → Shows site.trace.now.image state → IsPlan plan → KeepsRules state
+        → IsSoundCall call account plan state
+    sound_call is_told shows plan_is rules = record {
       run = sound_run plan_is rules;
       moments =
           let P : List ℕ → Type 0 = λ image. Leaves site.trace.now image ⊎ LeftByOpening site.trace.now.image image in
@@ -358,6 +368,13 @@ module _ (told : Bool) (site back after : SiteSeen) (source : SourceSeen) (fault
           × (sunk_since call sunk ≡ take (length (sunk_since call sunk)) (end_octets call refused.end)))
           (λ image sunk. IsEarly call refused.end image sunk
           ⊎ (LeftByOpening (image_at_entry call) image ⊎ IsFenced call account state image sunk)) fenced
+          (with_end P is_told (refused.opening is_told));
+      same_plan =
+          let P : List ℕ → Type 0 = λ image. Leaves site.trace.now image ⊎ LeftByOpening site.trace.now.image image in
+          each_weaker site.trace after.trace
+          (λ image sunk. P image
+          × (sunk_since call sunk ≡ take (length (sunk_since call sunk)) (end_octets call refused.end)))
+          (λ image sunk. IsEarly call refused.end image sunk ⊎ HasPlan (plan_at_entry call) image) (planned shows)
           (with_end P is_told (refused.opening is_told));
       end_widths = refused.widths;
     }
@@ -453,6 +470,7 @@ module _ (told : Bool) (site back after : SiteSeen) (source : SourceSeen) (fault
           → ShowsNone site.trace.now.image offset) back.trace.now.image state fault
           refused.cause refused.put_cause.later well ((refused.left is_told).stands state shows)));
       rests = λ well. inl (never_opened never is_told fault refl refused.cause);
+      same_plan = λ well. inl (never_opened never is_told fault refl refused.cause);
       stored = inl (never_opened never is_told fault refl refused.cause);
     }
 
@@ -495,7 +513,7 @@ module _ (told : Bool) (site back after : SiteSeen) (source : SourceSeen) (fault
       sound = λ is_told plan state shows.
           let is_plan = plans (held site.trace.now.image).plan plan shows.says in
           let keeps = rules site.trace.now.image state shows.shows in
-          let sound = sound_call plan state is_told is_plan keeps in
+          let sound = sound_call plan state is_told shows.shows is_plan keeps in
           let (r, words) = released plan state keeps (lefts site.trace.now.image state shows.shows)
           sound.run.history.run.ends sound.run.history.run.within in record {
             sound = sound;

@@ -1,9 +1,9 @@
 -- What stands in the image when a run has ended: for `run_ends_well` and `refused_run_ends`.
-use Rattle.std.proofs.Common.{◌≡◌, ℕ, ◌≤◌, Bool, IsTrue, List, length, sym, ap, subst, inr, arith}
+use Rattle.std.proofs.Common.{◌≡◌, ℕ, ◌≤◌, Bool, IsTrue, List, length, sym, ◌∙◌, ap, subst, inr, arith}
 use Rattle.sdls_base.specs.declared.entry.Entry.{Entry}
 use Rattle.sdls_outside.specs.Disk.{Leaves}
 use Rattle.sdls_outside.specs.Faults.{Rose}
-use Rattle.unit_image.specs.Image.{IsSettled}
+use Rattle.unit_image.specs.Image.{held, IsSettled}
 use Rattle.unit_image.specs.declared.fault.OpenFault.{OpenFault}
 use Rattle.unit_image.specs.declared.fault.OpenFault.TheVariants as openings
 use Rattle.unit_image.specs.OpeningImage.{IsOpenCause, ShowsUnlessFailed}
@@ -12,7 +12,7 @@ use Rattle.unit_state.specs.declared.state.State.{State}
 use Rattle.unit_state.specs.Restart.{restarted}
 use Rattle.unit_state.specs.History.{after}
 use Rattle.unit_book.specs.Book.{BookView, IsKept}
-use Rattle.run_promise.specs.Call.{SiteSeen, CallSeen}
+use Rattle.run_promise.specs.Call.{SiteSeen, CallSeen, image_at_entry}
 use Rattle.run_promise.specs.Log.{entries_of}
 use Rattle.run_promise.specs.Sound.{ShowsAfter}
 use Rattle.run_promise.specs.Account.{Account}
@@ -21,8 +21,8 @@ use Rattle.run_promise.specs.Ends.{StandsAtExit}
 -- the book is kept at the exit, over the site that the call leaves
 pub kept_stands : (told : Bool) (call : CallSeen) (account : Account) (start : State) (last : BookView) → IsTrue told
     → IsKept told last → call.site_after ≡ last.site → call.entries ≡ entries_of last.log → last.start ≡ start
-    → last.opened.faults ≡ call.site.faults → StandsAtExit call account start
-kept_stands told call account start last is_told kept site_is entries_are started faults_are = record {
+    → last.opened.faults ≡ call.site.faults → last.image ≡ image_at_entry call → StandsAtExit call account start
+kept_stands told call account start last is_told kept site_is entries_are started faults_are read_is = record {
   stands = λ well.
       subst (λ (site : SiteSeen). Shows site.trace.now.image (restarted (after start call.entries))) (sym site_is)
       (subst (λ (state : State). Shows last.site.trace.now.image (restarted (after state call.entries))) started
@@ -34,6 +34,8 @@ kept_stands told call account start last is_told kept site_is entries_are starte
     subst (λ (site : SiteSeen). IsSettled site.trace last.journal) (sym site_is)
         (kept.current is_told (unrisen well)).settled,
   );
+  same_plan = λ well. inr (ap (λ (site : SiteSeen). (held site.trace.now.image).plan) site_is
+      ∙ (kept.outside is_told (unrisen well)).same_plan ∙ ap (λ (image : List ℕ). (held image).plan) read_is);
   stored = inr (λ image leaves.
       let (p, low, shows) = (kept.history is_told).shows_now image
       (subst (λ (site : SiteSeen). Leaves site.trace.now image) site_is leaves) in

@@ -35,6 +35,7 @@ pub record Ran (told : Bool) (site : SiteSeen) (source source_after : SourceSeen
   pub shows : IsTrue told → Shows site.trace.now.image book.start
   pub opening : IsTrue told → EachMoment site.trace book.opened.trace (Opening site.trace)
   pub sunk : IsTrue told → book.opened.trace.now.sunk ≡ site.trace.now.sunk
+  pub read : book.image ≡ site.trace.now.image
   pub same_faults : book.opened.faults ≡ site.faults
   pub founded : IsTrue told → IsFounded (begin_by told book.plan book.start) first
   pub come : HasCome source source_after (begin_by told book.plan book.start) first now

@@ -62,9 +62,13 @@ call_seen source_of site_of told source source_after site site_after status entr
 abbrev pub image_at_entry : CallSeen → List ℕ
 image_at_entry call = call.site.trace.now.image
 
+-- the octets of the plan in it
+abbrev pub plan_at_entry : CallSeen → List ℕ
+plan_at_entry call = (held (image_at_entry call)).plan
+
 -- it says this plan, and shows this state
 pub record ShowsAtEntry (call : CallSeen) (plan : PlanLines) (state : State) : Type 0 where
-  pub says : plan_of (held (image_at_entry call)).plan ≡ Ok plan
+  pub says : plan_of (plan_at_entry call) ≡ Ok plan
   pub shows : Shows (image_at_entry call) state
 
 -- what was sunk since the call's entry

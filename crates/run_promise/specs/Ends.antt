@@ -12,7 +12,7 @@ use Rattle.key_book.specs.KeyBook.{place_of}
 use Rattle.unit_state.specs.declared.state.State.{State}
 use Rattle.unit_state.specs.Restart.{restarted}
 use Rattle.unit_state.specs.History.{after, after_first}
-use Rattle.unit_image.specs.Image.{IsSettled, JournalView}
+use Rattle.unit_image.specs.Image.{held, IsSettled, JournalView}
 use Rattle.unit_image.specs.Shows.{Shows, ShowsNone}
 use Rattle.unit_image.specs.OpeningImage.{LeftByOpening}
 use Rattle.record_io.specs.Answers.{IsAnswer, answers_octets}
@@ -20,11 +20,11 @@ use Rattle.record_io.specs.Places.{Place, records_of}
 use Rattle.record_io.specs.Reading.{HasTaken}
 use Rattle.record_io.specs.declared.status.TheConstants as status
 use Rattle.run_promise.specs.declared.end.RunEnd.TheVariants.{SiteFault, NoMemory, Ended, NoState, SessionFull}
-use Rattle.run_promise.specs.Call.{CallSeen, ShowsAtEntry, image_at_entry, sunk_since}
+use Rattle.run_promise.specs.Call.{CallSeen, ShowsAtEntry, image_at_entry, plan_at_entry, sunk_since}
 use Rattle.run_promise.specs.Account.{Account, AreAnswered, answers_of_first, course_of, deeds_in, end_answer}
 use Rattle.run_promise.specs.Account.{end_octets, CameBy}
 use Rattle.run_promise.specs.Account.{TellsEnd, StoodUntilRelease, PutsDue, PutsFront}
-use Rattle.run_promise.specs.Sound.{ShowsAfter, AreReported, IsSound, SoundMoment}
+use Rattle.run_promise.specs.Sound.{ShowsAfter, AreReported, HasPlan, IsSound, SoundMoment}
 use Rattle.run_promise.specs.Numbers.{releases}
 use Rattle.run_promise.specs.Answers.{SaysSiteFailed, Uses}
 use Rattle.run_promise.specs.History.{NearWord}
@@ -55,6 +55,9 @@ pub record StandsAtExit (call : CallSeen) (account : Account) (state : State) : 
   -- all of it is then on the disk, its closed gates are 0, and so are the octets of the other bank and of old banks
   pub rests : ¬ Rose call.site.faults call.site_after.faults
       → IsUnopened call account ⊎ ((journal : JournalView) × IsSettled call.site_after.trace journal)
+  -- the plan in the image is then the one at the entry, octet for octet
+  pub same_plan : ¬ Rose call.site.faults call.site_after.faults
+      → IsUnopened call account ⊎ ((held call.site_after.trace.now.image).plan ≡ plan_at_entry call)
   -- whatever failed, a crash leaves an image that shows all entries but the last at least
   pub stored : IsUnopened call account
       ⊎ ((image : List ℕ) → Leaves call.site_after.trace.now image → LacksLastAtMost state call.entries image)
@@ -83,9 +86,8 @@ pub record IsFenced (call : CallSeen) (account : Account) (state : State) (image
       → length (answers_octets (answers_of_first place.segment account.handled account.answers))
       ≤ length (sunk_since call sunk)
 
--- The run is sound, and each of its moments is so, or early. Each moment behind the opening is fenced. The fields of
--- its
--- End have their widths.
+-- The run is sound, and each of its moments is so, or early. Each moment behind the opening is fenced. The plan in the
+-- image is at each moment the one at the entry. The fields of its End have their widths.
 pub record IsSoundCall (call : CallSeen) (account : Account) (plan : PlanLines) (state : State) : Type 0 where
   pub run : IsSound (course_of call account plan state) account.handled (deeds_in account)
   pub moments : EachMoment call.site.trace call.site_after.trace
@@ -93,6 +95,8 @@ pub record IsSoundCall (call : CallSeen) (account : Account) (plan : PlanLines) 
   pub fences : EachMoment call.site.trace call.site_after.trace
       (λ image sunk. IsEarly call account.told image sunk
       ⊎ (LeftByOpening (image_at_entry call) image ⊎ IsFenced call account state image sunk))
+  pub same_plan : EachMoment call.site.trace call.site_after.trace
+      (λ image sunk. IsEarly call account.told image sunk ⊎ HasPlan (plan_at_entry call) image)
   pub end_widths : IsAnswer (end_answer account.told (length call.entries))
 
 -- the releases that are due behind the entries of the lanes, by these words `next` of the rows

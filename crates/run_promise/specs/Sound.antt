@@ -7,7 +7,7 @@ use Rattle.replay_window.specs.declared.TheConstants.{MOST_BACK}
 use Rattle.unit_state.specs.declared.state.State.{State}
 use Rattle.unit_state.specs.Restart.{restarted}
 use Rattle.unit_state.specs.History.{after_first, epoch_after}
-use Rattle.unit_image.specs.Image.{HasOneClosed, IsOpenedForm}
+use Rattle.unit_image.specs.Image.{held, HasOneClosed, IsOpenedForm}
 use Rattle.unit_image.specs.Shows.{Shows}
 use Rattle.unit_image.specs.OpeningImage.{LeftByOpening}
 use Rattle.record_io.specs.declared.code.TheConstants.{NO_MEMORY, SITE_FAULT}
@@ -42,6 +42,11 @@ AreReported before (deed ∷ deeds) = (deed.task.kind ≡ Monitor → IsReported
     × AreReported (before ++ noted_of deed ∷ []) deeds
 
 -- ---- what an image shows
+
+-- the image has this plan, octet for octet, and so has each of its opened forms
+pub record HasPlan (plan image : List ℕ) : Type 0 where
+  pub here : (held image).plan ≡ plan
+  pub forms : (form : List ℕ) → IsOpenedForm image form → (held form).plan ≡ plan
 
 -- The image shows the state after the first p entries, and each of its opened forms that after these or more. One gate
 -- at most is closed.

@@ -24,6 +24,8 @@ use Rattle.unit_book.proofs.Opened.{shown_rests}
 use Rattle.unit_image.specs.Shows.{Shows, ShowsNone}
 use Rattle.run_promise.specs.Log.{entries_of}
 use Rattle.run_promise.specs.Call.{SiteSeen}
+use Rattle.run_promise.specs.Sound.{HasPlan}
+use Rattle.law_image.proofs.Images.{opened_plan}
 use Rattle.unit_book.specs.Book.{BookView, IsKept, Serves, with_put}
 use Rattle.unit_book.proofs.Serving.{serves_shows}
 use Rattle.sdls_plain.specs.declared.stat.StatEnd.{StatEnd}
@@ -135,6 +137,39 @@ book_moments told old new piece made none first kept is_told =
       ];
     }
 
+-- the plan stays while a book that was opened puts one piece
+pub book_plans : (told : Bool) (old new : BookView) (piece : List ℕ)
+    → new ≡ with_put piece (record old { site = new.site }) → old.opened ≡ old.site → IsKept told new → IsTrue told
+    → EachMoment old.site.trace new.site.trace (λ image sunk. HasPlan (held old.image).plan image)
+book_plans told old new piece made first kept is_told =
+    let opened : new.opened ≡ old.site = ap (λ (b : BookView). b.opened) made ∙ first in
+    let read : new.image ≡ old.image = ap (λ (b : BookView). b.image) made in
+    subst (λ (o : SiteSeen). EachMoment o.trace new.site.trace (λ image sunk. HasPlan (held old.image).plan image))
+    opened
+    (subst (λ (image_read : List ℕ). EachMoment new.opened.trace new.site.trace
+    (λ image sunk. HasPlan (held image_read).plan image)) read (kept.plan_stays is_told))
+
+-- the plan of an image that shows a state stays while it is opened
+opening_plan : (entry : Trace) (state : State) → Shows entry.now.image state → (image sunk : List ℕ)
+    → Opening entry image sunk → Leaves entry.now image ⊎ HasPlan (held entry.now.image).plan image
+opening_plan entry state shows image sunk (inl leaves, same) = inl leaves
+opening_plan entry state shows image sunk (inr settles, same) =
+    let (here, forms) = opened_plan entry.now.image image state shows settles in
+    inr (record { here = here; forms = forms })
+
+-- all moments of `stat` keep it, where the book was opened
+pub all_plans : (entry opened last : Trace) (state : State) → Shows entry.now.image state
+    → EachMoment entry opened (Opening entry)
+    → EachMoment opened last (λ image sunk. HasPlan (held entry.now.image).plan image)
+    → EachMoment entry last (λ image sunk. Leaves entry.now image ⊎ HasPlan (held entry.now.image).plan image)
+all_plans entry opened last state shows opening stays =
+    let P : List ℕ → List ℕ → Type 0 =
+    λ image sunk. Leaves entry.now image ⊎ HasPlan (held entry.now.image).plan image in
+    each_then entry opened last P
+    (each_weaker entry opened (Opening entry) P (opening_plan entry state shows) opening)
+    (each_weaker opened last (λ image sunk. HasPlan (held entry.now.image).plan image) P (λ image sunk has. inr has)
+    stays)
+
 -- what is told of the book is what is due for the image that it was opened on
 pub told_due : (told : Bool) (rose : Type 0) (image text : List ℕ) (book : BookView) (end : StatEnd)
     → TellsBook book text end
@@ -202,6 +237,22 @@ refused_moments told text due status entry mid new rose opening ends is =
     (opening.each image mid.now.sunk (moment_now mid (clock entry) image leaves)))
     (sinks_leave mid new (ends_sink told text due status mid new rose ends is)))
 
+-- and so do those where it was not opened
+pub refused_plans : (told : Bool) (text : List ℕ) (due status : ℕ) (entry mid new : Trace) (rose : Type 0)
+    (state : State)
+    → Shows entry.now.image state → EachMoment entry mid (Opening entry) → Ends told mid new rose text due status
+    → IsTrue told
+    → EachMoment entry new (λ image sunk. Leaves entry.now image ⊎ HasPlan (held entry.now.image).plan image)
+refused_plans told text due status entry mid new rose state shows opening ends is =
+    let P : List ℕ → List ℕ → Type 0 =
+    λ image sunk. Leaves entry.now image ⊎ HasPlan (held entry.now.image).plan image in
+    each_then entry mid new P
+    (each_weaker entry mid (Opening entry) P (opening_plan entry state shows) opening)
+    (each_weaker mid new (λ image sunk. Leaves mid.now image) P
+    (λ image sunk leaves. opening_plan entry state shows image mid.now.sunk
+    (opening.each image mid.now.sunk (moment_now mid (clock entry) image leaves)))
+    (sinks_leave mid new (ends_sink told text due status mid new rose ends is)))
+
 -- an image that was refused is left
 pub refused_left : (told : Bool) (text : List ℕ) (due status : ℕ) (entry mid new : Trace) (rose : Type 0)
     → OnlySyncs entry mid → Leaves entry.now entry.now.image → Ends told mid new rose text due status → IsTrue told
@@ -224,6 +275,12 @@ pub alone_now : (opened last : Trace) (state : State) → EachMoment opened last
     → Leaves last.now last.now.image → ShowsAlone state last.now.image
 alone_now opened last state each stays =
     each.each last.now.image last.now.sunk (moment_now last (clock opened) last.now.image stays)
+
+-- the plan is that of the image as it reads at the end
+pub plan_now : (opened last : Trace) (plan : List ℕ) → EachMoment opened last (λ image sunk. HasPlan plan image)
+    → Leaves last.now last.now.image → (held last.now.image).plan ≡ plan
+plan_now opened last plan each stays =
+    (each.each last.now.image last.now.sunk (moment_now last (clock opened) last.now.image stays)).here
 
 -- the image shows the state that it showed
 pub still_shown : ((image : List ℕ) (one other : State) → Shows image one → Shows image other → one ≡ other)

@@ -11,6 +11,7 @@ use Rattle.unit_state.specs.Restart.{restarted}
 use Rattle.unit_image.specs.declared.fault.OpenFault.{OpenFault}
 use Rattle.unit_image.specs.declared.fault.OpenFault.TheVariants as faults
 use Rattle.unit_image.specs.Shows.{Shows, ShowsNone}
+use Rattle.run_promise.specs.Sound.{HasPlan}
 use Rattle.unit_book.specs.Book.{BookView}
 use Rattle.status_text.specs.Text.{status_text}
 use Rattle.record_io.specs.declared.status.TheConstants as statuses
@@ -98,3 +99,8 @@ pub record EndsStat (told : Bool) (old new : Trace) (site_rose : Type 0) (status
   -- one that shows a state shows it still, unless the site failed; where that was told, it has no opened form
   pub stands : IsTrue told → (state : State) → Shows old.now.image state → end ≢ SiteFault → Shows new.now.image state
   pub alone : IsTrue told → end ≡ Told → (form : List ℕ) → ¬ IsOpenedForm new.now.image form
+  -- the plan in an image that shows a state is at each moment the one at the entry, octet for octet
+  pub same_plan : IsTrue told → (state : State) → Shows old.now.image state
+      → EachMoment old new (λ image sunk. Leaves old.now image ⊎ HasPlan (held old.now.image).plan image)
+  -- so it is in the image that stands, where its state was told
+  pub plan_stands : IsTrue told → end ≡ Told → (held new.now.image).plan ≡ (held old.now.image).plan

@@ -2,6 +2,8 @@
 ghost use Rattle.std.specs.Prelude.{◌≡◌, ◌≢◌, ◌≤◌, ◌++◌, [], ℕ, List, IsTrue, decimal};
 ghost use Rattle.sdls_outside.specs.Faults.{HasCause, Rose};
 ghost use Rattle.sdls_outside.specs.Moments.{EachMoment};
+ghost use Rattle.unit_image.specs.Image.{held};
+ghost use Rattle.run_promise.specs.Sound.{HasPlan};
 ghost use Rattle.unit_book.specs.Book.{IsKept, with_put};
 ghost use Rattle.unit_book.specs.Log.{sunk_between};
 ghost use Rattle.record_io.specs.Outcome.{Ends};
@@ -89,6 +91,8 @@ fn tell_state<O: Site>(alloc: Global, mut book: Book<O>) -> Outcome<O>
         (Rose book.site.faults (O.faults result.site)) }
     ensures moments { IsTrue O.told → EachMoment book.site.trace (O.trace result.site)
         (λ image sunk. ShowsAlone book.start image) }
+    ensures plans { IsTrue O.told → EachMoment book.site.trace (O.trace result.site)
+        (λ image sunk. HasPlan (held book.image).plan image) }
     ensures later { book.site.faults ≤ O.faults result.site }
     ensures quiet { result.status ≢ SITE_FAULT → O.faults result.site ≡ book.site.faults }
     ensures no_history { result.entries.items ≡ [] }

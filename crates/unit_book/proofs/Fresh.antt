@@ -14,6 +14,7 @@ use Rattle.run_promise.specs.Call.{SiteSeen}
 use Rattle.unit_book.specs.Book.{ShowsFrom, Serves, IsHistory, IsKept, begun}
 use Rattle.unit_book.proofs.MarksKept.{marks_same}
 use Rattle.unit_book.proofs.Growing.{shows_from_all}
+use Rattle.unit_book.proofs.PlanStays.{plan_fresh}
 
 append_nil : (octets : List ℕ) → octets ++ [] ≡ octets
 append_nil [] = refl
@@ -67,6 +68,7 @@ fresh_kept told site image plan start journal rules settled shows same_plan = re
     settled = settled is_told;
     shows = shows is_told;
   };
+  plan_stays = λ is_told. plan_fresh site.trace journal (held image).plan (settled is_told) (same_plan is_told);
   outside = λ is_told not. record {
     beside = record { same_length = refl; outside = λ i off. refl };
     same_plan = same_plan is_told;

@@ -7,9 +7,9 @@ use Rattle.sdls_base.specs.declared.entry.Entry.{Entry}
 use Rattle.sdls_base.specs.declared.entry.Logged.{Logged}
 use Rattle.sdls_base.specs.declared.entry.Logged.TheVariants as logged
 use Rattle.sdls_outside.specs.Faults.{Rose}
-use Rattle.sdls_outside.specs.Moments.{Trace}
+use Rattle.sdls_outside.specs.Moments.{EachMoment, Trace}
 use Rattle.sdls_outside.specs.Site.{Sank}
-use Rattle.unit_image.specs.Image.{Held, held, IsSettled, JournalView, KeepsBeside}
+use Rattle.unit_image.specs.Image.{Becomes, EachImage, Held, held, IsSettled, JournalView, KeepsBeside}
 use Rattle.unit_state.specs.declared.state.State.{State}
 use Rattle.unit_state.specs.Applied.{applied}
 use Rattle.unit_state.specs.Allows.{Allows}
@@ -23,11 +23,13 @@ use Rattle.unit_image.proofs.Outside.{beside_then}
 use Rattle.run_promise.specs.Call.{SiteSeen}
 use Rattle.run_promise.specs.declared.limits.TheConstants.{MOST_ENTRIES}
 use Rattle.run_promise.specs.Log.{entries_of}
+use Rattle.run_promise.specs.Sound.{HasPlan}
 use Rattle.unit_book.specs.Log.{sunk_between}
 use Rattle.unit_book.specs.Marks.{is_release, HasNoRelease, KeepsMarks}
 use Rattle.unit_book.specs.Book.{BookView, IsKept, CanEnter, Enters, IsAsOpened, LeavesStateAlone, entered, left_out}
 use Rattle.unit_book.specs.Book.{with_put}
 use Rattle.unit_book.proofs.MarksKept.{no_release_last, marks_then}
+use Rattle.unit_book.proofs.PlanStays.{plan_put, plan_stored}
 use Rattle.unit_book.proofs.Growing.{after_entry, first_same, first_all, says_held}
 use Rattle.unit_book.proofs.Serving.{piece_entries, entry_entries, puts_history, piece_current, NextEntry}
 use Rattle.unit_book.proofs.Serving.{failed_history, stored_history}
@@ -94,6 +96,8 @@ kept_put told octets old site low puts kept =
       current = λ is_told not. piece_current octets old.site.trace site.trace old.start old.journal old.log piece
           (puts is_told) (kept.current is_told
           (not_rose_earlier old.opened.faults old.site.faults site.faults low not));
+      plan_stays = λ is_told. plan_put octets old.opened.trace old.site.trace site.trace (held old.image).plan
+          (puts is_told) (kept.plan_stays is_told);
       outside = λ is_told not.
           subst (λ (image : List ℕ). IsAsOpened old.image old.opened.trace.now.image image old.journal)
           (sym (put_image octets old.site.trace site.trace (puts is_told)))
@@ -168,6 +172,14 @@ module _ (told : Bool) (old : BookView) (entry : Entry)
             (leads (subst (λ (s : State). Says (held old.site.trace.now.image) (restarted s)) (sym state_is) says));
       }
 
+  -- the plan stays while the entry is stored
+  plan_on : (new : Trace) (next : Held) → IsTrue told → next.plan ≡ (held old.site.trace.now.image).plan
+      → EachImage old.site.trace new (Becomes (held old.site.trace.now.image) next)
+      → EachMoment old.opened.trace new (λ image sunk. HasPlan (held old.image).plan image)
+  plan_on new next is_told same stores =
+      plan_stored old.opened.trace old.site.trace new (held old.image).plan next
+      (r.kept.outside is_told r.can.0).same_plan same stores (r.kept.plan_stays is_told)
+
   -- the book, once the entry is stored, or where nothing is stored for it
   pub kept_stored : (site : SiteSeen) (journal : JournalView) → old.site.faults ≤ site.faults
       → (IsTrue told → Stores {T = Unit {0}} {E = SiteFault} old.state entry.change (Ok tt) journal old.site.trace
@@ -207,6 +219,8 @@ module _ (told : Bool) (old : BookView) (entry : Entry)
                     (next_entry s.next s.says is_told).then;
               };
             };
+        plan_stays = λ is_told. plan_on site.trace (stores is_told).next is_told (stores is_told).same_plan
+            (stores is_told).moments;
         outside = λ is_told not. outside_stored {T = Unit {0}} {E = SiteFault} old.image
             old.opened.trace.now.image old.state entry.change tt old.journal journal old.site.trace site.trace places
             (beside is_told) (stores is_told) (r.kept.outside is_told r.can.0);
@@ -260,6 +274,8 @@ module _ (told : Bool) (old : BookView) (entry : Entry)
             failed_history old.opened.trace old.site.trace site.trace old.start old.log entry old.standing s.next
             (next_entry s.next s.says is_told) (r.kept.history is_told) whole s.moments;
         current = λ is_told not. absurd (not risen);
+        plan_stays = λ is_told. plan_on site.trace (stores is_told).next is_told (stores is_told).same_plan
+            (stores is_told).moments;
         outside = λ is_told not. absurd (not risen);
       }
 

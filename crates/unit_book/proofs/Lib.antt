@@ -4,6 +4,7 @@ pub mod GoingOn
 pub mod Lines
 pub mod Growing
 pub mod Serving
+pub mod PlanStays
 pub mod Keeping
 pub mod Fresh
 pub mod Opened

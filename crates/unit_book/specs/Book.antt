@@ -23,7 +23,7 @@ use Rattle.run_promise.specs.declared.limits.TheConstants.{MOST_ENTRIES}
 use Rattle.unit_book.specs.declared.next.Next.{Next}
 use Rattle.unit_book.specs.declared.next.Next.TheVariants.{Here, Then}
 use Rattle.run_promise.specs.Log.{entries_of, pieces_of, IsStored}
-use Rattle.run_promise.specs.Sound.{ShowsAfter}
+use Rattle.run_promise.specs.Sound.{HasPlan, ShowsAfter}
 use Rattle.run_promise.specs.Call.{SiteSeen}
 use Rattle.unit_book.specs.Marks.{HasNoRelease, KeepsMarks}
 
@@ -94,6 +94,9 @@ pub record IsKept (told : Bool) (book : BookView) : Type 0 where
   pub history : IsTrue told → IsHistory book.opened.trace book.site.trace book.start book.log book.standing
   pub current : IsTrue told → ¬ Rose book.opened.faults book.site.faults
       → IsCurrent book.site.trace book.start book.journal (entries_of book.log)
+  -- at each moment, whatever failed, the image has the plan that was read
+  pub plan_stays : IsTrue told
+      → EachMoment book.opened.trace book.site.trace (λ image sunk. HasPlan (held book.image).plan image)
   pub outside : IsTrue told → ¬ Rose book.opened.faults book.site.faults
       → IsAsOpened book.image book.opened.trace.now.image book.site.trace.now.image book.journal
 

@@ -111,6 +111,7 @@ module _ {B : Type 0} (told : Bool) (site after : SiteSeen) (opened : BookView) 
         (here.any_moment is_told);
     sunk = λ is_told. ap (λ (t : Trace). t.now.sunk) trail_is ∙ opened_sunk site.trace opened.site.trace
         (here.any_moment is_told) (here.stays is_told);
+    read = image_is;
     same_faults = faults_are;
     founded = λ is_told. record {
       rows = refl;

@@ -1,10 +1,14 @@
 use Rattle.std.proofs.Common.{◌≡◌, IsTrue, subst, sym, ap, arith}
 use Rattle.sdls_outside.specs.Faults.{Rose}
+use Rattle.sdls_outside.specs.Moments.{EachMoment}
+use Rattle.unit_image.specs.Image.{held}
 use Rattle.unit_image.specs.Shows.{Shows, ShowsNone}
+use Rattle.run_promise.specs.Sound.{HasPlan}
 use Rattle.unit_book.specs.Book.{BookView}
 use Rattle.sdls_plain.specs.Stat.{end_of_open, fault_text, stat_status}
-use Rattle.sdls_plain.proofs.Telling.{all_moments, alone_now, ends_put, fault_due, fault_leaves, not_told, puts_from}
-use Rattle.sdls_plain.proofs.Telling.{refused_left, refused_moments, still_shown, sunk_same, told_due}
+use Rattle.sdls_plain.proofs.Telling.{all_moments, all_plans, alone_now, ends_put, fault_due, fault_leaves, not_told}
+use Rattle.sdls_plain.proofs.Telling.{plan_now, puts_from, refused_left, refused_moments, refused_plans, still_shown}
+use Rattle.sdls_plain.proofs.Telling.{sunk_same, told_due}
 use Rattle.sdls_plain.proofs.stat.run_stat.Goals as goal
 
 pub returns-in-Ok-clause-ends : goal.returns-in-Ok-clause-ends
@@ -13,6 +17,12 @@ returns-in-Ok-clause-ends g c =
     let told = c.tell_state.ensures.told in
     let start : book.state ≡ book.start = ap (λ (b : BookView). b.state) c.in-Ok.ensures.begun in
     let low = c.in-Ok.ensures.later in
+    let read : book.image ≡ (g.O.Site.trace site).now.image =
+    ap (λ (b : BookView). b.image) c.in-Ok.ensures.begun in
+    let stays : IsTrue g.O.Site.told → EachMoment book.site.trace (g.O.Site.trace last)
+    (λ image sunk. HasPlan (held (g.O.Site.trace site).now.image).plan image) =
+    λ is. subst (λ (image_read : List ℕ). EachMoment book.site.trace (g.O.Site.trace last)
+    (λ image sunk. HasPlan (held image_read).plan image)) read (c.tell_state.ensures.plans is) in
     record {
       end = told.0;
       text = told.1;
@@ -39,6 +49,11 @@ returns-in-Ok-clause-ends g c =
       alone = λ is ends.
           (alone_now book.site.trace (g.O.Site.trace last) book.start (c.tell_state.ensures.moments is)
           (g.met.O.Site.image_may_stay last is)).no_form;
+      same_plan = λ is state shows. all_plans (g.O.Site.trace site) book.site.trace (g.O.Site.trace last) state shows
+          (c.in-Ok.ensures.any_moment is) (stays is);
+      plan_stands = λ is ends. plan_now book.site.trace (g.O.Site.trace last)
+          (held (g.O.Site.trace site).now.image).plan
+          (stays is) (g.met.O.Site.image_may_stay last is);
     }
 
 pub returns-in-Err-clause-ends : goal.returns-in-Err-clause-ends
@@ -80,4 +95,10 @@ returns-in-Err-clause-ends g c =
           (c.in-Err.ensures.left is) c.tell_fault.ensures.ends is
           state shows other;
       alone = λ is ends. absurd (not_told fault ends);
+      same_plan = λ is state shows. refused_plans g.O.Site.told (fault_text (end_of_open fault))
+          (stat_status (end_of_open fault)) c.tell_fault.result.status
+          (g.O.Site.trace site) (g.O.Site.trace mid) (g.O.Site.trace last)
+          (Rose (g.O.Site.faults mid) (g.O.Site.faults last)) state shows
+          (c.in-Err.ensures.any_moment is) c.tell_fault.ensures.ends is;
+      plan_stands = λ is ends. absurd (not_told fault ends);
     }
