@@ -158,15 +158,15 @@ all_served near course (place ∷ places) (answer ∷ answers) fit none =
 rose_later : (before mid now : ℕ) → mid ≤ now → Rose before mid → Rose before now
 rose_later before mid now low rose = omega arith
 
-pub not_rose : (call : CallSeen) (account : Account) → TellsEnd call account → account.told ≡ Ended
-    → ¬ Rose call.site.faults account.last
+pub not_rose : (call : CallSeen) (account : Account) → TellsEnd call account → account.named ≡ Ended
+    → ¬ Rose call.site.faults account.faults_when_put
 not_rose call account (inl (rose, told)) is =
-    absurd (let both : Ended ≡ SiteFault account.last = sym is ∙ told in let b = both in cc)
+    absurd (let both : Ended ≡ SiteFault account.faults_when_put = sym is ∙ told in let b = both in cc)
 not_rose call account (inr (not, rest)) is = not
 
 -- with another status than that of a fault of the site its count stood until all answers were put
 pub not_failed : (call : CallSeen) (run : RunEnds call) → call.status ≢ status.SITE_FAULT
-    → ¬ Rose call.site.faults run.account.last
+    → ¬ Rose call.site.faults run.account.faults_when_put
 not_failed call run other rose = elim run.put [
   | inr broken ↦ other broken.status_is
   | inl put ↦ elim run.tells [
@@ -203,14 +203,14 @@ pub unfailed : (call : CallSeen) (run : RunEnds call) → call.status ≢ status
     → call.site_after.faults ≡ call.site.faults → IsUnfailed call
 unfailed call run other stands rose =
     let a = run.last_later in let b = run.after_later in
-    let same : run.account.last ≡ call.site_after.faults = omega arith in
+    let same : run.account.faults_when_put ≡ call.site_after.faults = omega arith in
     not_failed call run other (subst (λ (n : ℕ). Rose call.site.faults n) (sym same) rose)
 
 -- where the site did not fail, no answer tells that it did
 pub none_fails : (call : CallSeen) (run : RunEnds call) → IsUnfailed call → NoneWants run.account.answers
     → NoneFails run.account.answers
 none_fails call run still wants = λ k d low. (
-  λ says. still (rose_later call.site.faults run.account.last call.site_after.faults run.after_later
+  λ says. still (rose_later call.site.faults run.account.faults_when_put call.site_after.faults run.after_later
       (run.faults_told k d low says)),
   wants k d low,
 )
@@ -284,7 +284,7 @@ module _ (call other : CallSeen) (run : RunEnds call) (again : RunEnds other) (p
 
   -- where each record has its answer the records made all entries of the lane
   served_whole : (c : CallSeen) (account : Account) (ends : ℕ) (words : List ℕ)
-      (e : IsExact c account plan state words ends) → ¬ Rose c.site.faults account.last
+      (e : IsExact c account plan state words ends) → ¬ Rose c.site.faults account.faults_when_put
       → length account.answers ≡ length account.handled
       → ServesAll (begin_of c plan state) false [] (deeds_in account) e.moves (take ends c.entries)
   served_whole c account ends words e calm all =
@@ -293,12 +293,14 @@ module _ (call other : CallSeen) (run : RunEnds call) (again : RunEnds other) (p
       subst (λ (l : List Entry). ServesAll (begin_of c plan state) false [] (deeds_in account) e.moves l) (sym same)
       serves
 
-  quiet : ¬ Rose call.site.faults run.account.last
-  quiet rose = still (rose_later call.site.faults run.account.last call.site_after.faults run.after_later rose)
+  quiet : ¬ Rose call.site.faults run.account.faults_when_put
+  quiet rose =
+      still (rose_later call.site.faults run.account.faults_when_put call.site_after.faults run.after_later rose)
 
-  requiet : ¬ Rose other.site.faults again.account.last
+  requiet : ¬ Rose other.site.faults again.account.faults_when_put
   requiet rose =
-      restill (rose_later other.site.faults again.account.last other.site_after.faults again.after_later rose)
+      restill (rose_later other.site.faults again.account.faults_when_put other.site_after.faults again.after_later
+      rose)
 
   begins : begin_of other plan state ≡ begin_of call plan state
   begins = began_alike call other plan state told tells
@@ -393,17 +395,17 @@ module _ (call other : CallSeen) (run : RunEnds call) (again : RunEnds other) (p
         others_are ∙ ap (λ (l : List Entry). base ++ l) (same_front base due r.count q.count (omega arith))
         ∙ sym entries_are
 
-    same_due_octets : again.account.told ≡ run.account.told
+    same_due_octets : again.account.named ≡ run.account.named
         → due_octets other again.account ≡ due_octets call run.account
-    same_due_octets ends = ap (λ (l : List Answer). answers_octets l ++ end_octets other again.account.told)
+    same_due_octets ends = ap (λ (l : List Answer). answers_octets l ++ end_octets other again.account.named)
         same_answers
         ∙ ap (λ (end : RunEnd). answers_octets run.account.answers ++ end_octets other end) ends
         ∙ ap (λ (l : List Entry). answers_octets run.account.answers ++ answer_octets
-        (end_answer run.account.told (length l))) same_entries
+        (end_answer run.account.named (length l))) same_entries
 
   -- they made the same entries, and the same octets are due where they tell one end
   pub entries_alike : (other.entries ≡ call.entries)
-      × (again.account.told ≡ run.account.told → due_octets other again.account ≡ due_octets call run.account)
+      × (again.account.named ≡ run.account.named → due_octets other again.account ≡ due_octets call run.account)
   entries_alike =
       let one_serves = run.sound told plan state shows in
       let other_serves = again.sound tells plan state reshows in

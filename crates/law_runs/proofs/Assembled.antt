@@ -27,7 +27,7 @@ use Rattle.law_workers.specs.Opened.{IsJustOpened}
 use Rattle.law_runs.specs.Release.{AreReleases}
 use Rattle.run_promise.specs.Sound.{AreReported, IsSound}
 use Rattle.law_runs.specs.AtEnd.{StaysCovered}
-use Rattle.law_workers.proofs.WholeRun.{rules_at_end, pairs, pairs_above, one_fault, order, none_made, answers_fit}
+use Rattle.law_workers.proofs.WholeRun.{rules_at_end, used_once, used_above, one_fault, order, none_made, answers_fit}
 use Rattle.law_runs.proofs.Released.{legal_run, none_of_lanes, below_releases, fits_ended}
 use Rattle.law_runs.proofs.Accepting.{accepts_differ, accepts_near, accepts_above}
 use Rattle.law_runs.proofs.Covering.{stays_covered}
@@ -97,8 +97,8 @@ module _ (begin : Begin) (first now : View) (places : List Place) (deeds : List 
   sound_run reports widths = record {
     history = history;
     answers = fit;
-    pairs = pairs begin first now (records_of places) deeds is_opened d whole rows started kept ascend;
-    pairs_above = pairs_above begin first now (records_of places) deeds is_opened d whole rows started kept;
+    used_once = used_once begin first now (records_of places) deeds is_opened d whole rows started kept ascend;
+    used_above = used_above begin first now (records_of places) deeds is_opened d whole rows started kept;
     accepted = accepts_differ (NearWord begin.start (entries_in now ++ releases) (records_of places)) course places
         history deeds ascend fit;
     accepted_above = λ k a low. accepts_above (NearWord begin.start (entries_in now ++ releases) (records_of places))

@@ -40,7 +40,7 @@ module _ (once : ShowsOnce) (key number : ℕ) where
       → All Unused (given_of run.course (answers_begun (length run.sunk) run.deeds))
   run_unused run is below = given_all run.course Unused (answers_begun (length run.sunk) run.deeds)
       (begun_any (λ (d : Deed). Uses d.answer key number → ⊥) (length run.sunk) run.deeds (λ k d low used.
-      let high = is.sound.pairs_above k d low key number used in
+      let high = is.sound.used_above k d low key number used in
       let old = below run.course.begin.start (inl is.shows) in
       omega arith))
 

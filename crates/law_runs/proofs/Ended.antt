@@ -178,13 +178,13 @@ module _ (told : Bool) (site after : SiteSeen) (source source_after : SourceSeen
   abbrev pub account : Account
   account = record {
     came = came;
-    told = end.end;
+    named = end.end;
     items = ran.come.items;
     read = ran.come.read;
     part = ran.come.part;
     handled = places_of ran.come.of;
     answers = ran.come.answers;
-    last = book.site.faults;
+    faults_when_put = book.site.faults;
   }
 
   last_site : SiteSeen
@@ -670,8 +670,8 @@ module _ (told : Bool) (site after : SiteSeen) (source source_after : SourceSeen
           All (λ (deed : Deed). Fits (NearWord c.begin.start c.entries (records_of (places_of ran.come.of))) c
           deed.task deed.answer)
           (deeds_from (places_of ran.come.of) ran.come.answers)) course_is sound_so.answers;
-      pairs = sound_so.pairs;
-      pairs_above = sound_so.pairs_above;
+      used_once = sound_so.used_once;
+      used_above = sound_so.used_above;
       accepted = sound_so.accepted;
       accepted_above = sound_so.accepted_above;
       accepted_near =
@@ -746,7 +746,7 @@ module _ (told : Bool) (site after : SiteSeen) (source source_after : SourceSeen
         ])
 
     pub moments_so : EachMoment site.trace after.trace
-        (λ image sunk. IsEarly call account.told image sunk ⊎ IsServed call account book.plan book.start image sunk)
+        (λ image sunk. IsEarly call account.named image sunk ⊎ IsServed call account book.plan book.start image sunk)
     moments_so =
         let history = end.kept.history is_told in
         let serving : EachMoment book.opened.trace after.trace
@@ -761,7 +761,7 @@ module _ (told : Bool) (site after : SiteSeen) (source source_after : SourceSeen
         (ran.opening is_told) (ran.sunk is_told) serving
         end.entries_are settled_last covered_so pieces_front
 
-    pub fences_so : EachMoment site.trace after.trace (λ image sunk. IsEarly call account.told image sunk
+    pub fences_so : EachMoment site.trace after.trace (λ image sunk. IsEarly call account.named image sunk
         ⊎ (LeftByOpening site.trace.now.image image ⊎ IsFenced call account book.start image sunk))
     fences_so =
         let history = end.kept.history is_told in
@@ -777,7 +777,7 @@ module _ (told : Bool) (site after : SiteSeen) (source source_after : SourceSeen
         (ran.come.fenced is_told) (ran.come.earlier is_told) book.opened.trace (ran.opening is_told) (ran.sunk is_told)
         serving
 
-    pub plans_so : EachMoment site.trace after.trace (λ image sunk. IsEarly call account.told image sunk
+    pub plans_so : EachMoment site.trace after.trace (λ image sunk. IsEarly call account.named image sunk
         ⊎ HasPlan (plan_at_entry call) image)
     plans_so =
         let serving : EachMoment book.opened.trace after.trace

@@ -380,7 +380,7 @@ pub exact_call : (call : CallSeen) (account : Account) (plan : PlanLines) (begin
     → begin ≡ begin_of call plan begin.start → IsJustOpened begin first → IsWhole begin.rows now
     → ((row : ℕ) → row < MOST_KEYS → RowStands row (slice_index words row) now.numbers)
     → RunAlone begin first now account.handled account.answers → call.entries ≡ entries_in now ++ releases
-    → now.turn.known.opening.faults ≡ call.site.faults → now.turn.known.faults ≡ account.last
+    → now.turn.known.opening.faults ≡ call.site.faults → now.turn.known.faults ≡ account.faults_when_put
     → IsExact call account plan begin.start words (length (entries_in now))
 exact_call call account plan begin first now words releases begins opened whole stand alone_run is faults_before
     faults_last = record {
@@ -428,7 +428,8 @@ exact_call call account plan begin first now words releases begins opened whole 
                 (served false (λ not. absurd (not (let size = ap length none_first in omega arith)))).0),
             few_left rest behind,
             λ all quiet.
-                let clean : IsClean now = (λ risen. quiet (subst (λ (n : ℕ). Rose n account.last) faults_before
+                let clean : IsClean now =
+                (λ risen. quiet (subst (λ (n : ℕ). Rose n account.faults_when_put) faults_before
                 (subst (λ (n : ℕ). Rose now.turn.known.opening.faults n) faults_last risen))) in
                 ap (λ (l : List Entry). l ++ left)
                 (behind.0 (alone_run.moved.each (deeds_length account.handled account.answers all)))

@@ -205,7 +205,7 @@ module _ (call other : CallSeen) (run : RunEnds call) (again : RunEnds other) (p
       let reall : take (length run.account.answers) again.account.answers ≡ again.account.answers =
       take_all (length run.account.answers) again.account.answers (omega arith) in
       let entries : IsUnfailed call → IsUnfailed other → (other.entries ≡ call.entries)
-      × (again.account.told ≡ run.account.told → due_octets other again.account ≡ due_octets call run.account) =
+      × (again.account.named ≡ run.account.named → due_octets other again.account ≡ due_octets call run.account) =
       λ still restill.
       entries_alike call other run again plan state still restill each reach told tells image shows handled one fails
       refails once along in

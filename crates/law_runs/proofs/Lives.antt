@@ -523,11 +523,12 @@ module _ (once : ShowsOnce) (run : LifeRun) (is_run : IsRun run) where
           (none_new opening.0 (IsKnown state))
       | inr served ↦ elim shown [
         | inl shows ↦ to_shown served.p state (once run.image _ state served.shows.shows shows)
-            (served_known served.p served.shows.within (served.covers served.p (omega arith) served.shows.within))
+            (served_known served.p served.shows.within (served.still_covers served.p (omega arith) served.shows.within))
         | inr torn ↦
             let (q, above, within, form) = served.shows.forms torn.0 torn.1 in
             let low : served.p ≤ q = omega arith in
-            to_shown q state (once torn.0 _ state form torn.2) (served_known q within (served.covers q low within))
+            to_shown q state (once torn.0 _ state form torn.2)
+            (served_known q within (served.still_covers q low within))
       ]
     ]
 
@@ -554,7 +555,7 @@ module _ (once : ShowsOnce) (run : LifeRun) (is_run : IsRun run) where
           (λ k g low. none_new opening.0 (AreApart (slice_index_or given k g)))
       | inr served ↦
           let within : served.p ≤ length entries = served.shows.within in
-          let covers = served.covers served.p (omega arith) within in
+          let covers = served.still_covers served.p (omega arith) within in
           let all : All (IsKnown (after_first start entries served.p)) new =
           given_all run.course (IsKnown (after_first start entries served.p))
           (answers_begun (length run.sunk) run.deeds)
@@ -570,7 +571,7 @@ module _ (once : ShowsOnce) (run : LifeRun) (is_run : IsRun run) where
           (covered_known served.p within (slice_index_or (answers_begun (length run.sunk) run.deeds) j d)
           (begun_fit j d low)
           (begun_all (IsCoveredBy run.course served.p) (length run.sunk) run.deeds covers j d low))
-          (begun_pairs (Differ Uses) (length run.sunk) run.deeds is_run.sound.pairs i j d lt low)
+          (begun_pairs (Differ Uses) (length run.sunk) run.deeds is_run.sound.used_once i j d lt low)
           (begun_pairs (Differ Accepts) (length run.sunk) run.deeds is_run.sound.accepted i j d lt low)))
           (λ k g low. given_all run.course (AreApart (slice_index_or given k g))
           (answers_begun (length run.sunk) run.deeds) (λ j d in'.
@@ -584,7 +585,7 @@ module _ (once : ShowsOnce) (run : LifeRun) (is_run : IsRun run) where
           let a = old.below key number u in
           let b = begun_any (λ (d : Deed). (key number : ℕ) → Uses d.answer key number → mark_of start key ≤ number)
           (length run.sunk) run.deeds
-          is_run.sound.pairs_above j d in' key number v in omega arith)
+          is_run.sound.used_above j d in' key number v in omega arith)
           (λ key number u v.
           let a = old.floored key number u in
           let b = begun_any (λ (d : Deed). (key number : ℕ) → Accepts d.answer key number → floor_of start key < number)

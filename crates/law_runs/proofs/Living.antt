@@ -93,14 +93,14 @@ module _ (well : LivesWell) where
     where
       lift : (plan : PlanLines) (state : State) → ShowsAtEntry call plan state → IsSoundCall call account plan state
           → (left sunk : List ℕ)
-          → IsEarly call account.told left sunk ⊎ IsServed call account plan state left sunk
-          → IsEarly call account.told left sunk
-          ⊎ LivesOn image runs (run_of call account plan state (end_octets call account.told) left
+          → IsEarly call account.named left sunk ⊎ IsServed call account plan state left sunk
+          → IsEarly call account.named left sunk
+          ⊎ LivesOn image runs (run_of call account plan state (end_octets call account.named) left
           (sunk_since call sunk))
       lift plan state shows sound left sunk (inl early) = inl early
       lift plan state shows sound left sunk (inr served) =
-          inr (lives_on call account plan state (end_octets call account.told) left (sunk_since call sunk) shows
-          (inr (end_answer account.told (length call.entries), sound.end_widths, refl, refl)) sound.run served image
+          inr (lives_on call account plan state (end_octets call account.named) left (sunk_since call sunk) shows
+          (inr (end_answer account.named (length call.entries), sound.end_widths, refl, refl)) sound.run served image
           runs life left_is)
 
   pub reading_keeps_lives : (call : CallSeen)

@@ -713,13 +713,13 @@ module _ (start now : SourceSeen) (begin : Begin) (first v : View) (failed_befor
     pub comes : (came : RunEnd) (failed_now : ℕ) → EndsReading start now r.all r.read r.part came
         → ((told : RunEnd) (last : ℕ) → AreAnswered (record {
           came = came;
-          told = told;
+          named = told;
           items = r.all;
           read = r.read;
           part = r.part;
           handled = places_of (items ++ r.more);
           answers = answers ++ next;
-          last = last;
+          faults_when_put = last;
         }) came)
         → PutsBy begin w failed_before failed_now (answers ++ next) came
         → (came ≡ ends.SessionFull → IsFullSegment begin v mid w records next)

@@ -48,21 +48,21 @@ nothing_since call sunk same = ap (drop (length call.site.trace.now.sunk)) same
 
 -- a moment of the opening that leaves what one at the entry may leave is early
 early_moment : (call : CallSeen) (account : Account) (image sunk : List ℕ) → Leaves call.site.trace.now image
-    → sunk ≡ call.site.trace.now.sunk → IsEarly call account.told image sunk
+    → sunk ≡ call.site.trace.now.sunk → IsEarly call account.named image sunk
 early_moment call account image sunk leaves same = record {
   leaves = leaves;
-  only_end = subst (λ (l : List ℕ). l ≡ take (length l) (end_octets call account.told))
+  only_end = subst (λ (l : List ℕ). l ≡ take (length l) (end_octets call account.named))
       (sym (nothing_since call sunk same)) refl;
 }
 
 pub opening_moment : (call : CallSeen) (account : Account) (plan : PlanLines) (state : State) (image sunk : List ℕ)
-    → Opening call.site.trace image sunk → IsEarly call account.told image sunk
+    → Opening call.site.trace image sunk → IsEarly call account.named image sunk
     ⊎ IsServed call account plan state image sunk
 opening_moment call account plan state image sunk (inl leaves, same) =
     inl (early_moment call account image sunk leaves same)
 opening_moment call account plan state image sunk (inr settles, same) =
     let none = nothing_since call sunk same in
-    inr (subst (SoundMoment (course_of call account plan state) (deeds_in account) (end_octets call account.told)
+    inr (subst (SoundMoment (course_of call account plan state) (deeds_in account) (end_octets call account.named)
     (image_at_entry call) image) (sym none)
     (record { front = refl; image_shows = inl (none_begun (deeds_in account), settles) }))
 
@@ -84,10 +84,10 @@ pub serving_moment : (call : CallSeen) (account : Account) (plan : PlanLines) (s
     (standing : ℕ) (image sunk : List ℕ)
     → call.entries ≡ entries_of log → AreSettled (course_of call account plan state) standing log 0 (deeds_in account)
     → StaysCovered (course_of call account plan state) (deeds_in account)
-    → pieces_of log ≡ take (length (pieces_of log)) (deeds_octets (deeds_in account) ++ end_octets call account.told)
+    → pieces_of log ≡ take (length (pieces_of log)) (deeds_octets (deeds_in account) ++ end_octets call account.named)
     → Serves state log standing call.site.trace.now.sunk image sunk → IsServed call account plan state image sunk
 serving_moment call account plan state log standing image sunk is settled stays put m =
-    moment_sound (course_of call account plan state) standing log (deeds_in account) (end_octets call account.told)
+    moment_sound (course_of call account plan state) standing log (deeds_in account) (end_octets call account.named)
     (image_at_entry call)
     call.site.trace.now.sunk image sunk (sunk_since call sunk) is settled stays put
     (since_is call.site.trace.now.sunk (pieces_of (take m.place log)) (pieces_of (take (m.place + 1) log)) sunk m.sinks)
@@ -97,7 +97,7 @@ serving_moment call account plan state log standing image sunk is settled stays 
 
 pub opening_fence : (call : CallSeen) (account : Account) (state : State) (image sunk : List ℕ)
     → Opening call.site.trace image sunk
-    → IsEarly call account.told image sunk
+    → IsEarly call account.named image sunk
     ⊎ (LeftByOpening (image_at_entry call) image ⊎ IsFenced call account state image sunk)
 opening_fence call account state image sunk (inl leaves, same) =
     inl (early_moment call account image sunk leaves same)
@@ -172,10 +172,10 @@ module _ (call : CallSeen) (account : Account) (state : State) (log own rest : L
     pub all_fences : (opened : Trace) → EachMoment call.site.trace opened (Opening call.site.trace)
         → opened.now.sunk ≡ call.site.trace.now.sunk
         → EachMoment opened call.site_after.trace (Serves state log standing opened.now.sunk)
-        → EachMoment call.site.trace call.site_after.trace (λ image sunk. IsEarly call account.told image sunk
+        → EachMoment call.site.trace call.site_after.trace (λ image sunk. IsEarly call account.named image sunk
         ⊎ (LeftByOpening (image_at_entry call) image ⊎ IsFenced call account state image sunk))
     all_fences opened opening same serving =
-        let P : List ℕ → List ℕ → Type 0 = λ image sunk. IsEarly call account.told image sunk
+        let P : List ℕ → List ℕ → Type 0 = λ image sunk. IsEarly call account.named image sunk
         ⊎ (LeftByOpening (image_at_entry call) image ⊎ IsFenced call account state image sunk) in
         each_then call.site.trace opened call.site_after.trace P
         (each_weaker call.site.trace opened (Opening call.site.trace) P (opening_fence call account state) opening)
@@ -187,7 +187,7 @@ module _ (call : CallSeen) (account : Account) (state : State) (log own rest : L
 
 opening_plan : (call : CallSeen) (account : Account) (state : State) → Shows (image_at_entry call) state
     → (image sunk : List ℕ) → Opening call.site.trace image sunk
-    → IsEarly call account.told image sunk ⊎ HasPlan (plan_at_entry call) image
+    → IsEarly call account.named image sunk ⊎ HasPlan (plan_at_entry call) image
 opening_plan call account state shows image sunk (inl leaves, same) =
     inl (early_moment call account image sunk leaves same)
 opening_plan call account state shows image sunk (inr settles, same) =
@@ -199,10 +199,10 @@ pub all_plans : (call : CallSeen) (account : Account) (state : State) (opened : 
     → Shows (image_at_entry call) state
     → EachMoment call.site.trace opened (Opening call.site.trace)
     → EachMoment opened call.site_after.trace (λ image sunk. HasPlan (plan_at_entry call) image)
-    → EachMoment call.site.trace call.site_after.trace (λ image sunk. IsEarly call account.told image sunk
+    → EachMoment call.site.trace call.site_after.trace (λ image sunk. IsEarly call account.named image sunk
     ⊎ HasPlan (plan_at_entry call) image)
 all_plans call account state opened shows opening serving =
-    let P : List ℕ → List ℕ → Type 0 = λ image sunk. IsEarly call account.told image sunk
+    let P : List ℕ → List ℕ → Type 0 = λ image sunk. IsEarly call account.named image sunk
     ⊎ HasPlan (plan_at_entry call) image in
     each_then call.site.trace opened call.site_after.trace P
     (each_weaker call.site.trace opened (Opening call.site.trace) P (opening_plan call account state shows) opening)
@@ -218,18 +218,18 @@ pub all_moments : (call : CallSeen) (account : Account) (plan : PlanLines) (stat
     → EachMoment opened call.site_after.trace (Serves state log standing opened.now.sunk)
     → call.entries ≡ entries_of log → AreSettled (course_of call account plan state) standing log 0 (deeds_in account)
     → StaysCovered (course_of call account plan state) (deeds_in account)
-    → pieces_of log ≡ take (length (pieces_of log)) (deeds_octets (deeds_in account) ++ end_octets call account.told)
-    → EachMoment call.site.trace call.site_after.trace (λ image sunk. IsEarly call account.told image sunk
+    → pieces_of log ≡ take (length (pieces_of log)) (deeds_octets (deeds_in account) ++ end_octets call account.named)
+    → EachMoment call.site.trace call.site_after.trace (λ image sunk. IsEarly call account.named image sunk
     ⊎ IsServed call account plan state image sunk)
 all_moments call account plan state opened log standing opening same serving is settled stays put =
-    let P : List ℕ → List ℕ → Type 0 = λ image sunk. IsEarly call account.told image sunk
+    let P : List ℕ → List ℕ → Type 0 = λ image sunk. IsEarly call account.named image sunk
     ⊎ IsServed call account plan state image sunk in
-    each_then call.site.trace opened call.site_after.trace (λ image sunk. IsEarly call account.told image sunk
+    each_then call.site.trace opened call.site_after.trace (λ image sunk. IsEarly call account.named image sunk
     ⊎ IsServed call account plan state image sunk)
-    (each_weaker call.site.trace opened (Opening call.site.trace) (λ image sunk. IsEarly call account.told image sunk
+    (each_weaker call.site.trace opened (Opening call.site.trace) (λ image sunk. IsEarly call account.named image sunk
     ⊎ IsServed call account plan state image sunk)
     (opening_moment call account plan state) opening)
     (each_weaker opened call.site_after.trace (Serves state log standing opened.now.sunk)
-    (λ image sunk. IsEarly call account.told image sunk ⊎ IsServed call account plan state image sunk)
+    (λ image sunk. IsEarly call account.named image sunk ⊎ IsServed call account plan state image sunk)
     (λ image sunk m. inr (serving_moment call account plan state log standing image sunk is settled stays put
     (subst (λ (before : List ℕ). Serves state log standing before image sunk) same m))) serving)

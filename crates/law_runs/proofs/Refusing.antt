@@ -197,13 +197,13 @@ module _ (told : Bool) (site back after : SiteSeen) (source : SourceSeen) (fault
   abbrev pub account : Account
   account = record {
     came = refused_end fault;
-    told = refused.end;
+    named = refused.end;
     items = [];
     read = [];
     part = [];
     handled = [];
     answers = [];
-    last = back.faults;
+    faults_when_put = back.faults;
   }
 
   takes : HasTaken source source [] [] []

@@ -38,8 +38,8 @@ none_sound course plan_is rules = record {
     };
   };
   answers = λ k d low. absurd (omega arith);
-  pairs = λ i j d less low. absurd (omega arith);
-  pairs_above = λ k d low. absurd (omega arith);
+  used_once = λ i j d less low. absurd (omega arith);
+  used_above = λ k d low. absurd (omega arith);
   accepted = λ i j d less low. absurd (omega arith);
   accepted_above = λ k d low. absurd (omega arith);
   accepted_near = λ k d low. absurd (omega arith);
@@ -112,7 +112,7 @@ module _ (one : (image : List ℕ) (a b : State) → Shows image a → Shows ima
         forms = λ form is. absurd (shown.3 form is);
         settled = none_settled image shown.3;
       };
-      covers = λ q low within. tt;
+      still_covers = λ q low within. tt;
     });
   }
 

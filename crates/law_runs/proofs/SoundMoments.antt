@@ -95,7 +95,7 @@ moment_sound course standing log deeds ends start before image sunk since is set
       image_shows = inr (record {
         p = p;
         shows = subst (λ (es : List Entry). ShowsAfter course.begin.start es p image) (sym is) shows;
-        covers = λ q low within. subst (λ (n : ℕ). EachBegun (IsCoveredBy course q) n deeds) (omega arith)
+        still_covers = λ q low within. subst (λ (n : ℕ). EachBegun (IsCoveredBy course q) n deeds) (omega arith)
             (covered course standing log is m.place q (length since) most (let l = least in
             omega arith) within 0 deeds settled stays);
       });

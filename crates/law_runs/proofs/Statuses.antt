@@ -104,8 +104,8 @@ module _ (call : CallSeen) (run : RunEnds call) where
   answered_of : (end : RunEnd) → run.account.came ≡ end → AreAnswered run.account end
   answered_of end is = subst (AreAnswered run.account) is run.answered
 
-  came_ended : TellsEnd call run.account → run.account.told ≡ Ended → run.account.came ≡ Ended
-  came_ended (inl h) is = absurd (let s : end_status (SiteFault run.account.last) ≡ end_status Ended =
+  came_ended : TellsEnd call run.account → run.account.named ≡ Ended → run.account.came ≡ Ended
+  came_ended (inl h) is = absurd (let s : end_status (SiteFault run.account.faults_when_put) ≡ end_status Ended =
       ap end_status (sym h.1 ∙ is) in omega arith)
   came_ended (inr (well, inl same)) is = sym same ∙ is
   came_ended (inr (well, inr (ended, which))) is = ended
@@ -114,7 +114,7 @@ module _ (call : CallSeen) (run : RunEnds call) where
   all_done zero_status = elim run.put [
     | inr broken ↦ let s = broken.status_is in absurd (omega arith)
     | inl put ↦
-        let told_ended : run.account.told ≡ Ended = zero_is run.account.told (sym put.status_is ∙ zero_status) in
+        let told_ended : run.account.named ≡ Ended = zero_is run.account.named (sym put.status_is ∙ zero_status) in
         let ended = came_ended run.tells told_ended in
         record {
           told_is = told_ended;
@@ -130,7 +130,7 @@ module _ (call : CallSeen) (run : RunEnds call) where
         }
   ]
 
-  pub put_due : call.site_after.put_faults ≡ call.site.put_faults → (call.status ≡ end_status run.account.told)
+  pub put_due : call.site_after.put_faults ≡ call.site.put_faults → (call.status ≡ end_status run.account.named)
       × (IsTrue call.told
       → call.site_after.trace.now.sunk ≡ call.site.trace.now.sunk ++ due_octets call run.account)
   put_due same = elim run.put [
@@ -143,7 +143,7 @@ module _ (call : CallSeen) (run : RunEnds call) where
   fault_told k d low tells = elim run.put [
     | inr broken ↦ broken.status_is
     | inl put ↦ elim run.tells [
-      | inl h ↦ put.status_is ∙ fault_status run.account.last run.account.told h.1
+      | inl h ↦ put.status_is ∙ fault_status run.account.faults_when_put run.account.named h.1
       | inr h ↦ absurd (h.0 (run.faults_told k d low tells))
     ]
   ]
@@ -153,7 +153,7 @@ module _ (call : CallSeen) (run : RunEnds call) where
       → GoesToItsEnd call run
   to_its_end same five some memory = go run.account.came refl run.cause run.tells
     where
-      status_is : (end : RunEnd) → run.account.told ≡ end → call.status ≡ end_status end
+      status_is : (end : RunEnd) → run.account.named ≡ end → call.status ≡ end_status end
       status_is end is = (put_due same).0 ∙ ap end_status is
 
       go : (came : RunEnd) → run.account.came ≡ came → CameBy call run.account came → TellsEnd call run.account
@@ -178,7 +178,7 @@ module _ (call : CallSeen) (run : RunEnds call) where
       refusal = run.refused told offset none
 
       told_as : (run.account.came ≡ Ended → ⊥) → TellsEnd call run.account
-          → (run.account.told ≡ run.account.came) ⊎ (run.account.told ≡ SiteFault run.account.last)
+          → (run.account.named ≡ run.account.came) ⊎ (run.account.named ≡ SiteFault run.account.faults_when_put)
       told_as other (inl h) = inr h.1
       told_as other (inr (well, inl same)) = inl same
       told_as other (inr (well, inr (ended, more))) = absurd (other ended)
@@ -211,16 +211,16 @@ module _ (call : CallSeen) (run : RunEnds call) where
         ]
       ]
 
-  pub what_came : call.status ≢ 5 → call.status ≢ 8 → (run.account.told ≡ run.account.came)
+  pub what_came : call.status ≢ 5 → call.status ≢ 8 → (run.account.named ≡ run.account.came)
       × (call.status ≡ end_status run.account.came)
   what_came not_five not_eight = elim run.put [
     | inr broken ↦ absurd (not_five broken.status_is)
     | inl put ↦ elim run.tells [
-      | inl h ↦ absurd (not_five (put.status_is ∙ fault_status run.account.last run.account.told h.1))
+      | inl h ↦ absurd (not_five (put.status_is ∙ fault_status run.account.faults_when_put run.account.named h.1))
       | inr h ↦ elim h.1 [
         | inl same ↦ (same, put.status_is ∙ ap end_status same)
         | inr rest ↦ elim rest.1 [
-          | inl fault ↦ absurd (not_five (put.status_is ∙ fault_status fault.0 run.account.told fault.1))
+          | inl fault ↦ absurd (not_five (put.status_is ∙ fault_status fault.0 run.account.named fault.1))
           | inr full ↦ absurd (not_eight (put.status_is ∙ ap end_status full.0))
         ]
       ]
@@ -228,7 +228,7 @@ module _ (call : CallSeen) (run : RunEnds call) where
   ]
 
   -- With status 0 or 3 the input was read up to this end, each record of it was answered, and this end is told.
-  pub all_read : (call.status ≡ 0) ⊎ (call.status ≡ 3) → (end : InputEnd) × (run.account.told ≡ told_at end)
+  pub all_read : (call.status ≡ 0) ⊎ (call.status ≡ 3) → (end : InputEnd) × (run.account.named ≡ told_at end)
       × (IsTrue call.source.told → IsInput call.source.left run.account.items end)
       × (run.account.handled ≡ places_of run.account.items) × (length run.account.answers ≡ length run.account.handled)
   all_read (inl zero_status) =
@@ -240,7 +240,7 @@ module _ (call : CallSeen) (run : RunEnds call) where
       (MalformedAt offset, same ∙ came, (cause_of (Malformed offset) came).1, answered.0, answered.1)
 
   -- With status 4 each record that was read was answered, and the end that is told is the count of the source's faults.
-  pub source_failed : call.status ≡ 4 → (run.account.told ≡ SourceFault call.source_after.faults)
+  pub source_failed : call.status ≡ 4 → (run.account.named ≡ SourceFault call.source_after.faults)
       × (length run.account.answers ≡ length run.account.handled)
   source_failed four =
       let (same, is) = what_came (λ five. absurd (omega arith)) (λ eight. absurd (omega arith)) in
@@ -251,14 +251,15 @@ module _ (call : CallSeen) (run : RunEnds call) where
   full_told eight = elim run.put [
     | inr broken ↦ absurd (let f = broken.status_is in omega arith)
     | inl put ↦ elim run.tells [
-      | inl h ↦ absurd (let f = put.status_is ∙ fault_status run.account.last run.account.told h.1 in omega arith)
+      | inl h ↦ absurd (let f = put.status_is ∙ fault_status run.account.faults_when_put run.account.named h.1 in
+          omega arith)
       | inr h ↦ elim h.1 [
         | inl same ↦
             let is : run.account.came ≡ SessionFull =
             eight_is run.account.came (sym (put.status_is ∙ ap end_status same) ∙ eight) in
             record { full = (cause_of SessionFull is).full; by = inl is }
         | inr rest ↦ elim rest.1 [
-          | inl fault ↦ absurd (let f = put.status_is ∙ fault_status fault.0 run.account.told fault.1 in omega arith)
+          | inl fault ↦ absurd (let f = put.status_is ∙ fault_status fault.0 run.account.named fault.1 in omega arith)
           | inr full ↦ record { full = full.1; by = inr (rest.0, full.0) }
         ]
       ]
@@ -370,10 +371,10 @@ module _ (call : CallSeen) (run : RunEnds call) where
     few : length call.entries < MOST_ENTRIES
     few = let h = few_entries free.site_told plan state free.shows in let s = free.short in omega arith
 
-    last_same : Rose call.site.faults run.account.last → ⊥
+    last_same : Rose call.site.faults run.account.faults_when_put → ⊥
     last_same h = let w = run.after_later in free.site_well (omega arith)
 
-    status_is : (end : RunEnd) → run.account.told ≡ end → call.status ≡ end_status end
+    status_is : (end : RunEnd) → run.account.named ≡ end → call.status ≡ end_status end
     status_is end is = elim run.put [
       | inl put ↦ put.status_is ∙ ap end_status is
       | inr broken ↦
@@ -381,7 +382,7 @@ module _ (call : CallSeen) (run : RunEnds call) where
     ]
 
     told_is : (came : RunEnd) → run.account.came ≡ came → (came ≡ Ended → ⊥) → TellsEnd call run.account
-        → run.account.told ≡ came
+        → run.account.named ≡ came
     told_is came is other (inl h) = absurd (last_same h.0)
     told_is came is other (inr (well, inl same)) = same ∙ is
     told_is came is other (inr (well, inr (ended, which))) = absurd (other (sym is ∙ ended))

@@ -117,13 +117,13 @@ pub record HasCome (start source : SourceSeen) (begin : Begin) (first now : View
   pub reads : EndsReading start source items read part came
   pub answered : (told : RunEnd) (last : ℕ) → AreAnswered (record {
     came = came;
-    told = told;
+    named = told;
     items = items;
     read = read;
     part = part;
     handled = places_of of;
     answers = answers;
-    last = last;
+    faults_when_put = last;
   }) came
   pub few : length answers ≤ length (places_of of)
   pub done : HasDone begin first now (places_of of) answers

@@ -23,7 +23,7 @@ use Rattle.record_io.specs.declared.code.TheConstants.{NO_MEMORY}
 
 -- The whole input was read, each record was answered, End stands last, and the site has not failed.
 pub record DidAll (call : CallSeen) (ends : RunEnds call) : Type 0 where
-  pub told_is : ends.account.told ≡ Ended
+  pub told_is : ends.account.named ≡ Ended
   pub whole : IsTrue call.source.told → IsInput call.source.left ends.account.items Whole
   pub handled : HandledAll ends.account
   pub answered : AnsweredEach ends.account
@@ -51,7 +51,7 @@ StopsBehind one other = InTurn one other → SaysSiteFailed one.answer → IsTru
 -- the history is full: a record without an answer needs an entry, or all have one, and a release is due
 pub record EndsWithFullHistory (call : CallSeen) (ends : RunEnds call) : Type 0 where
   pub full : length call.entries ≡ MOST_ENTRIES
-  pub by : (ends.account.came ≡ SessionFull) ⊎ ((ends.account.came ≡ Ended) × (ends.account.told ≡ SessionFull))
+  pub by : (ends.account.came ≡ SessionFull) ⊎ ((ends.account.came ≡ Ended) × (ends.account.named ≡ SessionFull))
 
 -- Nothing can keep the run from its end but lack of memory: the image shows a state, no count rose, the input is whole
 -- and well formed, and not too long for the history.
@@ -81,7 +81,7 @@ IsUnfailed call = ¬ Rose call.site.faults call.site_after.faults
 pub record AnswersAlike (call other : CallSeen) (account again : Account) : Type 0 where
   pub answers : again.answers ≡ account.answers
   pub entries : IsUnfailed call → IsUnfailed other → other.entries ≡ call.entries
-  pub due : IsUnfailed call → IsUnfailed other → again.told ≡ account.told
+  pub due : IsUnfailed call → IsUnfailed other → again.named ≡ account.named
       → due_octets other again ≡ due_octets call account
 
 -- The sources of both calls failed, with one count of faults, behind the same records; the site did not fail.

@@ -21,7 +21,7 @@ pub fn one_input_is_handled_alike()
         → (call.status ≡ DONE) ⊎ (call.status ≡ MALFORMED)
         → IsTrue call.source.told → IsTrue other.source.told → other.source.left ≡ call.source.left
         → (again.account.handled ≡ run.account.handled) × AnsweredEach run.account × AnsweredEach again.account
-        × (again.account.told ≡ run.account.told) }
+        × (again.account.named ≡ run.account.named) }
 {
     input_reads_once();
 }

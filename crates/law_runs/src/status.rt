@@ -26,7 +26,7 @@ pub fn zero_says_all()
 /// Law: where no put failed, all that is due was put, and the status is that of the end.
 pub fn due_is_put()
     ensures { (call : CallSeen) (run : RunEnds call) → call.site_after.put_faults ≡ call.site.put_faults
-        → (call.status ≡ end_status run.account.told) × (IsTrue call.told
+        → (call.status ≡ end_status run.account.named) × (IsTrue call.told
         → call.site_after.trace.now.sunk ≡ call.site.trace.now.sunk ++ due_octets call run.account) }
 {}
 
@@ -55,7 +55,7 @@ pub fn goes_to_its_end()
 /// came.
 pub fn status_tells_what_came()
     ensures { (call : CallSeen) (run : RunEnds call) → call.status ≢ SITE_FAULT → call.status ≢ SESSION_FULL
-        → (run.account.told ≡ run.account.came) × (call.status ≡ end_status run.account.came) }
+        → (run.account.named ≡ run.account.came) × (call.status ≡ end_status run.account.came) }
 {}
 
 /// Law: the status of a full history says that it is full.

@@ -203,13 +203,13 @@ module _ (begin : Begin) (v w : View) (tasks : List Record) (deeds : List Deed) 
   }
 
   -- the numbers used differ, and none is below the key's mark at the start
-  pub pairs : AllPairs (λ (a b : Deed). a.task.index < b.task.index) deeds → AllPairs (Differ Uses) deeds
-  pairs up i j e lt within k n =
+  pub used_once : AllPairs (λ (a b : Deed). a.task.index < b.task.index) deeds → AllPairs (Differ Uses) deeds
+  used_once up i j e lt within k n =
       (d.answers.agree i e (omega arith) j e within).pairs (λ same. let l = up i j e lt within in omega arith) k n
 
-  pub pairs_above : All (λ (a : Deed). (key number : ℕ) → Uses a.answer key number → mark_of begin.start key ≤ number)
+  pub used_above : All (λ (a : Deed). (key number : ℕ) → Uses a.answer key number → mark_of begin.start key ≤ number)
       deeds
-  pairs_above i e l k n u =
+  used_above i e l k n u =
       let (row, few, is, in') = d.answers.used i e l k n u in
       let s = d.works.spent row n in
       let low = (d.works.drawn row n (omega arith)).0 in

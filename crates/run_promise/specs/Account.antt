@@ -1,4 +1,4 @@
--- What a run did, why it ended, and the end that it tells (profile).
+-- What a run did, why it ended, and the end that End names (profile).
 use Rattle.std.specs.Prelude.{◌≡◌, ◌⊎◌, ℕ, ◌<◌, ◌≤◌, nat_lt, if◌then◌else◌, List, [], ◌∷◌, ◌++◌, length, take, ⊤}
 use Rattle.std.specs.Prelude.{IsTrue, slice_get, Some, None, Contains}
 use Rattle.std.specs.List.{All}
@@ -28,18 +28,18 @@ use Rattle.run_promise.specs.declared.limits.TheConstants.{MOST_ENTRIES}
 
 -- ---- what a run did
 
--- What a run did: what ended it and the end that it told; the items that it read, with their octets and those taken of
--- a part behind them; the records that it handled and its one list of answers; and the site's count of faults when the
--- last answers had been put.
+-- What a run did: what ended it and the end that End names; the items that it read, with their octets and those taken
+-- of a part behind them; the records that it handled and its one list of answers; and the site's count of faults when
+-- the last answers had been put.
 pub record Account : Type 0 where
   pub came : RunEnd
-  pub told : RunEnd
+  pub named : RunEnd
   pub items : List Item
   pub read : List ℕ
   pub part : List ℕ
   pub handled : List Place
   pub answers : List Answer
-  pub last : ℕ
+  pub faults_when_put : ℕ
 
 -- ---- the end
 
@@ -74,7 +74,7 @@ end_octets call told = answer_octets (end_answer told (length call.entries))
 
 -- the octets that are due: those of the answers and of End
 abbrev pub due_octets : CallSeen → Account → List ℕ
-due_octets call account = answers_octets account.answers ++ end_octets call account.told
+due_octets call account = answers_octets account.answers ++ end_octets call account.named
 
 -- ---- records and answers
 
@@ -142,17 +142,17 @@ abbrev pub course_of : CallSeen → Account → PlanLines → State → Course
 course_of call account plan state = record {
   begin = begin_of call plan state;
   faults_before = call.site.faults;
-  faults = account.last;
+  faults = account.faults_when_put;
   entries = call.entries;
 }
 
--- ---- why it ended, and the end that it tells
+-- ---- why it ended, and the end that is named
 
 -- The history is full, and the first record without an answer needs an entry, or may need one. None was made of it, it
 -- is of the last segment, and the site had not failed.
 pub record IsFullAt (call : CallSeen) (account : Account) : Type 0 where
   pub full : length call.entries ≡ MOST_ENTRIES
-  pub not_failed : ¬ Rose call.site.faults account.last
+  pub not_failed : ¬ Rose call.site.faults account.faults_when_put
   pub place : Place
   pub first : slice_get account.handled (length account.answers) ≡ Some place
   pub last_segment : All (λ other. other.segment ≤ place.segment) account.handled
@@ -175,26 +175,29 @@ CameBy call account (Malformed offset) =
     × (call.source_after.faults ≡ call.source.faults)
 CameBy call account (SourceFault count) = Rose call.source.faults call.source_after.faults
     × (count ≡ call.source_after.faults)
-CameBy call account (SiteFault count) = Rose call.site.faults account.last × (count ≡ account.last)
+CameBy call account (SiteFault count) = Rose call.site.faults account.faults_when_put
+    × (count ≡ account.faults_when_put)
     × (call.entries ≡ []) × (call.source_after ≡ call.source)
 CameBy call account NoMemory = ⊤
 CameBy call account (NoState offset) = (IsTrue call.told → ShowsNone (image_at_entry call) offset)
     × (call.entries ≡ []) × (call.source_after ≡ call.source)
 CameBy call account SessionFull = IsFullAt call account
 CameBy call account PutFailed = (call.site.put_faults < call.site_after.put_faults)
-    × Rose call.site.faults account.last
+    × Rose call.site.faults account.faults_when_put
 
 -- behind an input that ended the release met a fault of the site, or found the history full
 abbrev pub EndsByRelease : CallSeen → Account → Type 0
 EndsByRelease call account =
-    ((count : ℕ) × (account.told ≡ SiteFault count) × Rose account.last count × (count ≤ call.site_after.faults))
-    ⊎ ((account.told ≡ SessionFull) × (length call.entries ≡ MOST_ENTRIES))
+    ((count : ℕ) × (account.named ≡ SiteFault count) × Rose account.faults_when_put count
+    × (count ≤ call.site_after.faults))
+    ⊎ ((account.named ≡ SessionFull) × (length call.entries ≡ MOST_ENTRIES))
 
--- The end that is told. A fault of the site that came before all answers were put is told in each case; else it is what
--- came, unless the input ended, and the release met something.
+-- The end that is named. A fault of the site that came before all answers were put is named in each case; else it is
+-- what came, unless the input ended, and the release met something.
 abbrev pub TellsEnd : CallSeen → Account → Type 0
-TellsEnd call account = (Rose call.site.faults account.last × (account.told ≡ SiteFault account.last))
-    ⊎ ((¬ Rose call.site.faults account.last) × ((account.told ≡ account.came)
+TellsEnd call account =
+    (Rose call.site.faults account.faults_when_put × (account.named ≡ SiteFault account.faults_when_put))
+    ⊎ ((¬ Rose call.site.faults account.faults_when_put) × ((account.named ≡ account.came)
     ⊎ ((account.came ≡ Ended) × EndsByRelease call account)))
 
 -- ---- faults that the status does not tell
@@ -208,7 +211,7 @@ pub record EndsWithRelease (entries : List Entry) : Type 0 where
   pub word : ℕ
   pub saw : last.seen ≡ Word word
 
--- this end is told, also where a release behind it meets a fault of the site
+-- this end is named, also where a release behind it meets a fault of the site
 abbrev pub IsToldFirst : RunEnd → Type 0
 IsToldFirst Ended = ⊥
 IsToldFirst (Malformed offset) = ⊤
@@ -219,7 +222,7 @@ IsToldFirst (NoState offset) = ⊥
 IsToldFirst SessionFull = ⊥
 IsToldFirst PutFailed = ⊥
 
--- The site's count of faults stood; or behind the end that is told a release met a fault, and is the last entry.
+-- The site's count of faults stood; or behind the end that is named a release met a fault, and is the last entry.
 abbrev pub StoodUntilRelease : CallSeen → Account → Type 0
 StoodUntilRelease call account = (call.site_after.faults ≡ call.site.faults)
     ⊎ (IsToldFirst account.came × EndsWithRelease call.entries)
@@ -229,7 +232,7 @@ StoodUntilRelease call account = (call.site_after.faults ≡ call.site.faults)
 -- no put failed: all that is due was put, and the status is that of the end
 pub record PutsDue (call : CallSeen) (account : Account) : Type 0 where
   pub none_failed : call.site_after.put_faults ≡ call.site.put_faults
-  pub status_is : call.status ≡ end_status account.told
+  pub status_is : call.status ≡ end_status account.named
   pub sunk : IsTrue call.told
       → call.site_after.trace.now.sunk ≡ call.site.trace.now.sunk ++ due_octets call account
 

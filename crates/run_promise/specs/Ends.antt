@@ -72,7 +72,7 @@ pub record IsEarly (call : CallSeen) (told : RunEnd) (image sunk : List ℕ) : T
 -- a moment of a run that served is sound
 abbrev pub IsServed : CallSeen → Account → PlanLines → State → List ℕ → List ℕ → Type 0
 IsServed call account plan state image sunk = SoundMoment (course_of call account plan state)
-    (deeds_in account) (end_octets call account.told) (image_at_entry call) image (sunk_since call sunk)
+    (deeds_in account) (end_octets call account.named) (image_at_entry call) image (sunk_since call sunk)
 
 -- A segment is answered before the next one is handled. The image and its opened forms show no more than the first
 -- `most`
@@ -91,13 +91,13 @@ pub record IsFenced (call : CallSeen) (account : Account) (state : State) (image
 pub record IsSoundCall (call : CallSeen) (account : Account) (plan : PlanLines) (state : State) : Type 0 where
   pub run : IsSound (course_of call account plan state) account.handled (deeds_in account)
   pub moments : EachMoment call.site.trace call.site_after.trace
-      (λ image sunk. IsEarly call account.told image sunk ⊎ IsServed call account plan state image sunk)
+      (λ image sunk. IsEarly call account.named image sunk ⊎ IsServed call account plan state image sunk)
   pub fences : EachMoment call.site.trace call.site_after.trace
-      (λ image sunk. IsEarly call account.told image sunk
+      (λ image sunk. IsEarly call account.named image sunk
       ⊎ (LeftByOpening (image_at_entry call) image ⊎ IsFenced call account state image sunk))
   pub same_plan : EachMoment call.site.trace call.site_after.trace
-      (λ image sunk. IsEarly call account.told image sunk ⊎ HasPlan (plan_at_entry call) image)
-  pub end_widths : IsAnswer (end_answer account.told (length call.entries))
+      (λ image sunk. IsEarly call account.named image sunk ⊎ HasPlan (plan_at_entry call) image)
+  pub end_widths : IsAnswer (end_answer account.named (length call.entries))
 
 -- the releases that are due behind the entries of the lanes, by these words `next` of the rows
 abbrev pub due_releases : CallSeen → State → ℕ → List ℕ → List Entry
@@ -110,12 +110,12 @@ pub record IsReleased (call : CallSeen) (account : Account) (state : State) (end
   pub rows : length words ≡ MOST_KEYS
   pub count : ℕ
   pub are_due : drop ends call.entries ≡ take count (due_releases call state ends words)
-  pub stopped : Rose call.site.faults account.last → length call.entries ≡ ends
+  pub stopped : Rose call.site.faults account.faults_when_put → length call.entries ≡ ends
   pub filled : account.came ≡ SessionFull → length call.entries ≡ ends
   pub refused : count < length (due_releases call state ends words)
       → Rose call.site.faults call.site_after.faults ⊎ (length call.entries ≡ MOST_ENTRIES)
   -- where all records were answered, a full history is told of a release that is due
-  pub full : account.came ≡ Ended → account.told ≡ SessionFull → count < length (due_releases call state ends words)
+  pub full : account.came ≡ Ended → account.named ≡ SessionFull → count < length (due_releases call state ends words)
   -- no count that is told has one of them
   pub uncounted : All (λ deed. IsTrue (tells_count deed) → deed.answer.position ≤ ends) (deeds_in account)
   -- the words are the marks at the start and what the records' moves added, and each reserve is of a number drawn so
@@ -149,7 +149,7 @@ pub record IsRefused (call : CallSeen) (account : Account) (offset : ℕ) : Type
   pub source_is : call.source_after ≡ call.source
   pub no_entries : call.entries ≡ []
   pub image_is : call.site_after.trace.now.image ≡ image_at_entry call
-  pub moments : EachMoment call.site.trace call.site_after.trace (IsEarly call account.told)
+  pub moments : EachMoment call.site.trace call.site_after.trace (IsEarly call account.named)
 
 -- How a run ends, over its account.
 pub record RunEnds (call : CallSeen) : Type 0 where
@@ -159,11 +159,12 @@ pub record RunEnds (call : CallSeen) : Type 0 where
   pub cause : CameBy call account account.came
   pub tells : TellsEnd call account
   pub put : PutsDue call account ⊎ PutsFront call account
-  pub faults_told : All (λ answer. SaysSiteFailed answer → Rose call.site.faults account.last) account.answers
+  pub faults_told : All (λ answer. SaysSiteFailed answer → Rose call.site.faults account.faults_when_put)
+      account.answers
   -- the counts of faults in their order; with another status than that of a fault of the site its count stood, but for
   -- a fault that a release met
-  pub last_later : call.site.faults ≤ account.last
-  pub after_later : account.last ≤ call.site_after.faults
+  pub last_later : call.site.faults ≤ account.faults_when_put
+  pub after_later : account.faults_when_put ≤ call.site_after.faults
   pub quiet : call.status ≢ status.SITE_FAULT → StoodUntilRelease call account
   pub bounded : length call.entries ≤ MOST_ENTRIES
   -- each monitoring message has the answer of the log of the answers before it, whatever the site tells

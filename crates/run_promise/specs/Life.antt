@@ -160,8 +160,8 @@ pub record AddsCall (call : CallSeen) (account : Account) (image : List ℕ) (ru
   pub state : State
   pub shows : ShowsAtEntry call plan state
   pub moments : EachMoment call.site.trace call.site_after.trace
-      (λ left sunk. IsEarly call account.told left sunk
-      ⊎ LivesOn image runs (run_of call account plan state (end_octets call account.told) left (sunk_since call sunk)))
+      (λ left sunk. IsEarly call account.named left sunk
+      ⊎ LivesOn image runs (run_of call account plan state (end_octets call account.named) left (sunk_since call sunk)))
 
 -- the call does so for every life that has left the image at its entry
 abbrev pub KeepsLives : CallSeen → Account → Type 0
@@ -179,13 +179,13 @@ pub record EndsAndLives (call : CallSeen) : Type 0 where
 abbrev pub no_account : CallSeen → Account
 no_account call = record {
   came = Ended;
-  told = Ended;
+  named = Ended;
   items = [];
   read = [];
   part = [];
   handled = [];
   answers = [];
-  last = call.site.faults;
+  faults_when_put = call.site.faults;
 }
 
 -- The same for a call that reads an image and stores nothing: it stands in the life as a run without records, which

@@ -204,4 +204,4 @@ pub record IsExact (call : CallSeen) (account : Account) (plan : PlanLines) (sta
   pub last : (row : ℕ) → row < MOST_KEYS → slice_index words row ≡ mark_at state row + adds_all row (moves ++ beyond)
   pub served : (own : List Entry) × (rest : List Entry) × (take ends call.entries ≡ own ++ rest)
       × ServesAll (begin_of call plan state) false [] (deeds_in account) moves own × (length rest ≤ 1)
-      × (AnsweredEach account → ¬ Rose call.site.faults account.last → rest ≡ [])
+      × (AnsweredEach account → ¬ Rose call.site.faults account.faults_when_put → rest ≡ [])

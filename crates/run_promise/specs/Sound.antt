@@ -77,8 +77,8 @@ pub record IsSound (course : Course) (places : List Place) (deeds : List Deed) :
   pub history : IsLegalHistory course.begin.plan course.begin.start places course.entries
   pub answers : All (λ deed. Fits (NearWord course.begin.start course.entries (records_of places)) course deed.task
       deed.answer) deeds
-  pub pairs : AllPairs (Differ Uses) deeds
-  pub pairs_above : All (λ deed. (key number : ℕ) → Uses deed.answer key number
+  pub used_once : AllPairs (Differ Uses) deeds
+  pub used_above : All (λ deed. (key number : ℕ) → Uses deed.answer key number
       → mark_of course.begin.start key ≤ number)
       deeds
   pub accepted : AllPairs (Differ Accepts) deeds
@@ -112,7 +112,7 @@ EachBegun P count (deed ∷ deeds) = (0 < count → P deed) × EachBegun P (coun
 pub record ShowsServed (course : Course) (deeds : List Deed) (image : List ℕ) (count : ℕ) : Type 0 where
   pub p : ℕ
   pub shows : ShowsAfter course.begin.start course.entries p image
-  pub covers : (q : ℕ) → p ≤ q → q ≤ length course.entries → EachBegun (IsCoveredBy course q) count deeds
+  pub still_covers : (q : ℕ) → p ≤ q → q ≤ length course.entries → EachBegun (IsCoveredBy course q) count deeds
 
 -- A moment of the run: what was sunk is a front of the octets of the answers and of End. While the book is opened no
 -- answer was begun, and the image is one that the opening of that at the start may leave; while it serves, what the

@@ -46,16 +46,16 @@ by_run last first image runs run told moment life left =
     by adds.plan adds.state adds.shows (adds.moments.each image last.sunk moment)
   where
     by : (plan : PlanLines) (state : State) → ShowsAtEntry last.call plan state
-        → IsEarly last.call run.promised.ends.account.told image last.sunk
+        → IsEarly last.call run.promised.ends.account.named image last.sunk
         ⊎ LivesOn first runs (run_of last.call run.promised.ends.account plan state
-        (end_octets last.call run.promised.ends.account.told) image
+        (end_octets last.call run.promised.ends.account.named) image
         (sunk_since last.call last.sunk))
         → AddsLast last first image runs
     by plan state shows (inl early) = inl (record {
       leaves = early.leaves;
       only_end =
           run.put_is ∙ early.only_end
-          ∙ ap (λ (p : List ℕ). take (length p) (end_octets last.call run.promised.ends.account.told))
+          ∙ ap (λ (p : List ℕ). take (length p) (end_octets last.call run.promised.ends.account.named))
           (sym run.put_is)
           ∙ ap (λ (e : List ℕ). take (length last.put) e) (sym run.ends_are);
     })
@@ -64,7 +64,7 @@ by_run last first image runs run told moment life left =
       state,
       shows,
       lives_same last first image runs plan state run.promised.ends.account
-          (end_octets last.call run.promised.ends.account.told)
+          (end_octets last.call run.promised.ends.account.named)
           (sunk_since last.call last.sunk) run.account_is run.ends_are run.put_is lives,
     )
 

@@ -22,7 +22,7 @@ pub record PastCall : Type 0 where
 pub record IsRunCall (last : PastCall) : Type 0 where
   pub promised : EndsAndLives last.call
   pub account_is : last.account ≡ promised.ends.account
-  pub ends_are : last.ends ≡ end_octets last.call promised.ends.account.told
+  pub ends_are : last.ends ≡ end_octets last.call promised.ends.account.named
   pub put_is : last.put ≡ sunk_since last.call last.sunk
 
 -- the words were others: what the clause `other_lives` says; there are no answers

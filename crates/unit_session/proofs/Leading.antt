@@ -81,13 +81,13 @@ module _ (start now : SourceSeen) (begin : Begin) (first v w : View) (items : Li
   -- no record was left out but a Monitor record that ended the segment
   all_read : (came told : RunEnd) (given : List Answer) (last : ℕ) → HandledRead (record {
     came = came;
-    told = told;
+    named = told;
     items = r.all;
     read = r.read;
     part = r.part;
     handled = places_of (items ++ r.more);
     answers = given;
-    last = last;
+    faults_when_put = last;
   })
   all_read came told given last = by_whole r.whole
     where
@@ -95,13 +95,13 @@ module _ (start now : SourceSeen) (begin : Begin) (first v w : View) (items : Li
           ⊎ ((place : Place) × (place.task.kind ≡ Monitor) × (r.number ≤ place.segment)
           × (places_of r.all ≡ places_of (items ++ r.more) ++ place ∷ [])) → HandledRead (record {
             came = came;
-            told = told;
+            named = told;
             items = r.all;
             read = r.read;
             part = r.part;
             handled = places_of (items ++ r.more);
             answers = given;
-            last = last;
+            faults_when_put = last;
           })
       by_whole (inl same) = inl (sym same)
       by_whole (inr (place, kind, high, same)) = inr (place, kind, same)
