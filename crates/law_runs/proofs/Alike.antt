@@ -3,7 +3,7 @@
 -- not fail and memory sufficed.
 use Rattle.std.proofs.Common.{◌≡◌, ◌≢◌, ℕ, zero, suc, ◌+◌, ◌<◌, ◌≤◌, ◌==◌, Bool, IsTrue, true, false, List, [], ◌∷◌}
 use Rattle.std.proofs.Common.{◌++◌, length, map, take, drop, refl, sym, ◌∙◌, ap, subst, inl, inr, arith, append_assoc}
-use Rattle.std.proofs.Common.{append-nil, length-append, eqb, Ok}
+use Rattle.std.proofs.Common.{append-nil, length-append, eqb}
 use Rattle.std.specs.Bool.{⊤}
 use Rattle.std.specs.List.{All, list_any, slice_index}
 use Rattle.std.proofs.lemmas.Bool.{cases_eq, cases_lt}
@@ -12,7 +12,6 @@ use Rattle.std.proofs.lemmas.List.{ext_get_or, length-take, take-append-drop, ta
 use Rattle.sdls_base.specs.declared.TheConstants.{MOST_KEYS}
 use Rattle.sdls_base.specs.declared.entry.Entry.{Entry}
 use Rattle.sdls_outside.specs.Faults.{Rose}
-use Rattle.unit_image.specs.Image.{held}
 use Rattle.record_io.specs.declared.answers.Answer.{Answer}
 use Rattle.record_io.specs.declared.code.TheConstants.{NO_MEMORY, SITE_FAULT, STOPPED}
 use Rattle.record_io.specs.declared.status.TheConstants as status
@@ -20,8 +19,6 @@ use Rattle.record_io.specs.declared.kinds.RecordKind.{RecordKind}
 use Rattle.record_io.specs.declared.kinds.RecordKind.TheVariants.{Protect, Open, Command, Monitor}
 use Rattle.record_io.specs.Answers.{answer_octets, answers_octets}
 use Rattle.record_io.specs.Places.{Place, records_of}
-use Rattle.unit_plan.specs.Plan.{plan_of}
-use Rattle.unit_image.specs.Shows.{Shows}
 use Rattle.unit_plan.specs.PlanLines.{PlanLines}
 use Rattle.unit_state.specs.declared.state.State.{State}
 use Rattle.unit_state.specs.State.{KeepsRules}
@@ -32,7 +29,7 @@ use Rattle.run_promise.specs.Numbers.{releases, mark_at}
 use Rattle.run_promise.specs.History.{IsLegalHistory, NearWord}
 use Rattle.law_history.proofs.Codes.{fits_code}
 use Rattle.run_promise.specs.declared.limits.TheConstants.{MOST_ENTRIES}
-use Rattle.run_promise.specs.Call.{Begin, CallSeen, ShowsAtEntry, image_at_entry}
+use Rattle.run_promise.specs.Call.{Begin, CallSeen}
 use Rattle.run_promise.specs.Deed.{Deed}
 use Rattle.run_promise.specs.Words.{Move, Runs, adds_all}
 use Rattle.fsr_log.specs.Noted.{Noted}
@@ -43,7 +40,7 @@ use Rattle.run_promise.specs.declared.end.RunEnd.{RunEnd}
 use Rattle.run_promise.specs.declared.end.RunEnd.TheVariants.{Ended, SiteFault}
 use Rattle.run_promise.specs.Account.{Account, begin_of, course_of, deeds_from, deeds_in, due_octets, end_answer}
 use Rattle.run_promise.specs.Account.{end_octets, end_status, TellsEnd}
-use Rattle.run_promise.specs.Ends.{IsReleased, IsSoundCall, RunEnds, due_releases}
+use Rattle.run_promise.specs.Ends.{IsReleased, IsSoundCall, RunEnds, ServesSoundly, due_releases}
 use Rattle.law_runs.specs.Says.{IsUnfailed, NoneFails, NoneWants}
 
 -- ---- codes
@@ -260,7 +257,6 @@ module _ (call other : CallSeen) (run : RunEnds call) (again : RunEnds other) (p
     (each : length run.account.answers ≡ length run.account.handled)
     (reach : length again.account.answers ≡ length again.account.handled) (told : IsTrue call.told)
     (tells : IsTrue other.told)
-    (image : image_at_entry other ≡ image_at_entry call) (shows : ShowsAtEntry call plan state)
     (handled : again.account.handled ≡ run.account.handled)
     (one : OneLane (records_of run.account.handled)) (fails : NoneFails run.account.answers)
     (refails : NoneFails again.account.answers)
@@ -275,13 +271,9 @@ module _ (call other : CallSeen) (run : RunEnds call) (again : RunEnds other) (p
     × (moves ≡ more))
     (along : (plan : PlanLines) (start : State) (places : List Place) (entries : List Entry)
     → IsLegalHistory plan start places entries
-    → (p : ℕ) → p ≤ length entries → KeepsRules (after_first start entries p)) where
-  reshows : ShowsAtEntry other plan state
-  reshows = record {
-    says = subst (λ (i : List ℕ). plan_of (held i).plan ≡ Ok plan) (sym image) shows.says;
-    shows = subst (λ (i : List ℕ). Shows i state) (sym image) shows.shows;
-  }
-
+    → (p : ℕ) → p ≤ length entries → KeepsRules (after_first start entries p))
+    (one_serves : ServesSoundly call run.account plan state)
+    (other_serves : ServesSoundly other again.account plan state) where
   -- where each record has its answer the records made all entries of the lane
   served_whole : (c : CallSeen) (account : Account) (ends : ℕ) (words : List ℕ)
       (e : IsExact c account plan state words ends) → ¬ Rose c.site.faults account.faults_when_put
@@ -407,8 +399,6 @@ module _ (call other : CallSeen) (run : RunEnds call) (again : RunEnds other) (p
   pub entries_alike : (other.entries ≡ call.entries)
       × (again.account.named ≡ run.account.named → due_octets other again.account ≡ due_octets call run.account)
   entries_alike =
-      let one_serves = run.sound told plan state shows in
-      let other_serves = again.sound tells plan state reshows in
       let one_exact = one_serves.exact one in
       let other_exact =
       other_serves.exact (subst (λ (places : List Place). OneLane (records_of places)) (sym handled) one) in (

@@ -25,7 +25,7 @@ use Rattle.law_workers.specs.Order.{Lined}
 use Rattle.law_workers.proofs.Logs.{told_kept}
 use Rattle.law_workers.specs.Opened.{IsJustOpened}
 use Rattle.law_runs.specs.Release.{AreReleases}
-use Rattle.run_promise.specs.Sound.{AreReported, IsSound}
+use Rattle.run_promise.specs.Sound.{IsSound}
 use Rattle.law_runs.specs.AtEnd.{StaysCovered}
 use Rattle.law_workers.proofs.WholeRun.{rules_at_end, used_once, used_above, one_fault, order, none_made, answers_fit}
 use Rattle.law_runs.proofs.Released.{legal_run, none_of_lanes, below_releases, fits_ended}
@@ -93,8 +93,8 @@ module _ (begin : Begin) (first now : View) (places : List Place) (deeds : List 
       (rules_at_end begin first now places deeds is_opened d whole plan_is started))
 
   -- the run is sound
-  pub sound_run : AreReported [] deeds → All (λ (a : Deed). IsAnswer a.answer) deeds → IsSound course places deeds
-  sound_run reports widths = record {
+  pub sound_run : All (λ (a : Deed). IsAnswer a.answer) deeds → IsSound course places deeds
+  sound_run widths = record {
     history = history;
     answers = fit;
     used_once = used_once begin first now (records_of places) deeds is_opened d whole rows started kept ascend;
@@ -114,7 +114,6 @@ module _ (begin : Begin) (first now : View) (places : List Place) (deeds : List 
         kept words stand releases are
         (slice_index_or deeds k a).task.index
         (none_made begin first now (records_of places) deeds is_opened d whole rows started kept once k a low code);
-    reports = reports;
     widths = widths;
   }
 

@@ -33,6 +33,7 @@ use Rattle.law_runs.specs.Doing.{IsFounded, octets_put}
 use Rattle.law_runs.specs.Coming.{HasBroken, HasPut, StopsAtFullHistory, PutsBy, EndsReading}
 use Rattle.law_runs.specs.Ending.{Finishes, IsEndPut}
 use Rattle.law_runs.specs.Ran.{Ran, begin_by}
+use Rattle.law_runs.proofs.ByImage.{same_ok}
 use Rattle.law_runs.proofs.Faults.{told_rose}
 use Rattle.law_runs.proofs.Doing.{ends_run}
 use Rattle.law_runs.proofs.Moved.{moved_run, settled_more}
@@ -56,8 +57,7 @@ use Rattle.law_runs.proofs.Appending.{may_append}
 use Rattle.law_workers.proofs.WholeRun.{near, rules_at_end}
 use Rattle.unit_image.specs.Image.{held}
 use Rattle.unit_image.specs.OpeningImage.{LeftByOpening}
-use Rattle.unit_image.specs.Shows.{Shows, ShowsNone}
-use Rattle.unit_plan.specs.declared.plan_error.PlanFault.{PlanFault}
+use Rattle.unit_image.specs.Shows.{Shows}
 use Rattle.unit_plan.specs.PlanLines.{PlanLines}
 use Rattle.run_promise.specs.Fits.{MayAppend, Course, Fits}
 use Rattle.run_promise.specs.Deed.{is_entered, Deed, InTurn, StandsBehind, tells_count}
@@ -156,9 +156,6 @@ between_front base due p between =
     let is : base ++ p ≡ base ++ take (length p) due =
     between.prefix ∙ ap (λ (n : ℕ). take n (base ++ due)) size ∙ take-append-add base due (length p) in
     sym (drop-append_seam base p) ∙ ap (drop (length base)) is ∙ drop-append_seam base (take (length p) due)
-
-same_ok : (one other : PlanLines) → ◌≡◌ {A = Result PlanLines PlanFault} (Ok one) (Ok other) → one ≡ other
-same_ok one other h = let t = h in cc
 
 module _ (told : Bool) (site after : SiteSeen) (source source_after : SourceSeen)
     (first now : View) (came : RunEnd) (book : BookView) (words : List ℕ) (entries : List Entry) (status : ℕ)
@@ -630,7 +627,7 @@ module _ (told : Bool) (site after : SiteSeen) (source source_after : SourceSeen
         (deeds_from (places_of ran.come.of) ran.come.answers)
         e.opened e.does e.whole e.rows e.plan_is e.rules e.left (λ row. slice_index words row) e.words_are
         (take entries_added.count (releases book.state 0 words)) e.releases_are
-        e.pieces e.lined e.once e.ascend book.site.faults e.fewer e.stopped ran.come.reports
+        e.pieces e.lined e.once e.ascend book.site.faults e.fewer e.stopped
         (answers_all IsAnswer (places_of ran.come.of) ran.come.answers ran.come.widths)
 
     covered_so : StaysCovered (course_of call account book.plan book.start)
@@ -682,7 +679,6 @@ module _ (told : Bool) (site after : SiteSeen) (source source_after : SourceSeen
           (deeds_from (places_of ran.come.of) ran.come.answers)) course_is sound_so.order;
       none_made = subst (λ (c : Course). All (λ deed. IsUnmade deed.answer.code → HasNoEntry c.entries deed.task.index)
           (deeds_from (places_of ran.come.of) ran.come.answers)) course_is sound_so.none_made;
-      reports = ran.come.reports;
       widths = sound_so.widths;
     }
 
@@ -935,8 +931,7 @@ module _ (told : Bool) (site after : SiteSeen) (source source_after : SourceSeen
           let b = ran.same_faults in let c = last_later in let d = after_faults in let r = rose in omega arith)
       refused_by (inr full) = inr (let a = ap length entries_known in omega arith)
 
-  module _ (shows_one : (image : List ℕ) (one other : State) → Shows image one → Shows image other → one ≡ other)
-      (shows_some : (image : List ℕ) (state : State) (offset : ℕ) → Shows image state → ¬ ShowsNone image offset) where
+  module _ (shows_one : (image : List ℕ) (one other : State) → Shows image one → Shows image other → one ≡ other) where
     plan_same : IsTrue told → (plan : PlanLines) (state : State) → ShowsAtEntry call plan state → plan ≡ book.plan
     plan_same is_told plan state shows = same_ok plan book.plan (sym shows.says ∙ ran.says is_told)
 
@@ -1056,6 +1051,10 @@ module _ (told : Bool) (site after : SiteSeen) (source source_after : SourceSeen
               (ap (λ (s : SiteSeen). s.faults) last_opened ∙ ran.same_faults) last_image;
         }
 
+    -- the image at the entry shows the plan and the state of the book
+    entry_shows : IsTrue told → ShowsAtEntry call book.plan book.start
+    entry_shows is_told = record { says = ran.says is_told; shows = ran.shows is_told }
+
     pub run_ends_so : RunEnds call
     run_ends_so = record {
       account = account;
@@ -1070,10 +1069,10 @@ module _ (told : Bool) (site after : SiteSeen) (source source_after : SourceSeen
       quiet = quiet;
       bounded = entries_most;
       reports = ran.come.reports;
-      sound = λ is_told plan state shows.
-          subst (λ (pl : PlanLines). ServesSoundly call account pl state) (sym (plan_same is_told plan state shows))
-          (subst (λ (st : State). ServesSoundly call account book.plan st) (sym (state_same is_told plan state shows))
-          (sound_call is_told));
-      refused = λ is_told offset none.
-          absurd (shows_some site.trace.now.image book.start offset (ran.shows is_told) none);
+      by_image = λ is_told. inl (record {
+        plan = book.plan;
+        state = book.start;
+        shows = entry_shows is_told;
+        serves = sound_call is_told;
+      });
     }

@@ -1,21 +1,18 @@
 -- Two runs of one lane over one image that handled the same records: as far as both have answers, these are the same.
 use Rattle.std.proofs.Common.{◌≡◌, Bool, false, ℕ, zero, suc, ◌≤◌, IsTrue, List, [], ◌∷◌, ◌++◌, length, map, take, drop}
-use Rattle.std.proofs.Common.{Ok, refl, sym, ◌∙◌, ap, subst, arith, append_assoc}
+use Rattle.std.proofs.Common.{refl, sym, ◌∙◌, ap, subst, arith, append_assoc}
 use Rattle.std.proofs.lemmas.List.{take_all, take-append-drop}
 use Rattle.sdls_base.specs.declared.TheConstants.{MOST_KEYS}
 use Rattle.sdls_base.specs.declared.entry.Entry.{Entry}
-use Rattle.unit_image.specs.Image.{held}
 use Rattle.record_io.specs.declared.answers.Answer.{Answer}
 use Rattle.record_io.specs.Places.{Place, records_of}
-use Rattle.unit_plan.specs.Plan.{plan_of}
-use Rattle.unit_image.specs.Shows.{Shows}
 use Rattle.unit_plan.specs.PlanLines.{PlanLines}
 use Rattle.unit_state.specs.declared.state.State.{State}
 use Rattle.unit_state.specs.State.{KeepsRules}
 use Rattle.unit_state.specs.History.{after, after_first}
 use Rattle.run_promise.specs.Numbers.{mark_at}
 use Rattle.run_promise.specs.History.{IsLegalHistory, NearWord}
-use Rattle.run_promise.specs.Call.{Begin, CallSeen, ShowsAtEntry, image_at_entry}
+use Rattle.run_promise.specs.Call.{Begin, CallSeen}
 use Rattle.run_promise.specs.Deed.{Deed}
 use Rattle.run_promise.specs.Words.{Move, Runs, word_after}
 use Rattle.fsr_log.specs.Noted.{Noted}
@@ -25,7 +22,7 @@ use Rattle.run_promise.specs.OneLane.{ServesAll, has_failed, OneLane, IsExact}
 use Rattle.run_promise.specs.declared.end.RunEnd.{RunEnd}
 use Rattle.run_promise.specs.declared.end.RunEnd.TheVariants as ends
 use Rattle.run_promise.specs.Account.{Account, AreAnswered, begin_of, course_of, deeds_from, deeds_in, due_octets}
-use Rattle.run_promise.specs.Ends.{IsSoundCall, RunEnds}
+use Rattle.run_promise.specs.Ends.{IsSoundCall, RunEnds, ServesSoundly}
 use Rattle.law_runs.specs.Says.{AnswersAlike, FrontsAlike, IsUnfailed, NoneFails}
 use Rattle.law_runs.proofs.Alike.{are_served, began_alike, entries_alike, front_is, rules_front}
 
@@ -107,7 +104,6 @@ front_begins entries ends own front more rest is split =
 
 module _ (call other : CallSeen) (run : RunEnds call) (again : RunEnds other) (plan : PlanLines) (state : State)
     (told : IsTrue call.told) (tells : IsTrue other.told)
-    (image : image_at_entry other ≡ image_at_entry call) (shows : ShowsAtEntry call plan state)
     (handled : again.account.handled ≡ run.account.handled)
     (one : OneLane (records_of run.account.handled))
     (once : (begin : Begin) (rows : ℕ) (words : ℕ → ℕ) (before : List Noted) (history : List Entry)
@@ -121,13 +117,9 @@ module _ (call other : CallSeen) (run : RunEnds call) (again : RunEnds other) (p
     × (moves ≡ more))
     (along : (plan : PlanLines) (start : State) (places : List Place) (entries : List Entry)
     → IsLegalHistory plan start places entries
-    → (p : ℕ) → p ≤ length entries → KeepsRules (after_first start entries p)) where
-  reshows : ShowsAtEntry other plan state
-  reshows = record {
-    says = subst (λ (i : List ℕ). plan_of (held i).plan ≡ Ok plan) (sym image) shows.says;
-    shows = subst (λ (i : List ℕ). Shows i state) (sym image) shows.shows;
-  }
-
+    → (p : ℕ) → p ≤ length entries → KeepsRules (after_first start entries p))
+    (one_serves : ServesSoundly call run.account plan state)
+    (other_serves : ServesSoundly other again.account plan state) where
   module _ (n : ℕ) (low : n ≤ length run.account.answers) (small : n ≤ length again.account.answers)
       (fails : NoneFails (take n run.account.answers)) (refails : NoneFails (take n again.account.answers)) where
     tasks : SameTasks (take n (deeds_in run.account)) (take n (deeds_in again.account))
@@ -187,8 +179,6 @@ module _ (call other : CallSeen) (run : RunEnds call) (again : RunEnds other) (p
       → NoneFails (take n run.account.answers) → NoneFails (take n again.account.answers)
       → FrontsAlike call other run.account again.account plan state n
   fronts_alike n low small fails refails =
-      let one_serves = run.sound told plan state shows in
-      let other_serves = again.sound tells plan state reshows in
       same n low small fails refails one_serves.sound other_serves.sound one_serves.released.words
       other_serves.released.words (one_serves.exact one)
       (other_serves.exact (subst (λ (places : List Place). OneLane (records_of places)) (sym handled) one))
@@ -207,8 +197,8 @@ module _ (call other : CallSeen) (run : RunEnds call) (again : RunEnds other) (p
       let entries : IsUnfailed call → IsUnfailed other → (other.entries ≡ call.entries)
       × (again.account.named ≡ run.account.named → due_octets other again.account ≡ due_octets call run.account) =
       λ still restill.
-      entries_alike call other run again plan state still restill each reach told tells image shows handled one fails
-      refails once along in
+      entries_alike call other run again plan state still restill each reach told tells handled one fails refails once
+      along one_serves other_serves in
       record {
         answers = sym reall ∙ (fronts_alike (length run.account.answers) (omega arith) (omega arith)
             (subst NoneFails (sym all) fails) (subst NoneFails (sym reall) refails)).answers ∙ all;

@@ -6,6 +6,7 @@ pub mod Covering
 pub mod Assembled
 pub mod Beginnings
 pub mod Lives
+pub mod ByImage
 pub mod Statuses
 pub mod Stopping
 pub mod Segments

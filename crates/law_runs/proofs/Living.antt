@@ -24,7 +24,7 @@ follow_append image (one ∷ runs) run follow is is_run =
     (follow.0, follow.1, follow_append one.image runs run follow.2 is is_run)
 
 -- an image at the entry that shows a state says a plan
-at_entry : (call : CallSeen) (state : State) → Shows (image_at_entry call) state
+pub at_entry : (call : CallSeen) (state : State) → Shows (image_at_entry call) state
     → (plan : PlanLines) × ShowsAtEntry call plan state
 at_entry call state shows =
     let text : shows.what.plan ≡ (held (image_at_entry call)).plan = sym (ap (λ (h : Held). h.plan) shows.holds.is) in (

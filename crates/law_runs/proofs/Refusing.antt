@@ -50,10 +50,11 @@ use Rattle.run_promise.specs.declared.end.RunEnd.TheVariants as ends
 use Rattle.run_promise.specs.Account.{Account, AreAnswered, course_of, end_answer, end_octets, end_status, CameBy}
 use Rattle.run_promise.specs.Account.{PutsDue, PutsFront, TellsEnd}
 use Rattle.run_promise.specs.Ends.{IsEarly, IsFenced, IsOpenRefusal, IsRefused, IsReleased, IsServed, IsSoundCall}
-use Rattle.run_promise.specs.Ends.{RunEnds}
+use Rattle.run_promise.specs.Ends.{HasServed, RunEnds}
 use Rattle.run_promise.specs.Ends.{IsUnopened, StandsAtExit}
 use Rattle.law_runs.specs.Refused.{Refused, refused_end}
 use Rattle.law_runs.proofs.Ended.{failed_put, same_count}
+use Rattle.law_runs.proofs.Living.{at_entry}
 use Rattle.law_runs.proofs.Resting.{no_records}
 use Rattle.law_runs.proofs.Standing.{shown_unless}
 
@@ -494,33 +495,51 @@ module _ (told : Bool) (site back after : SiteSeen) (source : SourceSeen) (fault
       moments = early is_told ((refused.left is_told).none offset none);
     }
 
-    pub refused_ends : ((text : List ℕ) (plan : PlanLines) → plan_of text ≡ Ok plan → IsPlan plan)
-        → ((image : List ℕ) (state : State) → Shows image state → KeepsRules state)
-        → ((image : List ℕ) (state : State) → Shows image state → restarted state ≡ state) → RunEnds call
-    refused_ends plans rules lefts = record {
-      account = account;
-      takes = takes;
-      answered = answered fault;
-      cause = cause_of fault refused.cause;
-      tells = tells;
-      put = puts_end;
-      faults_told = λ k d low. absurd (omega arith);
-      last_later = refused.later;
-      after_later = refused.put_cause.later;
-      quiet = λ other. inl (quiet other);
-      bounded = omega arith;
-      reports = tt;
-      sound = λ is_told plan state shows.
+    module _ (plans : (text : List ℕ) (plan : PlanLines) → plan_of text ≡ Ok plan → IsPlan plan)
+        (rules : (image : List ℕ) (state : State) → Shows image state → KeepsRules state) where
+      served_so : ((image : List ℕ) (state : State) → Shows image state → restarted state ≡ state) → IsTrue told
+          → (state : State) → Shows site.trace.now.image state → HasServed call account
+      served_so lefts is_told state shown =
+          let (plan, shows) = at_entry call state shown in
+          let keeps = rules site.trace.now.image state shown in
           let is_plan = plans (held site.trace.now.image).plan plan shows.says in
-          let keeps = rules site.trace.now.image state shows.shows in
-          let sound = sound_call plan state is_told shows.shows is_plan keeps in
-          let (r, words) = released plan state keeps (lefts site.trace.now.image state shows.shows)
+          let sound = sound_call plan state is_told shown is_plan keeps in
+          let (r, words) = released plan state keeps (lefts site.trace.now.image state shown)
           sound.run.history.run.ends sound.run.history.run.within in record {
-            sound = sound;
-            released = r;
-            exact = λ one. exact_none plan state r.words sound.run.history.run.ends words;
-            exit = exit plan state (λ offset. never site.trace.now.image state offset shows.shows) is_told shows.shows
-                (lefts site.trace.now.image state shows.shows);
-          };
-      refused = refused_so;
-    }
+            plan = plan;
+            state = state;
+            shows = shows;
+            serves = record {
+              sound = sound;
+              released = r;
+              exact = λ one. exact_none plan state r.words sound.run.history.run.ends words;
+              exit = exit plan state (λ offset. never site.trace.now.image state offset shown) is_told shown
+                  (lefts site.trace.now.image state shown);
+            };
+          }
+
+      pub refused_ends : ((image : List ℕ) (state : State) → Shows image state → restarted state ≡ state)
+          → ((image : List ℕ) → ((state : State) × Shows image state) ⊎ ((offset : ℕ) × ShowsNone image offset))
+          → RunEnds call
+      refused_ends lefts either = record {
+        account = account;
+        takes = takes;
+        answered = answered fault;
+        cause = cause_of fault refused.cause;
+        tells = tells;
+        put = puts_end;
+        faults_told = λ k d low. absurd (omega arith);
+        last_later = refused.later;
+        after_later = refused.put_cause.later;
+        quiet = λ other. inl (quiet other);
+        bounded = omega arith;
+        reports = tt;
+        by_image = λ is_told. elim (either site.trace.now.image) [
+          | inl shown ↦ inl (served_so lefts is_told shown.0 shown.1)
+          | inr none ↦ inr (record {
+            offset = none.0;
+            shows_none = none.1;
+            refuses = refused_so is_told none.0 none.1;
+          })
+        ];
+      }

@@ -46,7 +46,6 @@ none_sound course plan_is rules = record {
   one_fault = λ i j d less low. absurd (omega arith);
   order = λ i j d less low. absurd (omega arith);
   none_made = λ k d low. absurd (omega arith);
-  reports = tt;
   widths = λ k d low. absurd (omega arith);
 }
 

@@ -17,7 +17,7 @@ use Rattle.unit_plan.specs.PlanLines.{PlanLines}
 use Rattle.unit_state.specs.declared.state.State.{State}
 use Rattle.unit_state.specs.Applied.{applied}
 use Rattle.unit_state.specs.History.{after_first}
-use Rattle.unit_image.specs.Shows.{Shows, ShowsNone}
+use Rattle.unit_image.specs.Shows.{ShowsNone}
 use Rattle.run_promise.specs.Numbers.{releases, release_at}
 use Rattle.run_promise.specs.History.{drawers, draws}
 use Rattle.run_promise.specs.declared.limits.TheConstants.{MOST_ENTRIES}
@@ -28,8 +28,10 @@ use Rattle.run_promise.specs.Call.{CallSeen, ShowsAtEntry, image_at_entry}
 use Rattle.run_promise.specs.Account.{Account, end_status, AreAnswered, HandledRead, due_octets, of_first, CameBy}
 use Rattle.run_promise.specs.Account.{TellsEnd, IsToldFirst}
 use Rattle.run_promise.specs.Answers.{SaysSiteFailed}
-use Rattle.run_promise.specs.Ends.{RunEnds, IsRefused, due_releases}
+use Rattle.run_promise.specs.Ends.{HasRefused, RunEnds, due_releases}
 use Rattle.law_runs.specs.Says.{DidAll, GoesToItsEnd, EndsWithFullHistory, IsLeftRefused, IsUnhindered}
+use Rattle.law_image.proofs.Images.{ShowsOne}
+use Rattle.law_runs.proofs.ByImage.{ShowsSome, refused_as, serves_from}
 
 -- ---- which end has which status
 
@@ -171,11 +173,12 @@ module _ (call : CallSeen) (run : RunEnds call) where
           absurd (let s : end_status SessionFull ≡ end_status Ended = ap end_status (sym is ∙ ended) in omega arith)
       go PutFailed is cause tells = absurd (let lt = cause.0 in omega arith)
 
-  pub refused_left : IsTrue call.told → (offset : ℕ) → ShowsNone (image_at_entry call) offset → IsLeftRefused call
-  refused_left told offset none = record { status_is = which; image_is = refusal.image_is }
+  pub refused_left : ShowsSome → IsTrue call.told → (offset : ℕ) → ShowsNone (image_at_entry call) offset
+      → IsLeftRefused call
+  refused_left some told offset none = record { status_is = which; image_is = refusal.refuses.image_is }
     where
-      refusal : IsRefused call run.account offset
-      refusal = run.refused told offset none
+      refusal : HasRefused call run.account
+      refusal = refused_as some call run told offset none
 
       told_as : (run.account.came ≡ Ended → ⊥) → TellsEnd call run.account
           → (run.account.named ≡ run.account.came) ⊎ (run.account.named ≡ SiteFault run.account.faults_when_put)
@@ -194,8 +197,8 @@ module _ (call : CallSeen) (run : RunEnds call) where
       ]
 
       which : (call.status ≡ 7) ⊎ ((call.status ≡ 5) ⊎ (call.status ≡ 6))
-      which = elim refusal.came_is [
-        | inl is ↦ elim (exact (NoState offset) is (λ z. absurd (omega arith))) [
+      which = elim refusal.refuses.came_is [
+        | inl is ↦ elim (exact (NoState refusal.offset) is (λ z. absurd (omega arith))) [
           | inl seven ↦ inl seven
           | inr five ↦ inr (inl five)
         ]
@@ -344,10 +347,10 @@ module _ (call : CallSeen) (run : RunEnds call) where
   handled_few PutFailed h = read_few h.0
 
   -- the entries are at most two a record, and one a key
-  few_entries : IsTrue call.told → (plan : PlanLines) (state : State) → ShowsAtEntry call plan state
-      → length call.entries ≤ 2 * length (places_of run.account.items) + MOST_KEYS
-  few_entries told plan state shows =
-      let serves = run.sound told plan state shows in
+  few_entries : ShowsSome → ShowsOne → IsTrue call.told → (plan : PlanLines) (state : State)
+      → ShowsAtEntry call plan state → length call.entries ≤ 2 * length (places_of run.account.items) + MOST_KEYS
+  few_entries some once told plan state shows =
+      let serves = serves_from some call run told once plan state shows in
       let s = serves.sound in
       let rel = serves.released in
       let ends : ℕ = s.run.history.run.ends in
@@ -367,9 +370,10 @@ module _ (call : CallSeen) (run : RunEnds call) where
   module _ (plan : PlanLines) (state : State) (free : IsUnhindered call run plan state)
       (reads_once : (input : List ℕ) (xs ys : List Item) (e f : InputEnd) → IsInput input xs e → IsInput input ys f
       → (xs ≡ ys) × (e ≡ f))
-      (shows_state : (image : List ℕ) (shown : State) (offset : ℕ) → Shows image shown → ¬ ShowsNone image offset) where
+      (shows_state : ShowsSome) (shows_one : ShowsOne) where
     few : length call.entries < MOST_ENTRIES
-    few = let h = few_entries free.site_told plan state free.shows in let s = free.short in omega arith
+    few = let h = few_entries shows_state shows_one free.site_told plan state free.shows in let s = free.short in
+        omega arith
 
     last_same : Rose call.site.faults run.account.faults_when_put → ⊥
     last_same h = let w = run.after_later in free.site_well (omega arith)

@@ -1,5 +1,5 @@
 -- Behind a fault of the site no entry is made.
-use Rattle.std.proofs.Common.{◌≡◌, Bool, ◌&&◌, sym, subst}
+use Rattle.std.proofs.Common.{Bool, ◌&&◌, sym, subst}
 use Rattle.std.specs.Prelude.{IsTrue}
 use Rattle.std.specs.List.{AllPairs, slice_index_or}
 use Rattle.record_io.specs.Places.{records_of}
@@ -12,11 +12,13 @@ use Rattle.run_promise.specs.Ends.{RunEnds}
 use Rattle.run_promise.specs.History.{NearWord}
 use Rattle.law_history.proofs.Behind.{is_of_entry, unmade_code}
 use Rattle.law_runs.specs.Says.{StopsBehind}
+use Rattle.law_image.proofs.Images.{ShowsOne}
+use Rattle.law_runs.proofs.ByImage.{ShowsSome, serves_from}
 
-pub stops_behind : (call : CallSeen) (run : RunEnds call) (plan : PlanLines) (state : State) → IsTrue call.told
-    → ShowsAtEntry call plan state → AllPairs StopsBehind (deeds_in run.account)
-stops_behind call run plan state told shows i j d lt low turn failed entered =
-    let sound = (run.sound told plan state shows).sound.run in
+pub stops_behind : ShowsSome → ShowsOne → (call : CallSeen) (run : RunEnds call) (plan : PlanLines) (state : State)
+    → IsTrue call.told → ShowsAtEntry call plan state → AllPairs StopsBehind (deeds_in run.account)
+stops_behind some once call run plan state told shows i j d lt low turn failed entered =
+    let sound = (serves_from some call run told once plan state shows).sound.run in
     let ended = (sound.order i j d lt low turn).ended failed in
     let other : Deed = slice_index_or (deeds_in run.account) j d in
     unmade_code (NearWord state call.entries (records_of run.account.handled)) (course_of call run.account plan state)

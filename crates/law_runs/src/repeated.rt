@@ -14,6 +14,7 @@ ghost use Rattle.run_promise.specs.Ends.{RunEnds};
 use law_history::rules_stay_along;
 use law_workers::served_once;
 use record_io::input_reads_once;
+use unit_image::{refused_with_one, shows_one};
 
 /// Law: two calls with one input and one status, 0 or 3, handled the same records, and answered each.
 pub fn one_input_is_handled_alike()
@@ -39,6 +40,8 @@ pub fn one_lane_answers_alike()
 {
     served_once();
     rules_stay_along();
+    shows_one();
+    refused_with_one();
 }
 
 /// Law: two calls over one image that handled the same records, all of one lane, give the same answers as far as both
@@ -56,6 +59,8 @@ pub fn one_lane_fronts_alike()
 {
     served_once();
     rules_stay_along();
+    shows_one();
+    refused_with_one();
 }
 
 /// Law: two calls over one image with one input, all of one lane, have the same answers and the same entries, and the

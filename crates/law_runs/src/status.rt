@@ -16,7 +16,7 @@ ghost use Rattle.law_runs.specs.Says.{DidAll, GoesToItsEnd, EndsWithFullHistory,
 ghost use Rattle.law_runs.specs.Says.{StopsBehind};
 
 use record_io::input_reads_once;
-use unit_image::refused_with_one;
+use unit_image::{refused_with_one, shows_one};
 
 /// Law: status 0 says that all was read, answered and put.
 pub fn zero_says_all()
@@ -41,7 +41,10 @@ pub fn faults_are_told()
 pub fn no_entry_behind_a_fault()
     ensures { (call : CallSeen) (run : RunEnds call) (plan : PlanLines) (state : State) → IsTrue call.told
         → ShowsAtEntry call plan state → AllPairs StopsBehind (deeds_in run.account) }
-{}
+{
+    shows_one();
+    refused_with_one();
+}
 
 /// Law: after a fault of the disk the run goes on: with the status of a fault of the site and at least one entry, where
 /// no put failed and memory sufficed, the input was read to its end.
@@ -74,7 +77,9 @@ pub fn refused_stays()
     ensures { (call : CallSeen) → RunEnds call → IsTrue call.told → (offset : ℕ)
         → ShowsNone (image_at_entry call) offset
         → IsLeftRefused call }
-{}
+{
+    refused_with_one();
+}
 
 /// Law: a run that nothing hinders does all, or memory ran out.
 pub fn unhindered_run_completes()
@@ -83,5 +88,6 @@ pub fn unhindered_run_completes()
         → (call.status ≡ DONE) ⊎ (call.status ≡ NO_MEMORY) }
 {
     input_reads_once();
+    shows_one();
     refused_with_one();
 }

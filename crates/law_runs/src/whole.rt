@@ -18,7 +18,7 @@ ghost use Rattle.law_runs.specs.Reads.{ReadsAlone};
 ghost use Rattle.law_runs.specs.Refused.{Refused};
 
 use crate::life::{sound_call_keeps_lives, sound_reading_keeps_lives};
-use law_image::shown_keeps_rules;
+use law_image::{refused_exactly, shown_keeps_rules};
 use unit_image::{refused_with_one, shows_one};
 
 /// Law: a call whose book was opened, whose records one worker served, and which released its keys and put End, ends as
@@ -58,7 +58,9 @@ pub fn refused_run_ends()
           entries = [];
         }) }
 {
+    shows_one();
     refused_with_one();
+    refused_exactly();
     shown_keeps_rules();
     sound_call_keeps_lives();
 }

@@ -122,6 +122,8 @@ pub record IsReleased (call : CallSeen) (account : Account) (state : State) (end
   pub moved : MovedWords call account state ends words
   -- Each word can have stood in its row: it is no lower than the key's mark at the start, and above it, or above a
   -- number that was asked for, by no more than one a record that can draw. It is above each number that an answer used.
+  -- What `moved` says is not enough for it, since moves have no order there. Two records that each raise a word from 5
+  -- to 10 would add 10 to it, and the word would be 15.
   pub near : (key row : ℕ) → place_of (after_first state call.entries ends).keys key ≡ Some row
       → NearWord state call.entries (records_of account.handled) key (slice_index words row)
   pub above : All (λ deed. (key number row : ℕ) → Uses deed.answer key number
@@ -151,6 +153,21 @@ pub record IsRefused (call : CallSeen) (account : Account) (offset : ℕ) : Type
   pub image_is : call.site_after.trace.now.image ≡ image_at_entry call
   pub moments : EachMoment call.site.trace call.site_after.trace (IsEarly call account.named)
 
+-- ---- how a run ends
+
+-- the image at the entry shows a state of a plan, and from it the call served soundly
+pub record HasServed (call : CallSeen) (account : Account) : Type 0 where
+  pub plan : PlanLines
+  pub state : State
+  pub shows : ShowsAtEntry call plan state
+  pub serves : ServesSoundly call account plan state
+
+-- the image at the entry shows no state, and was refused with the offset of the first check that fails
+pub record HasRefused (call : CallSeen) (account : Account) : Type 0 where
+  pub offset : ℕ
+  pub shows_none : ShowsNone (image_at_entry call) offset
+  pub refuses : IsRefused call account offset
+
 -- How a run ends, over its account.
 pub record RunEnds (call : CallSeen) : Type 0 where
   pub account : Account
@@ -169,7 +186,5 @@ pub record RunEnds (call : CallSeen) : Type 0 where
   pub bounded : length call.entries ≤ MOST_ENTRIES
   -- each monitoring message has the answer of the log of the answers before it, whatever the site tells
   pub reports : AreReported [] (deeds_in account)
-  pub sound : IsTrue call.told → (plan : PlanLines) (state : State) → ShowsAtEntry call plan state
-      → ServesSoundly call account plan state
-  pub refused : IsTrue call.told → (offset : ℕ) → ShowsNone (image_at_entry call) offset
-      → IsRefused call account offset
+  -- by what the image at the entry shows: there is no third case
+  pub by_image : IsTrue call.told → HasServed call account ⊎ HasRefused call account

@@ -71,8 +71,7 @@ IsNearBehind entries deed = (place key high number : ℕ) → Accepts deed.answe
 -- The run is sound: its history is legal, each answer fits its record, no number is used or accepted twice under a key,
 -- one accepted below what an entry before its own accepted under its key is less than 64 below, at most one answer says
 -- that the site failed while an entry was stored, the answers stand in order, no entry is of a record whose answer says
--- that it made none, each monitoring message has the answer of the log, and the fields of each answer have their
--- widths.
+-- that it made none, and the fields of each answer have their widths.
 pub record IsSound (course : Course) (places : List Place) (deeds : List Deed) : Type 0 where
   pub history : IsLegalHistory course.begin.plan course.begin.start places course.entries
   pub answers : All (λ deed. Fits (NearWord course.begin.start course.entries (records_of places)) course deed.task
@@ -88,7 +87,6 @@ pub record IsSound (course : Course) (places : List Place) (deeds : List Deed) :
   pub one_fault : AllPairs (λ one other. one.answer.code ≡ SITE_FAULT → other.answer.code ≢ SITE_FAULT) deeds
   pub order : AllPairs (λ one other. InTurn one other → StandsBehind course.begin course.entries one other) deeds
   pub none_made : All (λ deed. IsUnmade deed.answer.code → HasNoEntry course.entries deed.task.index) deeds
-  pub reports : AreReported [] deeds
   pub widths : All (λ deed. IsAnswer deed.answer) deeds
 
 -- The answer is covered by the state after the first p entries: its own entry, its epoch, its number and what it

@@ -4,7 +4,7 @@ use Rattle.std.proofs.Common.{get_or, refl, sym, ◌∙◌, ap, subst, arith, ap
 use Rattle.std.specs.Prelude.{◌||◌}
 use Rattle.std.specs.List.{All, AllPairs, list_any}
 use Rattle.std.proofs.lemmas.List.{length-append, length-map}
-use Rattle.std.proofs.lemmas.List.Elements.{All-append, All-head, All-map, All-nil, All-tail}
+use Rattle.std.proofs.lemmas.List.Elements.{All-append, All-map, All-nil}
 use Rattle.std.proofs.lemmas.List.Folds.{list_any-append}
 use Rattle.std.proofs.lemmas.Option.{slice_get_within}
 use Rattle.sdls_base.specs.declared.TheConstants.{MOST_KEYS}
@@ -12,7 +12,6 @@ use Rattle.counter_table.specs.declared.view.View.{View}
 use Rattle.counter_table.specs.Numbers.{amount}
 use Rattle.counter_table.specs.Turn.{stands}
 use Rattle.counter_table.specs.Whole.{IsWhole, RowStands}
-use Rattle.fsr_log.specs.Noted.{Noted}
 use Rattle.unit_image.specs.Beginning.{image_of_plan}
 use Rattle.law_image.proofs.Planned.{plan_rules}
 use Rattle.law_image.proofs.Ruled.{shown_left, shown_rules}
@@ -35,8 +34,7 @@ use Rattle.record_io.specs.Places.{Place, records_of}
 use Rattle.run_promise.specs.Account.{deeds_from}
 use Rattle.run_promise.specs.Call.{Begin}
 use Rattle.run_promise.specs.History.{drawers}
-use Rattle.run_promise.specs.Deed.{deed_of}
-use Rattle.run_promise.specs.Sound.{AreReported, noted_of, IsSound}
+use Rattle.run_promise.specs.Sound.{IsSound}
 use Rattle.unit_image.specs.Image.{held}
 use Rattle.unit_drill.specs.Chunks.{HandlesSegment, UnitIsOpened}
 use Rattle.unit_drill.specs.UnitRun.{RunsSoundly, in_segment, says_fault}
@@ -105,17 +103,6 @@ few_made begin first now places answers founded done whole up =
     let drawn = drawers_few (records_of places) in
     let size = records_length places in
     omega arith
-
-none_reported : (before : List Noted) (places : List Place) (answers : List Answer)
-    → All (λ (place : Place). IsPlain place.task) places
-    → AreReported before (deeds_from places answers)
-none_reported before [] answers plain = tt
-none_reported before (place ∷ places) [] plain = tt
-none_reported before (place ∷ places) (answer ∷ answers) plain = (
-  λ is. absurd (All-head (λ (p : Place). IsPlain p.task) place places plain is),
-  none_reported (before ++ noted_of (deed_of place.segment place.task answer) ∷ []) places answers
-      (All-tail (λ (p : Place). IsPlain p.task) place places plain),
-)
 
 -- ---- segment by segment
 
@@ -251,7 +238,6 @@ sound_so begin first now bound places answers founded ran =
     sound_run begin first now places (deeds_from places answers) e.opened e.does e.whole e.rows e.plan_is e.rules e.left
     (words_in now) e.words_are [] e.releases_are
     e.pieces e.lined e.once e.ascend now.turn.known.faults e.fewer e.stopped
-    (none_reported [] places answers (places_all IsPlain places ran.plain))
     (answers_all IsAnswer places answers ran.widths)
 
 pub runs_soundly : (plan : List ℕ) (begin : Begin) (first now : View) (bound : ℕ) (places : List Place)

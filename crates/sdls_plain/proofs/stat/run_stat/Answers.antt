@@ -1,4 +1,4 @@
-use Rattle.std.proofs.Common.{◌≡◌, IsTrue, subst, sym, ap, arith}
+use Rattle.std.proofs.Common.{◌≡◌, ℕ, IsTrue, List, subst, sym, ap, arith}
 use Rattle.sdls_outside.specs.Faults.{Rose}
 use Rattle.sdls_outside.specs.Moments.{EachMoment}
 use Rattle.unit_image.specs.Image.{held}
