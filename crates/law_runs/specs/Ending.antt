@@ -9,7 +9,7 @@ use Rattle.run_promise.specs.Call.{SiteSeen}
 use Rattle.unit_book.specs.declared.fault.BookFault.{BookFault}
 use Rattle.unit_book.specs.declared.fault.BookFault.TheVariants as faults
 use Rattle.unit_book.specs.Book.{BookView, IsKept, with_put}
-use Rattle.unit_book.specs.GoesOn.{GoesOn, TellsRise}
+use Rattle.unit_book.specs.LeavesBook.{LeavesBook, TellsRise}
 use Rattle.unit_book.specs.Log.{sunk_between}
 use Rattle.unit_book.specs.Numbers.{Releases}
 use Rattle.run_promise.specs.Log.{entries_of}
@@ -49,7 +49,7 @@ pub record Finishes (told : Bool) (before : ℕ) (words : List ℕ) (came : RunE
   pub released : BookView
   pub answer : Result (Unit {0}) BookFault
   pub releases : Releases words book released answer
-  pub goes_on : GoesOn book released
+  pub goes_on : LeavesBook book released
   pub risen : IfErr answer (TellsRise released)
   pub same_puts : released.site.put_faults ≡ book.site.put_faults
   pub end : RunEnd

@@ -8,7 +8,7 @@ use Rattle.link_world.specs.declared.link.LinkEvent.{LinkEvent}
 use Rattle.link_world.specs.declared.link.LinkEvent.TheVariants.{Release, Deliver}
 use Rattle.link_world.specs.Link.{releases_frame, arrival, arrivals_behind, arrivals}
 use Rattle.link_world.specs.Fate.{fate_of}
-use Rattle.link_world.specs.Chunk.{deliveries, in_turn, late, lates, times, turns}
+use Rattle.link_world.specs.Chunk.{deliveries, in_turn, late, lates, delivery_count, turns}
 
 few_one : (count : ℕ) (before : List LinkEvent) (event : LinkEvent) → length (arrival count before event) ≤ 1
 few_one count before (Release frame) = omega arith
@@ -32,20 +32,20 @@ pub few_arrive : (count : ℕ) (events : List LinkEvent) (arrived : List ℕ) �
 few_arrive count events arrived is =
     subst (λ (l : List ℕ). length l ≤ length events) (sym is) (few_behind count [] events)
 
-one_frame : (k : ℕ) (fate : Fate) → length (in_turn k fate) + length (late k fate) ≡ times fate
+one_frame : (k : ℕ) (fate : Fate) → length (in_turn k fate) + length (late k fate) ≡ delivery_count fate
 one_frame k Lost = refl
 one_frame k Once = refl
 one_frame k Twice = refl
 one_frame k Late = refl
 
-few_times : (fate : Fate) → times fate ≤ 2
+few_times : (fate : Fate) → delivery_count fate ≤ 2
 few_times Lost = omega arith
 few_times Once = omega arith
 few_times Twice = omega arith
 few_times Late = omega arith
 
 -- one frame more in a chunk adds its deliveries
-pub one_more : (k : ℕ) → length (deliveries (suc k)) ≡ length (deliveries k) + times (fate_of k)
+pub one_more : (k : ℕ) → length (deliveries (suc k)) ≡ length (deliveries k) + delivery_count (fate_of k)
 one_more k =
     let a = length-append (turns k) (in_turn k (fate_of k)) in
     let b = length-append (lates k) (late k (fate_of k)) in

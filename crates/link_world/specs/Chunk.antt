@@ -38,8 +38,8 @@ is_lost Twice = false
 is_lost Late = false
 
 -- how often a frame is delivered in all
-abbrev pub times : Fate → ℕ
-times Lost = 0
-times Once = 1
-times Twice = 2
-times Late = 1
+abbrev pub delivery_count : Fate → ℕ
+delivery_count Lost = 0
+delivery_count Once = 1
+delivery_count Twice = 2
+delivery_count Late = 1

@@ -17,7 +17,7 @@ use Rattle.pair_audit.specs.declared.audit.Repeat.{Repeat}
 use Rattle.pair_audit.specs.Marks.{IsUse, IsAcceptance, SaysAcceptance, SaysUse}
 use Rattle.pair_audit.specs.Places.{place_in}
 use Rattle.pair_audit.specs.Repeats.{AreUnlike}
-use Rattle.pair_audit.specs.Audit.{Says, is_use, is_acceptance, StandsFirst, KnowsFirst, KnowsAudit, TellsOf}
+use Rattle.pair_audit.specs.Audit.{HasHead, is_use, is_acceptance, StandsFirst, KnowsFirst, KnowsAudit, TellsOf}
 use Rattle.pair_audit.specs.Audit.{EntersPlace, repeat_at, FeedsUse, FeedsAcceptance, IsAsBefore}
 use Rattle.pair_audit.proofs.Seen.{get_left, get_seam, take_seam, match_more, place_none, place_same}
 
@@ -335,33 +335,33 @@ tells_neither fed answer no_use no_acceptance =
 
 -- ---- an answer that says so
 
-use_as : (code key number : ℕ) (answer : Answer) → Says code key number answer → SaysUse code key → IsUse answer
+use_as : (code key number : ℕ) (answer : Answer) → HasHead code key number answer → SaysUse code key → IsUse answer
 use_as code key number answer says is =
     subst (λ (c : ℕ). SaysUse c answer.key) (sym says.code_is) (subst (SaysUse code) (sym says.key_is) is)
 
 feeds_use_as : (old new : Audit) (code key number : ℕ) (answer : Answer) (told : Option Repeat)
-    → Says code key number answer
+    → HasHead code key number answer
     → FeedsUse old new key number told → FeedsUse old new answer.key answer.number told
 feeds_use_as old new code key number answer told says feeds =
     subst (λ (k : ℕ). FeedsUse old new k answer.number told) (sym says.key_is)
     (subst (λ (n : ℕ). FeedsUse old new key n told) (sym says.number_is) feeds)
 
 feeds_acceptance_as : (old new : Audit) (code key number : ℕ) (answer : Answer) (told : Option Repeat)
-    → Says code key number answer
+    → HasHead code key number answer
     → FeedsAcceptance old new key number told → FeedsAcceptance old new answer.key answer.number told
 feeds_acceptance_as old new code key number answer told says feeds =
     subst (λ (k : ℕ). FeedsAcceptance old new k answer.number told) (sym says.key_is)
     (subst (λ (n : ℕ). FeedsAcceptance old new key n told) (sym says.number_is) feeds)
 
 pub knows_use_as : (fed : List Answer) (answer : Answer) (code key number : ℕ) (old new : Audit) (told : Option Repeat)
-    → Says code key number answer
+    → HasHead code key number answer
     → SaysUse code key → KnowsAudit fed old → FeedsUse old new key number told → KnowsAudit (fed ++ answer ∷ []) new
 knows_use_as fed answer code key number old new told says is knows feeds =
     knows_use fed answer old new told (use_as code key number answer says is) knows
     (feeds_use_as old new code key number answer told says feeds)
 
 pub tells_use_as : (fed : List Answer) (answer : Answer) (code key number : ℕ) (old new : Audit) (told : Option Repeat)
-    → Says code key number answer
+    → HasHead code key number answer
     → SaysUse code key → KnowsAudit fed old → FeedsUse old new key number told → TellsOf fed answer told
 tells_use_as fed answer code key number old new told says is knows feeds =
     tells_use fed answer old new told (use_as code key number answer says is) knows
@@ -369,7 +369,7 @@ tells_use_as fed answer code key number old new told says is knows feeds =
 
 pub knows_acceptance_as : (fed : List Answer) (answer : Answer) (code key number : ℕ) (old new : Audit)
     (told : Option Repeat)
-    → Says code key number answer → SaysAcceptance code → KnowsAudit fed old → FeedsAcceptance old new key number told
+    → HasHead code key number answer → SaysAcceptance code → KnowsAudit fed old → FeedsAcceptance old new key number told
     → KnowsAudit (fed ++ answer ∷ []) new
 knows_acceptance_as fed answer code key number old new told says is knows feeds =
     knows_acceptance fed answer old new told (says.code_is ∙ is) knows
@@ -377,19 +377,19 @@ knows_acceptance_as fed answer code key number old new told says is knows feeds 
 
 pub tells_acceptance_as : (fed : List Answer) (answer : Answer) (code key number : ℕ) (old new : Audit)
     (told : Option Repeat)
-    → Says code key number answer → SaysAcceptance code → KnowsAudit fed old → FeedsAcceptance old new key number told
+    → HasHead code key number answer → SaysAcceptance code → KnowsAudit fed old → FeedsAcceptance old new key number told
     → TellsOf fed answer told
 tells_acceptance_as fed answer code key number old new told says is knows feeds =
     tells_acceptance fed answer old new told (says.code_is ∙ is) knows
     (feeds_acceptance_as old new code key number answer told says feeds)
 
-neither_use : (code key number : ℕ) (answer : Answer) → Says code key number answer → ¬ SaysUse code key
+neither_use : (code key number : ℕ) (answer : Answer) → HasHead code key number answer → ¬ SaysUse code key
     → ¬ IsUse answer
 neither_use code key number answer says none is =
     none (subst (SaysUse code) says.key_is (subst (λ (c : ℕ). SaysUse c answer.key) says.code_is is))
 
 pub knows_neither_as : (fed : List Answer) (answer : Answer) (code key number : ℕ) (audit : Audit)
-    → Says code key number answer → ¬ SaysUse code key
+    → HasHead code key number answer → ¬ SaysUse code key
     → ¬ SaysAcceptance code → KnowsAudit fed audit
     → KnowsAudit (fed ++ answer ∷ []) (record audit { fed = audit.fed + 1 })
 knows_neither_as fed answer code key number audit says no_use no_acceptance knows =
@@ -397,7 +397,7 @@ knows_neither_as fed answer code key number audit says no_use no_acceptance know
     (neither_use code key number answer says no_use)
     (λ is. no_acceptance (sym says.code_is ∙ is)) knows refl refl refl refl refl
 
-pub tells_neither_as : (fed : List Answer) (answer : Answer) (code key number : ℕ) → Says code key number answer
+pub tells_neither_as : (fed : List Answer) (answer : Answer) (code key number : ℕ) → HasHead code key number answer
     → ¬ SaysUse code key
     → ¬ SaysAcceptance code → TellsOf fed answer None
 tells_neither_as fed answer code key number says no_use no_acceptance =

@@ -11,7 +11,7 @@ use Rattle.pair_audit.specs.declared.audit.Repeat.{Repeat}
 use Rattle.record_io.specs.declared.answer_reading.AnswerHead.{AnswerHead}
 use Rattle.pair_audit.specs.declared.walk.RunEnd.{RunEnd}
 use Rattle.pair_audit.specs.declared.walk.RunEnd.TheVariants as ends
-use Rattle.pair_audit.specs.Audit.{Says}
+use Rattle.pair_audit.specs.Audit.{HasHead}
 use Rattle.pair_audit.specs.Counted.{CountsAnswers}
 use Rattle.record_io.specs.AnswerReading.{as_answer}
 use Rattle.record_io.specs.AnswerReading.{IsAnswerCode, IsKnownHead, StandsInFront, UnknownInFront, header_said}
@@ -26,7 +26,7 @@ use Rattle.pair_audit.proofs.Walking.{walked_end, walked_more, walked_none, walk
 abbrev pub answer_with : AnswerHead → List ℕ → Answer
 answer_with head body = as_answer (record { header = header_said head; front = body })
 
-pub says_head : (head : AnswerHead) (body : List ℕ) → Says head.code head.key head.number (answer_with head body)
+pub says_head : (head : AnswerHead) (body : List ℕ) → HasHead head.code head.key head.number (answer_with head body)
 says_head head body = record { code_is = refl; key_is = refl; number_is = refl }
 
 no_more : (rest : List ℕ) → length rest ≡ 0 → rest ≡ []

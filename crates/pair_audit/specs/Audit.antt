@@ -56,7 +56,7 @@ pub record IsAsBefore (old new : Audit) : Type 0 where
   pub count : new.fed ≡ old.fed
 
 -- the answer has this code, and this number of the key
-pub record Says (code key number : ℕ) (answer : Answer) : Type 0 where
+pub record HasHead (code key number : ℕ) (answer : Answer) : Type 0 where
   pub code_is : answer.code ≡ code
   pub key_is : answer.key ≡ key
   pub number_is : answer.number ≡ number

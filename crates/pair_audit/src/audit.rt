@@ -2,7 +2,7 @@
 ghost use Rattle.std.specs.Prelude.{◌≡◌, ℕ, ◌+◌, ◌<◌, ◌^◌, ◌++◌, List, [], ◌∷◌, Bool, true, false, Option, IfOk, OnErr};
 ghost use Rattle.std.specs.Prelude.{MatchOption, length};
 ghost use Rattle.record_io.specs.declared.answers.Answer.{Answer};
-ghost use Rattle.pair_audit.specs.Audit.{FeedsAcceptance, FeedsUse, IsAsBefore, KnowsAudit, Says};
+ghost use Rattle.pair_audit.specs.Audit.{FeedsAcceptance, FeedsUse, IsAsBefore, KnowsAudit, HasHead};
 ghost use Rattle.pair_audit.specs.Audit.{TellsOf, acceptances_in, repeat_at, uses_in};
 
 use crate::marks::{Mark, mark_of};
@@ -101,9 +101,9 @@ impl Audit {
         number: u64,
     ) -> Result<Option<Repeat>, NoMemory>
         requires { (fed : List Answer) × KnowsAudit fed self.old × (length fed + 1 < 2 ^ 64) }
-        ensures knows { IfOk result (λ _. (fed : List Answer) (answer : Answer) → Says code key number answer
+        ensures knows { IfOk result (λ _. (fed : List Answer) (answer : Answer) → HasHead code key number answer
             → KnowsAudit fed self.old → KnowsAudit (fed ++ answer ∷ []) self.new) }
-        ensures told { IfOk result (λ told. (fed : List Answer) (answer : Answer) → Says code key number answer
+        ensures told { IfOk result (λ told. (fed : List Answer) (answer : Answer) → HasHead code key number answer
             → KnowsAudit fed self.old → TellsOf fed answer told) }
         ensures kept { OnErr result (IsAsBefore self.old self.new) }
         ensures knows_still { OnErr result ((fed : List Answer) → KnowsAudit fed self.old → KnowsAudit fed self.new) }

@@ -22,7 +22,7 @@ use Rattle.shared_unit.specs.Told.{known_of_book}
 use Rattle.run_promise.specs.Numbers.{marks_of}
 use Rattle.unit_book.specs.Marks.{KeepsMarks as StateMarks}
 use Rattle.unit_book.specs.declared.fault.BookFault.{BookFault}
-use Rattle.unit_book.specs.GoesOn.{GoesOn, IsCalm}
+use Rattle.unit_book.specs.LeavesBook.{LeavesBook, IsCalm}
 use Rattle.shared_unit.specs.Turn.{KnowsMoreOfBook, TakesOnce, Visits}
 use Rattle.shared_unit.specs.Going.{GoesUp}
 use Rattle.unit_book.proofs.GoingOn.{goes_same}
@@ -81,7 +81,7 @@ after_low (Ok done) n = (omega arith, omega arith)
 after_low (Err fault) n = (omega arith, omega arith)
 
 -- a call that puts nothing
-pub goes_up : (old new : BookView) → GoesOn old new → StateMarks old.state new.state
+pub goes_up : (old new : BookView) → LeavesBook old new → StateMarks old.state new.state
     → new.site.put_faults ≡ old.site.put_faults
     → IsCalm old new → GoesUp old new
 goes_up old new goes marks same calm =
@@ -98,7 +98,7 @@ calm_put (Ok done) old new opened same still low = λ rose all.
 calm_put (Err fault) old new opened same still low = absurd (omega arith)
 
 -- a put
-pub goes_up_put : (piece : List ℕ) (result : Result (Unit {0}) BookFault) (old new : BookView) → GoesOn old new
+pub goes_up_put : (piece : List ℕ) (result : Result (Unit {0}) BookFault) (old new : BookView) → LeavesBook old new
     → StateMarks old.state new.state → new.log ≡ old.log ++ logged.Piece piece ∷ []
     → new.site.put_faults ≡ after_put result old.site.put_faults
     → OnOk result (new.site.faults ≡ old.site.faults) → GoesUp old new

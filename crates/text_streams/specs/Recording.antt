@@ -36,8 +36,8 @@ StopsCopy told len left source_rose sink_rose SourceFault = source_rose
 StopsCopy told len left source_rose sink_rose OutputFault = sink_rose
 
 -- why it is not known that nothing is left
-abbrev pub GoesOn : Bool → List ℕ → Type 0 → RunFault → Type 0
-GoesOn told left source_rose TooLong = ⊥
-GoesOn told left source_rose Changed = IsTrue told → left ≢ []
-GoesOn told left source_rose SourceFault = source_rose
-GoesOn told left source_rose OutputFault = ⊥
+abbrev pub MissesEnd : Bool → List ℕ → Type 0 → RunFault → Type 0
+MissesEnd told left source_rose TooLong = ⊥
+MissesEnd told left source_rose Changed = IsTrue told → left ≢ []
+MissesEnd told left source_rose SourceFault = source_rose
+MissesEnd told left source_rose OutputFault = ⊥

@@ -3,7 +3,7 @@ ghost use Rattle.std.specs.Prelude.{◌≡◌, ◌<◌, ◌≤◌, ◌^◌, ℕ,
 ghost use Rattle.sdls_outside.specs.Faults.{HasCause, Rose};
 ghost use Rattle.sdls_outside.specs.Output.{Delivers, OnlySinks};
 ghost use Rattle.pair_audit.specs.Recording.{recording_beginning};
-ghost use Rattle.text_streams.specs.Recording.{Copied, FaultCause, GoesOn, IsWritten, StopsCopy};
+ghost use Rattle.text_streams.specs.Recording.{Copied, FaultCause, MissesEnd, IsWritten, StopsCopy};
 ghost use Rattle.text_streams.specs.declared.run_fault.RunFault.TheVariants as faults;
 
 use crate::run_fault::RunFault;
@@ -78,7 +78,7 @@ fn copy<S: Source, O: Site>(
 /// If nothing is left.
 fn end<S: Source>(source: &mut S) -> Result<(), RunFault>
     ensures ended { IsTrue S.told → IfOk result (λ _. S.left source.old ≡ []) }
-    ensures cause { IfErr result (GoesOn S.told (S.left source.old) (Rose (S.faults source.old)
+    ensures cause { IfErr result (MissesEnd S.told (S.left source.old) (Rose (S.faults source.old)
         (S.faults source.new))) }
 {
     let mut octet = [0];

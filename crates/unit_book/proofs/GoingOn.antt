@@ -15,7 +15,7 @@ use Rattle.unit_book.specs.declared.fault.BookFault.TheVariants.{SiteFault, Stop
 use Rattle.run_promise.specs.Log.{entries_of}
 use Rattle.unit_book.specs.Marks.{is_release, HasNoRelease, KeepsMarks}
 use Rattle.unit_book.specs.Book.{BookView, IsBarred, IsUnstored, CanEnter, Enters, PutFails, left_out, with_put}
-use Rattle.unit_book.specs.GoesOn.{GoesOn, IsCalm, TellsRise}
+use Rattle.unit_book.specs.LeavesBook.{LeavesBook, IsCalm, TellsRise}
 use Rattle.unit_book.proofs.MarksKept.{marks_same, marks_then, no_release_parts, no_release_last}
 
 append_none : {X : Type 0} (xs : List X) → xs ≡ xs ++ []
@@ -23,7 +23,7 @@ append_none {X} [] = refl
 append_none {X} (x ∷ xs) = ap (λ rest. x ∷ rest) (append_none xs)
 
 -- a book that is as it was
-pub goes_same : (book : BookView) → GoesOn book book
+pub goes_same : (book : BookView) → LeavesBook book book
 goes_same book = record {
   opened = refl;
   image = refl;
@@ -46,7 +46,7 @@ entries_append (logged.Entry entry ∷ log) more = ap (λ (rest : List Entry). e
 entries_append (logged.Piece octets ∷ log) more = entries_append log more
 
 -- one call after another
-pub goes_then : (old mid new : BookView) → GoesOn old mid → GoesOn mid new → GoesOn old new
+pub goes_then : (old mid new : BookView) → LeavesBook old mid → LeavesBook mid new → LeavesBook old new
 goes_then old mid new first next = record {
   opened = next.opened ∙ first.opened;
   image = next.image ∙ first.image;
@@ -87,8 +87,8 @@ goes_then old mid new first next = record {
 
 -- octets were put
 pub goes_put : (piece : List ℕ) (old new : BookView) (site : SiteSeen) → old.site.faults ≤ site.faults
-    → new ≡ with_put piece (record old { site = site }) → GoesOn old new
-goes_put piece old new site low is = subst (GoesOn old) (sym is) (record {
+    → new ≡ with_put piece (record old { site = site }) → LeavesBook old new
+goes_put piece old new site low is = subst (LeavesBook old) (sym is) (record {
   opened = refl;
   image = refl;
   plan = refl;
@@ -110,9 +110,9 @@ one_entry entry none = (no_release_last [] entry none).1
 -- an entry was made
 pub goes_entered : (entry : Entry) (old new : BookView) (position : ℕ)
     → (is_release entry ≡ false → KeepsMarks old.state (applied old.state entry.change)) → CanEnter old
-    → old.site.faults ≤ new.site.faults → Enters entry old new position → GoesOn old new
+    → old.site.faults ≤ new.site.faults → Enters entry old new position → LeavesBook old new
 goes_entered entry old new position keeps can low made =
-    subst (GoesOn old) (sym made.is) (record {
+    subst (LeavesBook old) (sym made.is) (record {
       opened = refl;
       image = refl;
       plan = refl;
@@ -130,10 +130,10 @@ goes_entered entry old new position keeps can low made =
 
 -- an entry was not made, and is the last of the run where its append failed
 pub goes_unstored : (entry : Entry) (old new : BookView) (fault : BookFault)
-    → CanEnter old → old.site.faults ≤ new.site.faults → IsUnstored entry old new fault → GoesOn old new
+    → CanEnter old → old.site.faults ≤ new.site.faults → IsUnstored entry old new fault → LeavesBook old new
 goes_unstored entry old new (SiteFault count) can low unstored =
     let is : new ≡ left_out entry (record old { site = new.site }) = unstored.3 in
-    subst (GoesOn old) (sym is) (record {
+    subst (LeavesBook old) (sym is) (record {
       opened = refl;
       image = refl;
       plan = refl;
@@ -223,7 +223,7 @@ put_tells old new NoMemory low opened fails = absurd fails
 pub goes_committed : (entry : Entry) (old new : BookView) (result : Result ℕ BookFault)
     → (is_release entry ≡ false → KeepsMarks old.state (applied old.state entry.change)) → CanEnter old
     → old.site.faults ≤ new.site.faults → MatchResult result (Enters entry old new) (IsUnstored entry old new)
-    → GoesOn old new
+    → LeavesBook old new
 goes_committed entry old new (Ok position) keeps can low made = goes_entered entry old new position keeps can low made
 goes_committed entry old new (Err fault) keeps can low unstored = goes_unstored entry old new fault can low unstored
 

@@ -1,7 +1,7 @@
 pub mod Log
 pub mod Marks
 pub mod Book
-pub mod GoesOn
+pub mod LeavesBook
 pub mod Epoch
 pub mod Needs
 pub mod Numbers

@@ -8,7 +8,7 @@ ghost use Rattle.unit_state.specs.Laws.{IsNoMarks};
 ghost use Rattle.frame_checks.specs.Accepting.{field_in, LeavesOctets, MayBeAccepted, OnAccepted};
 ghost use Rattle.unit_book.specs.Marks.{KeepsMarks};
 ghost use Rattle.unit_book.specs.Book.{CanEnter, IsKept, IsUnstored, Made};
-ghost use Rattle.unit_book.specs.GoesOn.{GoesOn, IsCalm, TellsRise};
+ghost use Rattle.unit_book.specs.LeavesBook.{LeavesBook, IsCalm, TellsRise};
 ghost use Rattle.frame_checks.specs.Trying.{IsOpener, IsTried};
 ghost use Rattle.run_promise.specs.History.{raised_floor, frame_change, frame_entry};
 ghost use Rattle.unit_book.specs.Records.{OpensWithEntry, RefusesFrame};
@@ -72,7 +72,7 @@ impl<O: Site> Book<O> {
             (λ answer. (answer.0 ≡ reply)
             × Made (frame_entry self.old.plan self.old.state index reply) self.old self.new answer.1)
             (IsUnstored (frame_entry self.old.plan self.old.state index reply) self.old self.new) }
-        ensures goes_on { GoesOn self.old self.new }
+        ensures goes_on { LeavesBook self.old self.new }
         ensures marks { KeepsMarks self.old.state self.new.state }
         ensures risen { IfErr result (TellsRise self.new) }
         ensures puts { self.new.site.put_faults ≡ self.old.site.put_faults }
@@ -108,7 +108,7 @@ impl<O: Site> Book<O> {
             answer.0 answer.1
             × LeavesOctets answer.0 frame.old frame.new)
             (RefusesFrame index link frame.old self.old self.new) }
-        ensures goes_on { GoesOn self.old self.new }
+        ensures goes_on { LeavesBook self.old self.new }
         ensures marks { KeepsMarks self.old.state self.new.state }
         ensures risen { IfErr result (TellsRise self.new) }
         ensures puts { self.new.site.put_faults ≡ self.old.site.put_faults }
@@ -141,7 +141,7 @@ impl<O: Site> Book<O> {
             answer.0 answer.1
             × LeavesOctets answer.0 octets.now frame.now)
             (RefusesFrame index link octets.now self.old self.new) }
-        ensures goes_on { GoesOn self.old self.new }
+        ensures goes_on { LeavesBook self.old self.new }
         ensures marks { KeepsMarks self.old.state self.new.state }
         ensures risen { IfErr result (TellsRise self.new) }
         ensures puts { self.new.site.put_faults ≡ self.old.site.put_faults }

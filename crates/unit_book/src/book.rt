@@ -11,7 +11,7 @@ ghost use Rattle.unit_book.specs.Log.{sunk_between};
 ghost use Rattle.unit_book.specs.Marks.{is_release, KeepsMarks};
 ghost use Rattle.unit_book.specs.Book.{IsKept, CanEnter, IsBarred, IsNextState, entered, left_out};
 ghost use Rattle.unit_book.specs.Book.{with_put, PutFails};
-ghost use Rattle.unit_book.specs.GoesOn.{GoesOn, MakesEntry, TellsRise};
+ghost use Rattle.unit_book.specs.LeavesBook.{LeavesBook, MakesEntry, TellsRise};
 
 use crate::applying::{changes_of, put_next};
 use crate::fault::BookFault;
@@ -182,7 +182,7 @@ impl<O: Site> Book<O> {
             (record self.old { site = self.new.site }) }
         ensures put { IsTrue O.told → Puts octets.now result self.old.site.trace self.new.site.trace }
         ensures fault { IfErr result (PutFails self.old.site.faults self.new.site.faults) }
-        ensures goes_on { GoesOn self.old self.new }
+        ensures goes_on { LeavesBook self.old self.new }
         ensures marks { KeepsMarks self.old.state self.new.state }
         ensures risen { IfErr result (TellsRise self.new) }
         ensures puts { self.new.site.put_faults ≡ after_put result self.old.site.put_faults }

@@ -8,7 +8,7 @@ ghost use Rattle.unit_state.specs.Allows.{Allows};
 ghost use Rattle.unit_state.specs.Laws.{IsNoMarks};
 ghost use Rattle.unit_book.specs.Marks.{KeepsMarks};
 ghost use Rattle.unit_book.specs.Book.{IsKept, IsNextState};
-ghost use Rattle.unit_book.specs.GoesOn.{GoesOn, IsCalm, TellsRise};
+ghost use Rattle.unit_book.specs.LeavesBook.{LeavesBook, IsCalm, TellsRise};
 ghost use Rattle.run_promise.specs.History.{IsNeedOf, IsStepOf};
 ghost use Rattle.unit_book.specs.Records.{Handles, LeavesNoOctets, RefusesMessage};
 
@@ -95,7 +95,7 @@ impl<O: Site> Book<O> {
         // After a Destroy the keys' octets are gone: no image that a crash may leave holds them any more, in its banks
         // or, if the opening left nothing but a plan outside these, anywhere.
         ensures gone { IsTrue O.told → IfOk result (λ _. LeavesNoOctets self.old self.new) }
-        ensures goes_on { GoesOn self.old self.new }
+        ensures goes_on { LeavesBook self.old self.new }
         ensures marks { KeepsMarks self.old.state self.new.state }
         ensures risen { IfErr result (TellsRise self.new) }
         ensures puts { self.new.site.put_faults ≡ self.old.site.put_faults }

@@ -4,7 +4,7 @@ ghost use Rattle.std.specs.Prelude.{slice_index};
 ghost use Rattle.std.specs.Option.{option_map};
 ghost use Rattle.sa_book.specs.SaRefusal.{receiver_with};
 ghost use Rattle.unit_book.specs.Book.{IsKept, Made, Refuses};
-ghost use Rattle.unit_book.specs.GoesOn.{GoesOn, TellsRise};
+ghost use Rattle.unit_book.specs.LeavesBook.{LeavesBook, TellsRise};
 ghost use Rattle.run_promise.specs.Numbers.{released_floor, release_of, release_at};
 ghost use Rattle.unit_book.specs.Numbers.{Releases};
 ghost use Rattle.unit_book.specs.Receivers.{TellsReceivers};
@@ -91,7 +91,7 @@ impl<O: Site> Book<O> {
             (λ entry. MatchResult result (λ _. (position : ℕ) × Made entry self.old self.new position)
             (Refuses entry self.old self.new)) }
         ensures keys { length self.new.state.keys ≡ length self.old.state.keys }
-        ensures goes_on { GoesOn self.old self.new }
+        ensures goes_on { LeavesBook self.old self.new }
         ensures risen { IfErr result (TellsRise self.new) }
         ensures puts { self.new.site.put_faults ≡ self.old.site.put_faults }
         ensures later { self.old.site.faults ≤ self.new.site.faults }
@@ -117,7 +117,7 @@ impl<O: Site> Book<O> {
         requires some { (place : ℕ) → place < length self.old.state.keys → 1 ≤ slice_index next.now place }
         ensures kept { IsKept O.told self.new }
         ensures released { Releases next.now self.old self.new result }
-        ensures goes_on { GoesOn self.old self.new }
+        ensures goes_on { LeavesBook self.old self.new }
         ensures risen { IfErr result (TellsRise self.new) }
         ensures puts { self.new.site.put_faults ≡ self.old.site.put_faults }
         ensures later { self.old.site.faults ≤ self.new.site.faults }

@@ -4,7 +4,7 @@ ghost use Rattle.sdls_base.specs.KeyId.{end_of};
 ghost use Rattle.unit_state.specs.State.{key_row};
 ghost use Rattle.unit_book.specs.Marks.{KeepsMarks};
 ghost use Rattle.unit_book.specs.Book.{IsKept, Made, Refuses};
-ghost use Rattle.unit_book.specs.GoesOn.{GoesOn, IsCalm, TellsRise};
+ghost use Rattle.unit_book.specs.LeavesBook.{LeavesBook, IsCalm, TellsRise};
 ghost use Rattle.run_promise.specs.Numbers.{mark_of, floor_of, reserve_of};
 
 use crate::book::Book;
@@ -54,7 +54,7 @@ impl<O: Site> Book<O> {
             × (mark ≡ mark_of self.new.state key))
             (Refuses (reserve_of self.old.plan self.old.state key number) self.old self.new) }
         ensures above { (mark : ℕ) → result ≡ Ok mark → number < mark }
-        ensures goes_on { GoesOn self.old self.new }
+        ensures goes_on { LeavesBook self.old self.new }
         ensures marks { KeepsMarks self.old.state self.new.state }
         ensures risen { IfErr result (TellsRise self.new) }
         ensures puts { self.new.site.put_faults ≡ self.old.site.put_faults }

@@ -9,7 +9,7 @@ use Rattle.link_world.specs.declared.link.LinkEvent.{LinkEvent}
 use Rattle.link_world.specs.declared.link.LinkEvent.TheVariants.{Release}
 use Rattle.link_world.specs.Link.{arrivals, arrivals_behind}
 use Rattle.link_world.specs.Fate.{fate_of}
-use Rattle.link_world.specs.Chunk.{deliveries, is_lost, times}
+use Rattle.link_world.specs.Chunk.{deliveries, is_lost, delivery_count}
 use Rattle.link_world.proofs.Chunks.{chunk_arrives}
 use Rattle.link_world.proofs.Counting.{one_more}
 use Rattle.record_io.specs.declared.answers.Answer.{Answer}
@@ -120,7 +120,7 @@ arrived_all chunk zero low = (let e : 256 * chunk ≡ 256 * chunk + 0 = omega ar
 arrived_all chunk (suc n) low =
     let next : suc (256 * chunk + n) ≡ 256 * chunk + suc n = omega arith in
     let place : (256 * chunk + n) % 256 ≡ n = omega arith in
-    let one : arrived_of (256 * chunk + suc n) ≡ arrived_of (256 * chunk + n) + times (fate_of n) =
-    ap arrived_of (sym next) ∙ ap (λ (m : ℕ). arrived_of (256 * chunk + n) + times (fate_of m)) place in
+    let one : arrived_of (256 * chunk + suc n) ≡ arrived_of (256 * chunk + n) + delivery_count (fate_of n) =
+    ap arrived_of (sym next) ∙ ap (λ (m : ℕ). arrived_of (256 * chunk + n) + delivery_count (fate_of m)) place in
     let rest = arrived_all chunk n (omega arith) in
     let more = one_more n in omega arith

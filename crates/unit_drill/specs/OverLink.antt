@@ -3,7 +3,7 @@ use Rattle.std.specs.Prelude.{◌≡◌, ◌⊎◌, ℕ, suc, zero, ◌+◌, ◌
 use Rattle.std.specs.Prelude.{if◌then◌else◌}
 use Rattle.std.specs.List.{list_any}
 use Rattle.sdls_outside.specs.Moments.{Trace}
-use Rattle.link_world.specs.Chunk.{is_lost, times}
+use Rattle.link_world.specs.Chunk.{is_lost, delivery_count}
 use Rattle.link_world.specs.Fate.{fate_of}
 use Rattle.record_io.specs.declared.answers.Answer.{Answer}
 use Rattle.record_io.specs.declared.code.TheConstants as codes_of
@@ -44,7 +44,7 @@ lost_of (suc frame) = lost_of frame + (if is_lost (fate_of (frame % CHUNK)) then
 -- how often they arrive
 abbrev pub arrived_of : ℕ → ℕ
 arrived_of zero = 0
-arrived_of (suc frame) = arrived_of frame + times (fate_of (frame % CHUNK))
+arrived_of (suc frame) = arrived_of frame + delivery_count (fate_of (frame % CHUNK))
 
 -- Each frame is protected, those that the link loses are lost, and each that arrives is accepted or rejected.
 pub record AreAllCounted (number : ℕ) (counts : Counts) : Type 0 where

@@ -1,6 +1,6 @@
 use Rattle.std.proofs.Common.{◌≡◌, ◌≤◌, length}
 use Rattle.unit_book.specs.Book.{IsKept}
-use Rattle.unit_book.specs.GoesOn.{GoesOn}
+use Rattle.unit_book.specs.LeavesBook.{LeavesBook}
 use Rattle.unit_book.specs.Receivers.{TellsReceivers}
 use Rattle.unit_book.proofs.Released.{SoFar}
 use Rattle.unit_book.proofs.book.Book.release.Given as goal
@@ -11,7 +11,7 @@ invariant-loop-place g l = record {
   keys : length l.self.state.keys ≡ length l.initial.self.state.keys;
   so_far : SoFar l.next l.place l.initial.self l.self;
   receivers : TellsReceivers l.self.state.associations l.receivers.places;
-  goes_on : GoesOn l.initial.self l.self;
+  goes_on : LeavesBook l.initial.self l.self;
   puts : l.self.site.put_faults ≡ l.initial.self.site.put_faults;
   later : l.initial.self.site.faults ≤ l.self.site.faults;
 }

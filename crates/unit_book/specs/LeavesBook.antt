@@ -15,7 +15,7 @@ use Rattle.unit_book.specs.Book.{BookView, Enters, IsKept, IsUnstored, LeavesSta
 -- The opening stands: what was read, its plan and state, and the site as it was then. The log goes on by the lines
 -- that the call added. Neither the count of faults nor that of changes falls; once the first had risen, no entry
 -- is added, and none stands that did not. Keys keep their places, and their marks do not fall but by a release.
-pub record GoesOn (old new : BookView) : Type 0 where
+pub record LeavesBook (old new : BookView) : Type 0 where
   pub opened : new.opened ≡ old.opened
   pub image : new.image ≡ old.image
   pub plan : new.plan ≡ old.plan
@@ -48,7 +48,7 @@ pub record MakesEntry (told : Bool) (entry : Entry) (result : Result ℕ BookFau
   pub made : MatchResult result (Enters entry old new) (IsUnstored entry old new)
   -- once a change has taken away the octets of keys, no image that a crash may leave holds them
   pub gone : IsTrue told → OnOk result (Destroys entry.change → LeavesStateAlone new)
-  pub goes_on : GoesOn old new
+  pub goes_on : LeavesBook old new
   pub marks : is_release entry ≡ false → KeepsMarks old.state new.state
   pub risen : IfErr result (TellsRise new)
   pub calm : IsCalm old new
