@@ -7,7 +7,7 @@ use std::alloc::{AllocError, Global};
 use std::mem;
 use std::sync::Wait;
 use std::thread::Threads;
-use unit_session::{OpenGate, run_recorded};
+use cli_run::{OpenGate, run_recorded};
 
 /// More calls than an opening makes, a power of two, and its exponent.
 const MOST_CALLS: u64 = 8_192;

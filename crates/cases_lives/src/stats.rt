@@ -2,7 +2,7 @@
 use case_lines::words_of;
 use case_units::write_octets;
 use sdls_outside::{MemSite, SureSource};
-use sdls_plain::{Outcome, run_plain};
+use cli_image::{Outcome, run_plain};
 use sha2::{Digest, Sha256};
 use std::alloc::{AllocError, Global};
 

@@ -5,11 +5,11 @@ use case_lines::words_of;
 use case_units::{BEGINNING, FENCE};
 use record_io::Outcome;
 use sdls_outside::SureSource;
-use sdls_plain::run_plain;
+use cli_image::run_plain;
 use std::alloc::{AllocError, Global};
 use std::sync::Wait;
 use std::thread::Threads;
-use unit_session::{OpenGate, run_recorded};
+use cli_run::{OpenGate, run_recorded};
 
 /// How a run ended: its status, the count of its entries, and the site.
 #[derive(Drop)]

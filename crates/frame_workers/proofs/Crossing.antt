@@ -25,9 +25,9 @@ use Rattle.counter_table.proofs.counters.Counters.TheSendSync as counters
 use Rattle.unit_book.specs.contracts.log.Log as Log
 use Rattle.unit_book.specs.contracts.book.Book as Book
 use Rattle.unit_book.specs.contracts.book.Book.TheInside as BookFields
-use Rattle.shared_unit.specs.contracts.shelf.Shelf as Shelf
-use Rattle.shared_unit.specs.contracts.shelf.Shelf.TheInside as ShelfFields
-use Rattle.shared_unit.specs.contracts.shelf.ShelfCounted.TheImpl as counted
+use Rattle.shared_unit.specs.contracts.shared_book.SharedBook as SharedBook
+use Rattle.shared_unit.specs.contracts.shared_book.SharedBook.TheInside as SharedBookFields
+use Rattle.shared_unit.specs.contracts.shared_book.SharedBookCounted.TheImpl as counted
 use Rattle.shared_unit.specs.contracts.unit.Unit as TheUnit
 
 snapshot_send : (T : RattleType) → IsSend (Snapshot.the_row T)
@@ -75,13 +75,13 @@ module _ (O : RattleType) (g : Site.Ghosts O.Denot) (s : IsSend O) where
     ),
   ))
 
-  pub shelf_send : IsSend (Shelf.the_row O g)
-  shelf_send =
-      view_send _ _ _ _ _ (declared_send (ShelfFields.the_type O g) (Box-send (Book.the_row O g) book_send, tt))
+  pub shared_book_send : IsSend (SharedBook.the_row O g)
+  shared_book_send =
+      view_send _ _ _ _ _ (declared_send (SharedBookFields.the_type O g) (Box-send (Book.the_row O g) book_send, tt))
 
   pub unit_sync : IsSync (TheUnit.the_row O g)
   unit_sync = declared_sync (TheUnit.the_type O g) (
-    counters.the_sync (Shelf.the_row O g) (counted.ghosts O g counted.no_dict) shelf_send,
+    counters.the_sync (SharedBook.the_row O g) (counted.ghosts O g counted.no_dict) shared_book_send,
     (as_row_sync (row_field Plan.the_row) plan.the_sync, tt),
   )
 

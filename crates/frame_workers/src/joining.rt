@@ -16,7 +16,7 @@ use frame_shield::FRAME_ROOM;
 use record_io::{Answer, LANES, Record, SEGMENT_RECORDS, Spare};
 use sdls_base::NoMemory;
 use sdls_outside::Site;
-use shared_unit::{Shelf, Unit, Worker};
+use shared_unit::{SharedBook, Unit, Worker};
 use std::alloc::Global;
 use std::mem;
 
@@ -106,7 +106,7 @@ pub(crate) fn split_lanes<O: Site>(
     used: &Used,
     mut rooms: Vec<Vec<Answer>>,
     spare: &mut Spare,
-    lanes: &mut Vec<Lane<Shelf<O>>>,
+    lanes: &mut Vec<Lane<SharedBook<O>>>,
 )
     requires ready { IsReady unit.now.counters unit.now.plan worker.old }
     requires shares { LANES < (view worker.old).numbers.shares }
@@ -147,7 +147,7 @@ pub(crate) fn split_lanes<O: Site>(
 pub(crate) fn join_lanes<O: Site>(
     unit: &Unit<O>,
     worker: &mut Worker<O>,
-    mut lanes: Vec<Lane<Shelf<O>>>,
+    mut lanes: Vec<Lane<SharedBook<O>>>,
     parts: &mut [Vec<Answer>],
     spare: &mut Spare,
 )

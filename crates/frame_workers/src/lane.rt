@@ -12,7 +12,7 @@ use crate::permits::{PLACES, Permits};
 use frame_shield::FRAME_ROOM;
 use record_io::{Answer, Record, Spare};
 use sdls_outside::Site;
-use shared_unit::{Shelf, Unit};
+use shared_unit::{SharedBook, Unit};
 use std::alloc::Global;
 use std::sync::Wait;
 use std::thread;
@@ -71,7 +71,7 @@ fn run_lane<R: Wait, O: Site, G: Gate>(
     unit: &Unit<O>,
     records: &[Record],
     gate: &G,
-    lane: &mut Lane<Shelf<O>>,
+    lane: &mut Lane<SharedBook<O>>,
 )
     requires plain { All (λ (task : Record). task.kind ≢ Monitor) records.now }
     requires ascend { Ascend records.now }
@@ -111,7 +111,7 @@ pub(crate) fn run_lanes<R: Threads + Wait + Sync, O: Site + Send, G: Gate + Sync
     unit: &Unit<O>,
     records: &[Record],
     gate: &G,
-    lanes: &mut [Lane<Shelf<O>>],
+    lanes: &mut [Lane<SharedBook<O>>],
 )
     requires plain { All (λ (task : Record). task.kind ≢ Monitor) records.now }
     requires ascend { Ascend records.now }

@@ -19,7 +19,7 @@ use Rattle.pair_audit.specs.declared.audit.Repeat.{Repeat}
 use Rattle.pair_audit.specs.declared.walk.AuditEnd.{AuditEnd}
 use Rattle.pair_audit.specs.declared.walk.AuditEnd.TheVariants.{BreaksAt}
 use Rattle.pair_audit.specs.declared.walk.NextRun.TheVariants as nexts
-use Rattle.pair_audit.specs.declared.walk.RunEnd.TheVariants as ends
+use Rattle.pair_audit.specs.declared.walk.RunFound.TheVariants as ends
 use Rattle.pair_audit.specs.Audit.{KnowsAudit}
 use Rattle.pair_audit.specs.Recording.{AuditFound, AuditSays, HasUnknown, LacksRun, ReadsRuns, RunCounts, RunsCount}
 use Rattle.pair_audit.specs.Recording.{recording, recording_beginning, run_octets, runs_octets}

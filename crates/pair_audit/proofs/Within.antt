@@ -9,8 +9,8 @@ use Rattle.record_io.specs.Answers.{header_octets}
 use Rattle.pair_audit.specs.declared.audit.Audit.{Audit}
 use Rattle.pair_audit.specs.declared.audit.Repeat.{Repeat}
 use Rattle.record_io.specs.declared.answer_reading.AnswerHead.{AnswerHead}
-use Rattle.pair_audit.specs.declared.walk.RunEnd.{RunEnd}
-use Rattle.pair_audit.specs.declared.walk.RunEnd.TheVariants as ends
+use Rattle.pair_audit.specs.declared.walk.RunFound.{RunFound}
+use Rattle.pair_audit.specs.declared.walk.RunFound.TheVariants as ends
 use Rattle.pair_audit.specs.Audit.{HasHead}
 use Rattle.pair_audit.specs.Counted.{CountsAnswers}
 use Rattle.record_io.specs.AnswerReading.{as_answer}
@@ -148,7 +148,7 @@ run_unknown len left octets header rest own run left_is enough size unknown rest
 
 -- the rest of a run was passed over, of which this is so if it is whole
 pub rest_passed : (told : Bool) (taken len place : ℕ) (octets rest first middle last : List ℕ) (old new : Audit)
-    (before : Option Repeat) (end said : RunEnd)
+    (before : Option Repeat) (end said : RunFound)
     → place ≤ len → length octets ≡ place → Taking told taken place octets first middle
     → Taking told (taken + place) (len - place) rest middle last
     → (length rest ≡ len - place → RunSaid len old new before (octets ++ rest) end)

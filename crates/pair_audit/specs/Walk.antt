@@ -11,8 +11,8 @@ use Rattle.pair_audit.specs.declared.audit.Audit.{Audit}
 use Rattle.pair_audit.specs.declared.audit.Repeat.{Repeat}
 use Rattle.pair_audit.specs.declared.walk.Step.{Step}
 use Rattle.pair_audit.specs.declared.walk.Step.TheVariants as steps
-use Rattle.pair_audit.specs.declared.walk.RunEnd.{RunEnd}
-use Rattle.pair_audit.specs.declared.walk.RunEnd.TheVariants as ends
+use Rattle.pair_audit.specs.declared.walk.RunFound.{RunFound}
+use Rattle.pair_audit.specs.declared.walk.RunFound.TheVariants as ends
 use Rattle.pair_audit.specs.declared.walk.NextRun.{NextRun}
 use Rattle.pair_audit.specs.declared.walk.NextRun.TheVariants as nexts
 use Rattle.pair_audit.specs.Audit.{KnowsAudit}
@@ -77,7 +77,7 @@ pub record UnknownAt (octets : List ℕ) (place : ℕ) : Type 0 where
   pub within : place ≤ length octets
 
 -- the run is whole, and its answers were taken; or one of its codes is none; or the input ends in it
-abbrev pub RunSaid : ℕ → Audit → Audit → Option Repeat → List ℕ → RunEnd → Type 0
+abbrev pub RunSaid : ℕ → Audit → Audit → Option Repeat → List ℕ → RunFound → Type 0
 RunSaid len old new first octets (ends.Whole later) = (length octets ≡ len) × ((own : List Answer)
     × CountsAnswers octets own × All (λ answer. IsAnswerCode answer.code) own × (length own ≤ length octets)
     × Takes old new first later own)

@@ -9,7 +9,7 @@ ghost use Rattle.pair_audit.specs.Audit.{KnowsAudit};
 ghost use Rattle.pair_audit.specs.Recording.{AuditFound, AuditSays, ReadsRuns, recording_beginning};
 ghost use Rattle.pair_audit.specs.Taking.{HasStopCause, Taking};
 ghost use Rattle.pair_audit.specs.Walk.{IsOutcome, NextSaid, RunSaid, StepSaid, earlier_of};
-ghost use Rattle.pair_audit.specs.declared.walk.RunEnd.TheVariants as ends;
+ghost use Rattle.pair_audit.specs.declared.walk.RunFound.TheVariants as ends;
 
 use crate::audit::{Audit, Repeat};
 use crate::stop::AuditStop;
@@ -55,7 +55,7 @@ pub(crate) enum Step {
 
 // What is so of a run.
 #[derive(Clone, Copy)]
-pub(crate) enum RunEnd {
+pub(crate) enum RunFound {
     // Its answers were taken, with the first repeat up to them.
     Whole(Option<Repeat>),
     // At this octet of it a header stands whose code is that of no answer.
@@ -124,8 +124,8 @@ fn pass_rest<S: Source>(
     taken: u64,
     left: u64,
     room: &mut [u8],
-    end: RunEnd,
-) -> Result<RunEnd, AuditStop>
+    end: RunFound,
+) -> Result<RunFound, AuditStop>
     requires { 0 < length room.old }
     ensures passed { IfOk result (λ said. (octets : List ℕ)
         × Taking S.told taken left octets (S.left source.old) (S.left source.new)
@@ -134,7 +134,7 @@ fn pass_rest<S: Source>(
     ensures cause { HasStopCause (S.faults source.old) (S.faults source.new) result }
 {
     if skip(source, taken, left, room)? < left {
-        return Ok(RunEnd::Cut);
+        return Ok(RunFound::Cut);
     }
     Ok(end)
 }
@@ -147,7 +147,7 @@ fn audit_run<S: Source>(
     taken: u64,
     len: u64,
     room: &mut [u8],
-) -> Result<RunEnd, AuditStop>
+) -> Result<RunFound, AuditStop>
     requires fed { (fed : List Answer) × KnowsAudit fed audit.old × (length fed ≤ taken) }
     requires room { 0 < length room.old }
     ensures said { IfOk result (λ end. (octets : List ℕ)
@@ -174,10 +174,10 @@ fn audit_run<S: Source>(
                     taken + behind,
                     len - behind,
                     room,
-                    RunEnd::Unknown(place),
+                    RunFound::Unknown(place),
                 );
             }
-            Step::Cut => return Ok(RunEnd::Cut),
+            Step::Cut => return Ok(RunFound::Cut),
         }
     }
     pass_rest(
@@ -185,7 +185,7 @@ fn audit_run<S: Source>(
         taken + place,
         len - place,
         room,
-        RunEnd::Whole(first),
+        RunFound::Whole(first),
     )
 }
 
@@ -221,12 +221,12 @@ fn audit_next<S: Source>(
     }
     let len = u64::from(length_of(&length));
     match audit_run(source, audit, first, taken + LENGTH as u64, len, room)? {
-        RunEnd::Whole(later) => Ok(NextRun::Taken {
+        RunFound::Whole(later) => Ok(NextRun::Taken {
             count: LENGTH as u64 + len,
             first: later,
         }),
-        RunEnd::Unknown(place) => Ok(NextRun::Broken(LENGTH as u64 + place)),
-        RunEnd::Cut => Ok(NextRun::Broken(0)),
+        RunFound::Unknown(place) => Ok(NextRun::Broken(LENGTH as u64 + place)),
+        RunFound::Cut => Ok(NextRun::Broken(0)),
     }
 }
 

@@ -11,8 +11,8 @@ use Rattle.pair_audit.specs.Audit.{acceptances_in, uses_in}
 use Rattle.pair_audit.specs.Recording.{AuditSays, RunsCount, recording}
 use Rattle.pair_audit.specs.declared.walk.AuditEnd.{AuditEnd}
 use Rattle.pair_audit.specs.declared.walk.AuditEnd.TheVariants.{Clean}
-use Rattle.audit_run.specs.Ends.{AuditDue, EndsAudit}
-use Rattle.audit_run.specs.Text.{audit_status, audit_text, clean_text}
+use Rattle.cli_audit.specs.Ends.{AuditDue, EndsAudit}
+use Rattle.cli_audit.specs.Text.{audit_status, audit_text, clean_text}
 
 -- an audit of these runs says that all is well, with these counts
 abbrev pub IsClean : List (List ℕ) → AuditEnd → Type 0

@@ -14,8 +14,8 @@ use Rattle.law_runs.specs.Reads.{IsRead, ReadsAlone, ReadsSoundly}
 use Rattle.command_words.specs.declared.command.Command.{Command}
 use Rattle.command_words.specs.declared.command.Command.TheVariants.{Check, Init, Stat, Run, Audit, Drill, LinkDrill}
 use Rattle.command_words.specs.declared.command.Command.TheVariants.{Usage}
-use Rattle.sdls_plain.proofs.Sinking.{is_there, sinks_leave}
-use Rattle.sdls_plain.specs.Stat.{EndsStat, StatMoment}
+use Rattle.cli_image.proofs.Sinking.{is_there, sinks_leave}
+use Rattle.cli_image.specs.Stat.{EndsStat, StatMoment}
 
 is_read : (call : CallSeen) (image : List ℕ) → StatMoment call.site.trace image → IsRead call image
 is_read call image (inl leaves) = inl leaves

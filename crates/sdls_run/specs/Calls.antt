@@ -7,11 +7,11 @@ use Rattle.record_io.specs.Outcome.{Ends}
 use Rattle.record_io.specs.declared.status.TheConstants.{USAGE}
 use Rattle.run_promise.specs.Call.{CallSeen, image_at_entry}
 use Rattle.command_words.specs.Lines.{usage_text}
-use Rattle.check_run.specs.Answer.{EndsCheck}
-use Rattle.audit_run.specs.Ends.{EndsAudit}
-use Rattle.sdls_plain.specs.Init.{EndsInit}
-use Rattle.sdls_plain.specs.Stat.{EndsStat}
-use Rattle.sdls_plain.specs.Taking.{TakesFrame, TakesPlan}
+use Rattle.cli_check.specs.Answer.{EndsCheck}
+use Rattle.cli_audit.specs.Ends.{EndsAudit}
+use Rattle.cli_image.specs.Init.{EndsInit}
+use Rattle.cli_image.specs.Stat.{EndsStat}
+use Rattle.cli_image.specs.Taking.{TakesFrame, TakesPlan}
 use Rattle.unit_drill.specs.Drilled.{EndsDrill}
 use Rattle.unit_drill.specs.OverLink.{EndsLinkDrill}
 

@@ -11,10 +11,10 @@ ghost use Rattle.run_promise.specs.Life.{IsBeginning, IsLife, LifeRun, KeepsLive
 ghost use Rattle.pair_audit.specs.Audit.{acceptances_in, uses_in};
 ghost use Rattle.pair_audit.specs.Recording.{RunsCount, recording};
 ghost use Rattle.law_audit.specs.Recorded.{SankFew, sunk_by};
-ghost use Rattle.audit_run.specs.Ends.{EndsAudit};
-ghost use Rattle.audit_run.specs.Text.{clean_text};
+ghost use Rattle.cli_audit.specs.Ends.{EndsAudit};
+ghost use Rattle.cli_audit.specs.Text.{clean_text};
 ghost use Rattle.run_promise.specs.Call.{CallSeen, image_at_entry};
-ghost use Rattle.sdls_plain.specs.Stat.{EndsStat};
+ghost use Rattle.cli_image.specs.Stat.{EndsStat};
 ghost use Rattle.sdls_run.specs.Called.{AreLife, MayLeave, PastCall};
 
 use law_audit::recorded_life_is_clean;

@@ -15,7 +15,7 @@ mod laws;
 mod top;
 
 // The laws on what `run` promises: of two units on one link, of lives, of what a status says, and of one lane alone.
-pub use check_run::{Refusal, check_frame};
+pub use cli_check::{Refusal, check_frame};
 pub use law_links::{
     accepted_in_order, no_triple_twice, one_device_in_a_life, two_units_by_covered_octets,
     two_units_on_one_link,
@@ -29,6 +29,6 @@ pub use law_runs::{
 };
 pub use laws::{audit_passes_a_life, calls_are_a_life};
 pub use record_io::{Outcome, status};
-pub use sdls_plain::{InitEnd, run_plain};
+pub use cli_image::{InitEnd, run_plain};
 pub use top::run;
-pub use unit_session::{Gate, OpenGate};
+pub use cli_run::{Gate, OpenGate};

@@ -11,12 +11,12 @@ use crate::laws::{sinking_keeps_lives, stat_keeps_lives};
 use command_words::{Command, command_of};
 use record_io::Outcome;
 use sdls_outside::{Site, Source};
-use sdls_plain::run_plain;
+use cli_image::run_plain;
 use std::alloc::Global;
 use std::sync::Wait;
 use std::thread::Threads;
 use unit_drill::{drill, drill_link};
-use unit_session::{Gate, run_recorded};
+use cli_run::{Gate, run_recorded};
 
 /// Serves the words after the program's name, and answers the status, the site and the run's entries.
 ///

@@ -13,7 +13,7 @@ ghost use Rattle.shared_unit.specs.Sharing.{KnowsHeld};
 ghost use Rattle.shared_unit.specs.Told.{known_of_book};
 ghost use Rattle.shared_unit.specs.Turn.{FindsCovered, IsReady, Visits};
 
-use crate::shelf::Shelf;
+use crate::shared_book::SharedBook;
 use crate::unit::{Unit, Worker};
 use counter_table::{Counted, Held};
 use ep_core::{Need, Reply};
@@ -27,7 +27,7 @@ impl<O: Site> Unit<O> {
     fn draw_and_reserve(
         &self,
         worker: &mut Worker<O>,
-        held: &mut Held<Shelf<O>>,
+        held: &mut Held<SharedBook<O>>,
         key: KeyId,
     ) -> Result<Seen, BookFault>
         requires own { IsOf self.now.counters worker.old }
@@ -56,7 +56,7 @@ impl<O: Site> Unit<O> {
     fn meet_need(
         &self,
         worker: &mut Worker<O>,
-        held: &mut Held<Shelf<O>>,
+        held: &mut Held<SharedBook<O>>,
         need: Need,
     ) -> Result<Seen, BookFault>
         requires own { IsOf self.now.counters worker.old }
@@ -86,7 +86,7 @@ impl<O: Site> Unit<O> {
     }
 
     // Turns the epoch where the count of changes went on.
-    fn turn_epoch_if_changed(&self, worker: &mut Worker<O>, held: &Held<Shelf<O>>, before: u64)
+    fn turn_epoch_if_changed(&self, worker: &mut Worker<O>, held: &Held<SharedBook<O>>, before: u64)
         requires own { IsOf self.now.counters worker.old }
         requires turn { (view worker.old).turn.holds ≡ true }
         requires filled { (view worker.old).turn.filled ≡ true }
@@ -104,7 +104,7 @@ impl<O: Site> Unit<O> {
     fn do_command(
         &self,
         worker: &mut Worker<O>,
-        held: &mut Held<Shelf<O>>,
+        held: &mut Held<SharedBook<O>>,
         index: u64,
         pdu: &[u8],
     ) -> Result<(Reply, u64), BookFault>

@@ -15,7 +15,7 @@ ghost use Rattle.shared_unit.specs.Told.{known_of_book};
 ghost use Rattle.shared_unit.specs.Turn.{FindsCovered, IsReady};
 
 use crate::permit::{Done, Permit};
-use crate::shelf::Shelf;
+use crate::shared_book::SharedBook;
 use crate::unit::{Unit, Worker};
 use counter_table::{Funded, Held, Ticket};
 use frame_shield::shield;
@@ -29,7 +29,7 @@ impl<O: Site> Unit<O> {
     pub(crate) fn reserve_and_spend(
         &self,
         worker: &mut Worker<O>,
-        held: &mut Held<Shelf<O>>,
+        held: &mut Held<SharedBook<O>>,
         key: KeyId,
         row: u16,
         ticket: Ticket,

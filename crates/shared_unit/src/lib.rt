@@ -22,12 +22,12 @@ mod permitting;
 mod protecting;
 mod ready;
 mod sharing;
-mod shelf;
+mod shared_book;
 mod under_turn;
 mod unit;
 
 pub use opening_frames::open_permits_stay;
 pub use permit::{Done, OpenPermit, Permit, PermitReply, Protected, Ready};
 pub use permitting::permits_stay;
-pub use shelf::Shelf;
+pub use shared_book::SharedBook;
 pub use unit::{Unit, Worker};

@@ -15,7 +15,7 @@ ghost use Rattle.shared_unit.specs.Told.{known_of_book};
 ghost use Rattle.shared_unit.specs.Turn.{FindsCovered, IsReady, KnowsMoreOfBook, Visits};
 
 use crate::permit::OpenPermit;
-use crate::shelf::Shelf;
+use crate::shared_book::SharedBook;
 use crate::unit::{Unit, Worker};
 use counter_table::Counted;
 use frame_checks::{OpenReply, Opener, try_frame};
@@ -32,34 +32,34 @@ pub fn open_permits_stay()
 
 /// Opens a frame that came as these octets in the held book, under what opens such frames.
 fn open_under<O: Site>(
-    shelf: &mut Shelf<O>,
+    shared: &mut SharedBook<O>,
     opener: &Opener,
     index: u64,
     link: u8,
     octets: &[u8],
     frame: &mut [u8],
 ) -> Result<(OpenReply, u64), BookFault>
-    requires opener { IsOpener shelf.old.plan shelf.old.state opener.now }
+    requires opener { IsOpener shared.old.plan shared.old.state opener.now }
     requires octets { frame.old ≡ octets.now }
-    ensures is_kept { IsKept O.told shelf.new }
+    ensures is_kept { IsKept O.told shared.new }
     ensures made { MatchResult result
-        (λ answer. OpensWithEntry index link octets.now (field_in answer.0 frame.new) shelf.old shelf.new
+        (λ answer. OpensWithEntry index link octets.now (field_in answer.0 frame.new) shared.old shared.new
         answer.0 answer.1
         × LeavesOctets answer.0 octets.now frame.new)
-        (RefusesFrame index link octets.now shelf.old shelf.new) }
-    ensures goes_on { GoesUp shelf.old shelf.new }
-    ensures changes { shelf.new.changes ≡ shelf.old.changes }
+        (RefusesFrame index link octets.now shared.old shared.new) }
+    ensures goes_on { GoesUp shared.old shared.new }
+    ensures changes { shared.new.changes ≡ shared.old.changes }
 {
-    match shelf.try_frame(opener, link, frame) {
-        Some(opened) => shelf.accept_tried(index, opener, link, octets, frame, opened),
-        None => shelf.accept(index, link, frame),
+    match shared.try_frame(opener, link, frame) {
+        Some(opened) => shared.accept_tried(index, opener, link, octets, frame, opened),
+        None => shared.accept(index, link, frame),
     }
 }
 
 /// Opens a frame that came as these octets in the held book, and keeps what opens such frames. A frame that was tried
 /// is judged by its number, where the book is still in the permit's epoch.
 fn open_in<O: Site>(
-    shelf: &mut Shelf<O>,
+    shared: &mut SharedBook<O>,
     kept: &mut Option<OpenPermit>,
     tried: Option<Opened>,
     index: u64,
@@ -67,33 +67,33 @@ fn open_in<O: Site>(
     octets: &[u8],
     frame: &mut [u8],
 ) -> Result<(OpenReply, u64), BookFault>
-    requires kept { OpensInBook kept.old shelf.old }
-    requires tried { IsTriedUnder shelf.old.plan kept.old link octets.now frame.old tried }
+    requires kept { OpensInBook kept.old shared.old }
+    requires tried { IsTriedUnder shared.old.plan kept.old link octets.now frame.old tried }
     requires long { length octets.now ≡ length frame.old }
-    ensures was_kept { IsKept O.told shelf.old }
-    ensures is_kept { IsKept O.told shelf.new }
+    ensures was_kept { IsKept O.told shared.old }
+    ensures is_kept { IsKept O.told shared.new }
     ensures made { MatchResult result
-        (λ answer. OpensWithEntry index link octets.now (field_in answer.0 frame.new) shelf.old shelf.new
+        (λ answer. OpensWithEntry index link octets.now (field_in answer.0 frame.new) shared.old shared.new
         answer.0 answer.1
         × LeavesOctets answer.0 octets.now frame.new)
-        (RefusesFrame index link octets.now shelf.old shelf.new) }
-    ensures goes_on { GoesUp shelf.old shelf.new }
-    ensures changes { shelf.new.changes ≡ shelf.old.changes }
-    ensures renewed { IsNewOrKept kept.old kept.new shelf.old }
+        (RefusesFrame index link octets.now shared.old shared.new) }
+    ensures goes_on { GoesUp shared.old shared.new }
+    ensures changes { shared.new.changes ≡ shared.old.changes }
+    ensures renewed { IsNewOrKept kept.old kept.new shared.old }
 {
-    let epoch = shelf.changes();
+    let epoch = shared.changes();
     if let Some(opened) = tried {
         if let Some(permit) = &*kept {
             if permit.epoch == epoch {
-                return shelf.accept_tried(index, &permit.opener, link, octets, frame, opened);
+                return shared.accept_tried(index, &permit.opener, link, octets, frame, opened);
             }
         }
         frame.copy_from_slice(octets);
     }
-    let Some(opener) = shelf.opener(link, frame) else {
-        return shelf.accept(index, link, frame);
+    let Some(opener) = shared.opener(link, frame) else {
+        return shared.accept(index, link, frame);
     };
-    let result = open_under(shelf, &opener, index, link, octets, frame);
+    let result = open_under(shared, &opener, index, link, octets, frame);
     *kept = Some(OpenPermit { opener, epoch });
     result
 }

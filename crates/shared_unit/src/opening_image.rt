@@ -10,7 +10,7 @@ ghost use Rattle.unit_book.specs.Book.{BookView, IsKept};
 ghost use Rattle.shared_unit.specs.Sharing.{Begins, BookIsOpened, IsRaised};
 ghost use Rattle.shared_unit.specs.Told.{known_of_book};
 
-use crate::shelf::Shelf;
+use crate::shared_book::SharedBook;
 use crate::unit::{Unit, Worker};
 use counter_table::{Counted, Counters, Held};
 use sdls_base::{MOST_KEYS, NoMemory};
@@ -33,7 +33,7 @@ fn site_of<O: Site>(book: Book<O>) -> O
 
 impl<O: Site> Unit<O> {
     // Raises each word `next` to its row's mark, and lifts each limit there.
-    fn raise_all(&self, worker: &mut Worker<O>, held: &Held<Shelf<O>>)
+    fn raise_all(&self, worker: &mut Worker<O>, held: &Held<SharedBook<O>>)
         requires own { IsOf self.now.counters worker.old }
         requires turn { (view worker.old).turn.holds ≡ true }
         requires filled { (view worker.old).turn.filled ≡ true }
@@ -63,15 +63,15 @@ impl<O: Site> Unit<O> {
             Ok(plan) => plan,
             Err(NoMemory) => return Err(site_of(book)),
         };
-        let shelf = match Shelf::new(alloc, book) {
-            Ok(shelf) => shelf,
+        let shared = match SharedBook::new(alloc, book) {
+            Ok(shared) => shared,
             Err(book) => return Err(site_of(book)),
         };
         let (counters, mut worker) = match Counters::new(alloc, ROWS) {
             Ok(made) => made,
-            Err(NoMemory) => return Err(site_of(shelf.into_book())),
+            Err(NoMemory) => return Err(site_of(shared.into_book())),
         };
-        counters.fill(&mut worker, shelf);
+        counters.fill(&mut worker, shared);
         let unit = Unit { counters, plan };
         let held = unit.counters.take(rt, &mut worker);
         held.book.look();

@@ -8,7 +8,7 @@ ghost use Rattle.shared_unit.specs.Permit.{IfPermit, IsOfPermit, IsTrueFor, Perm
 ghost use Rattle.shared_unit.specs.Turn.{KnowsMoreOfBook, IsReady, Visits};
 
 use crate::permit::{Permit, PermitReply};
-use crate::shelf::Shelf;
+use crate::shared_book::SharedBook;
 use crate::unit::{Unit, Worker};
 use counter_table::Counted;
 use frame_checks::ChannelBinding;
@@ -21,17 +21,17 @@ pub fn permits_stay()
 {}
 
 /// What the held book permits for a frame.
-pub(crate) fn permit_in<O: Site>(shelf: &Shelf<O>, link: u8, clear: &[u8]) -> PermitReply
-    ensures kept { IsKept O.told shelf.now }
-    ensures permits { Permits link clear.now result shelf.now }
+pub(crate) fn permit_in<O: Site>(shared: &SharedBook<O>, link: u8, clear: &[u8]) -> PermitReply
+    ensures kept { IsKept O.told shared.now }
+    ensures permits { Permits link clear.now result shared.now }
 {
-    let epoch = shelf.changes();
-    match shelf.binding(link, clear) {
+    let epoch = shared.changes();
+    match shared.binding(link, clear) {
         Err(fault) => PermitReply::Refused(fault, epoch),
         Ok(None) => PermitReply::Clear,
         Ok(Some(found)) => {
             let ChannelBinding { channel, binding } = found;
-            let row = shelf.row_in(binding.key);
+            let row = shared.row_in(binding.key);
             PermitReply::Permit(Permit {
                 binding,
                 row,

@@ -69,7 +69,7 @@ impl<O: Site> Unit<O> {
             result.1.items }
     {
         let counters = self.into_counters();
-        let (shelf, nexts) = counters.close(worker);
-        (shelf.into_book(), nexts)
+        let (shared, nexts) = counters.close(worker);
+        (shared.into_book(), nexts)
     }
 }

@@ -14,7 +14,7 @@ ghost use Rattle.shared_unit.specs.Protecting.{LeavesUnprotected};
 ghost use Rattle.shared_unit.specs.Told.{known_of_book};
 
 use crate::permit::{Done, Permit, Protected};
-use crate::shelf::Shelf;
+use crate::shared_book::SharedBook;
 use crate::unit::{Unit, Worker};
 use counter_table::Held;
 use frame_shield::{fits, shield};
@@ -25,7 +25,7 @@ impl<O: Site> Unit<O> {
     pub(crate) fn protect_under_turn(
         &self,
         worker: &mut Worker<O>,
-        held: &mut Held<Shelf<O>>,
+        held: &mut Held<SharedBook<O>>,
         permit: &Permit,
         clear: &[u8],
         out: &mut [u8],

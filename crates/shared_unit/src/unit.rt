@@ -2,7 +2,7 @@ ghost use Rattle.std.specs.Prelude.{◌≡◌};
 ghost use Rattle.sdls_base.specs.declared.TheConstants.{MOST_KEYS};
 ghost use Rattle.frame_checks.specs.ProtectingFrames.{channel_check};
 
-use crate::shelf::Shelf;
+use crate::shared_book::SharedBook;
 use counter_table::Counters;
 use frame_shield::ShieldFault;
 use sdls_base::ChannelId;
@@ -11,7 +11,7 @@ use unit_plan::Plan;
 
 /// A book that workers share, with the words of its keys, and what the plan says of links and channels beside them.
 pub struct Unit<O: Site> {
-    pub(crate) counters: Counters<Shelf<O>>,
+    pub(crate) counters: Counters<SharedBook<O>>,
     pub(crate) plan: Plan,
     ghost rows: { counters.rows ≡ MOST_KEYS },
 }
@@ -26,10 +26,10 @@ impl<O: Site + Drop> Drop for Unit<O> {
 }
 
 /// One who makes calls on a unit. It has no octets.
-pub type Worker<O> = counter_table::Worker<Shelf<O>>;
+pub type Worker<O> = counter_table::Worker<SharedBook<O>>;
 
 impl<O: Site> Unit<O> {
-    pub(crate) fn into_counters(self) -> Counters<Shelf<O>>
+    pub(crate) fn into_counters(self) -> Counters<SharedBook<O>>
         ensures { result ≡ self.counters }
     {
         let Unit { counters, plan: _ } = self;

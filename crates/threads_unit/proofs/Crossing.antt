@@ -18,7 +18,7 @@ use Rattle.sdls_outside.proofs.held.Held.TheSendSync as held
 use Rattle.sdls_outside.proofs.calls.Calls.TheSendSync as calls
 use Rattle.counter_table.specs.contracts.counters.Worker as TheWorker
 use Rattle.counter_table.proofs.counters.Worker.TheSendSync as worker
-use Rattle.shared_unit.specs.contracts.shelf.Shelf as Shelf
+use Rattle.shared_unit.specs.contracts.shared_book.SharedBook as SharedBook
 use Rattle.shared_unit.specs.contracts.unit.Unit as TheUnit
 use Rattle.frame_workers.proofs.Crossing as crossing
 
@@ -42,9 +42,9 @@ site_send = declared_send MemSite.the_type (history_send, (calls.the_send, (put_
 pub unit_sync : IsSync (TheUnit.the_row MemSite.the_row site.ghosts)
 unit_sync = crossing.unit_sync MemSite.the_row site.ghosts site_send
 
-pub worker_send : IsSend (TheWorker.the_row (Shelf.the_row MemSite.the_row site.ghosts))
-worker_send = worker.the_send (Shelf.the_row MemSite.the_row site.ghosts)
-    (crossing.shelf_send MemSite.the_row site.ghosts site_send)
+pub worker_send : IsSend (TheWorker.the_row (SharedBook.the_row MemSite.the_row site.ghosts))
+worker_send = worker.the_send (SharedBook.the_row MemSite.the_row site.ghosts)
+    (crossing.shared_book_send MemSite.the_row site.ghosts site_send)
 
 -- what a closure takes with it may go to another thread
 pub three_send : (ν : Sym) (A B C : RattleType) → IsSend A → IsSend B → IsSend C → IsSend (TupleAt ν (A ∷ B ∷ C ∷ []))

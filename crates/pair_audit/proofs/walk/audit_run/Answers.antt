@@ -1,6 +1,6 @@
 use Rattle.std.proofs.Common.{ℕ, ◌+◌, ◌-◌, ◌<◌, ◌≤◌, List, [], ◌∷◌, ◌++◌, refl, ◌∙◌, inr, arith, rules, length-append}
 use Rattle.pair_audit.specs.Walk.{StepSaid}
-use Rattle.pair_audit.specs.declared.walk.RunEnd.TheVariants as ends
+use Rattle.pair_audit.specs.declared.walk.RunFound.TheVariants as ends
 use Rattle.pair_audit.specs.declared.walk.Step.TheVariants as steps
 use Rattle.pair_audit.proofs.Seen.{ok_more}
 use Rattle.pair_audit.proofs.Takings.{taking_none, taking_then}

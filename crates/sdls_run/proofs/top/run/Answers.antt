@@ -4,7 +4,7 @@ use Rattle.record_io.specs.Reading.{source_seen}
 use Rattle.run_promise.specs.Call.{CallSeen, call_seen, site_seen}
 use Rattle.command_words.specs.Words.{command_of}
 use Rattle.command_words.proofs.Sinking.{ends_only_sinks}
-use Rattle.sdls_plain.specs.Unserved.{IsUnserved}
+use Rattle.cli_image.specs.Unserved.{IsUnserved}
 use Rattle.sdls_run.proofs.Reading.{by_stat, init_is_not_stat}
 use Rattle.sdls_run.proofs.top.run.Goals as goal
 

@@ -14,8 +14,8 @@ on found = Ok found
 
 pub row_in-row-requires : goal.row_in-row-requires
 row_in-row-requires g c =
-    let plan = c.args.shelf.now.plan in
-    let state = c.args.shelf.now.state in
+    let plan = c.args.shared.now.plan in
+    let state = c.args.shared.now.state in
     let found : ChannelBinding = c.in-Ok-Some.found in
     let is : c.binding.result ≡ on (Some found) = c.in-Ok-Some.is ∙ ap on c.in-Ok-Some.field-0-is in
     let bound : protect_check plan state c.args.link c.args.clear.now ≡ Ok (Some found.binding) =
@@ -29,6 +29,6 @@ row_in-row-requires g c =
 pub returns-in-Ok-None-clause-permits : goal.returns-in-Ok-None-clause-permits
 returns-in-Ok-None-clause-permits g c =
     let none : c.binding.result ≡ on None = c.in-Ok-None.is ∙ ap on c.in-Ok-None.field-0-is in (
-      clear_channel c.args.shelf.now.plan c.args.link c.args.clear.now (c.binding.ensures.clear.0 none),
+      clear_channel c.args.shared.now.plan c.args.link c.args.clear.now (c.binding.ensures.clear.0 none),
       sym c.binding.ensures.checked ∙ ap without_channel none,
     )

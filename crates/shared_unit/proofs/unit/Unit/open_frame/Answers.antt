@@ -13,7 +13,7 @@ use Rattle.shared_unit.proofs.unit.Unit.open_frame.Goals as goal
 pub give-requires-clause-book : goal.give-requires-clause-book
 give-requires-clause-book g c =
     let found : BookView = c.take-held.result.book in
-    let given : BookView = c.open_in-result.new.shelf in
+    let given : BookView = c.open_in-result.new.shared in
     may_give _ found given (ap (λ (t : Turn). t.known) c.take-held.ensures.turn) c.open_in-result.ensures.goes_on
     c.open_in-result.ensures.changes
 
@@ -25,7 +25,7 @@ open_in-result-requires-clause-kept g c =
 pub returns-in-Ok-clause-opened : goal.returns-in-Ok-clause-opened
 returns-in-Ok-clause-opened g c =
     let found : BookView = c.take-held.result.book in
-    let given : BookView = c.open_in-result.new.shelf in
+    let given : BookView = c.open_in-result.new.shared in
     let answer = c.in-Ok.answer in
     let frame = c.open_in-result.new.frame in (
       found,
@@ -42,7 +42,7 @@ returns-in-Ok-clause-opened g c =
 pub returns-in-Ok-clause-ready : goal.returns-in-Ok-clause-ready
 returns-in-Ok-clause-ready g c =
     let found : BookView = c.take-held.result.book in
-    let given : BookView = c.open_in-result.new.shelf in
+    let given : BookView = c.open_in-result.new.shared in
     ready_after g.O.Site.told _ _ c.args.worker.now c.give.new.worker found given c.requires.ready
     (same_twice c.args.worker.now c.take-held.new.worker c.give.new.worker c.take-held.ensures.same.0
     c.give.ensures.same.0)
@@ -54,7 +54,7 @@ returns-in-Ok-clause-ready g c =
 pub returns-in-Ok-clause-kept : goal.returns-in-Ok-clause-kept
 returns-in-Ok-clause-kept g c =
     let found : BookView = c.take-held.result.book in
-    let given : BookView = c.open_in-result.new.shelf in
+    let given : BookView = c.open_in-result.new.shared in
     true_after g.O.Site.told _ _ found (known_of_book given) (view c.args.worker.now).turn (view c.give.new.worker).turn
     c.open_in-result.ensures.renewed
     c.open_in-result.ensures.was_kept
@@ -67,7 +67,7 @@ returns-in-Ok-clause-kept g c =
 pub returns-in-Err-clause-opened : goal.returns-in-Err-clause-opened
 returns-in-Err-clause-opened g c =
     let found : BookView = c.take-held.result.book in
-    let given : BookView = c.open_in-result.new.shelf in (
+    let given : BookView = c.open_in-result.new.shared in (
       found,
       given,
       visits g.O.Site.told found given (view c.args.worker.now).turn (view c.take-held.new.worker).turn
@@ -84,7 +84,7 @@ returns-in-Err-clause-opened g c =
 pub returns-in-Err-clause-ready : goal.returns-in-Err-clause-ready
 returns-in-Err-clause-ready g c =
     let found : BookView = c.take-held.result.book in
-    let given : BookView = c.open_in-result.new.shelf in
+    let given : BookView = c.open_in-result.new.shared in
     ready_after g.O.Site.told _ _ c.args.worker.now c.give.new.worker found given c.requires.ready
     (same_twice c.args.worker.now c.take-held.new.worker c.give.new.worker c.take-held.ensures.same.0
     c.give.ensures.same.0)
@@ -96,7 +96,7 @@ returns-in-Err-clause-ready g c =
 pub returns-in-Err-clause-kept : goal.returns-in-Err-clause-kept
 returns-in-Err-clause-kept g c =
     let found : BookView = c.take-held.result.book in
-    let given : BookView = c.open_in-result.new.shelf in
+    let given : BookView = c.open_in-result.new.shared in
     true_after g.O.Site.told _ _ found (known_of_book given) (view c.args.worker.now).turn (view c.give.new.worker).turn
     c.open_in-result.ensures.renewed
     c.open_in-result.ensures.was_kept
@@ -109,7 +109,7 @@ returns-in-Err-clause-kept g c =
 pub returns-in-Ok-clause-covered : goal.returns-in-Ok-clause-covered
 returns-in-Ok-clause-covered g c =
     let found : BookView = c.take-held.result.book in
-    let given : BookView = c.open_in-result.new.shelf in
+    let given : BookView = c.open_in-result.new.shared in
     record {
       found = found;
       given = given;
@@ -123,7 +123,7 @@ returns-in-Ok-clause-covered g c =
 pub returns-in-Err-clause-covered : goal.returns-in-Err-clause-covered
 returns-in-Err-clause-covered g c =
     let found : BookView = c.take-held.result.book in
-    let given : BookView = c.open_in-result.new.shelf in
+    let given : BookView = c.open_in-result.new.shared in
     record {
       found = found;
       given = given;

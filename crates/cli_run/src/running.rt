@@ -1,0 +1,160 @@
+// The word `run`: a recorded input is served, with the unit of an image.
+ghost use Rattle.std.specs.Prelude.{◌≡◌, ◌≤◌, IsTrue, [], MatchResult};
+ghost use Rattle.sdls_outside.specs.Disk.{Leaves};
+ghost use Rattle.counter_table.specs.Worker.{view};
+ghost use Rattle.record_io.specs.Reading.{SourceSeen, source_seen};
+ghost use Rattle.run_promise.specs.Call.{call_seen, site_seen};
+ghost use Rattle.run_promise.specs.Life.{EndsAndLives};
+ghost use Rattle.run_promise.specs.Account.{end_status};
+ghost use Rattle.law_runs.specs.Refused.{refused_end};
+ghost use Rattle.cli_run.specs.Putting.{IsAlone, OfRun};
+ghost use Rattle.cli_run.specs.Running.{PutsRefusal, RunsUnit};
+ghost use Rattle.cli_run.specs.Serving.{Comes};
+
+use crate::ending::{answer_of, finish, told_end};
+use crate::session::Session;
+use frame_workers::Gate;
+use fsr_log::Log;
+use law_image::shown_keeps_rules;
+use law_runs::{refused_run_ends, run_ends_well};
+use record_io::status::SITE_FAULT;
+use record_io::{Outcome, answer_header};
+use run_promise::RunEnd;
+use sdls_outside::{Failed, Site, Source};
+use shared_unit::{Unit, Worker};
+use std::alloc::Global;
+use std::sync::Wait;
+use std::thread::Threads;
+use unit_book::states_have_bounds;
+use unit_image::OpenFault;
+
+/// Why a run ends whose book was not opened.
+fn refused_end(fault: OpenFault) -> RunEnd
+    ensures { result ≡ refused_end fault }
+{
+    match fault {
+        OpenFault::SiteFault(count) => RunEnd::SiteFault(count),
+        OpenFault::Image(offset) => RunEnd::NoState(offset),
+        OpenFault::NoMemory => RunEnd::NoMemory,
+    }
+}
+
+/// The status of a run for which this End was put, or a front of it.
+fn status_of(put: Result<(), Failed>, told: RunEnd) -> u8
+    ensures { MatchResult put (λ _. result ≡ end_status told) (λ _. result ≡ SITE_FAULT) }
+{
+    match put {
+        Ok(()) => told.status(),
+        Err(Failed) => SITE_FAULT,
+    }
+}
+
+/// Puts End where the book was not opened. `before` is the site's count of faults before the run.
+fn refuse<O: Site>(alloc: Global, before: u64, fault: OpenFault, mut site: O) -> Outcome<O>
+    requires later { before ≤ O.faults site }
+    ensures puts { PutsRefusal O.told before fault (site_seen O.trace O.faults O.put_faults site)
+        (site_seen O.trace O.faults O.put_faults result.site) result.status }
+    ensures entries { result.entries.items ≡ [] }
+{
+    let now = site.faults();
+    let told = told_end(before, now, now, refused_end(fault), Ok(()));
+    let answer = answer_of(alloc, told, 0);
+    let put = site.put(&answer_header(&answer));
+    Outcome {
+        status: status_of(put, told),
+        site,
+        entries: Vec::new(alloc),
+    }
+}
+
+/// For contracts alone. Law: the image as it reads is one that a crash may leave. Here a function that starts threads
+/// can cite it.
+fn image_stays<O: Site>()
+    ensures { (site : O) → IsTrue O.told → Leaves (O.trace site).now (O.trace site).now.image }
+{}
+
+/// Serves the input of a source with a unit that was opened, and hands the unit back with what came. Where memory is
+/// wanting for the log, nothing is read.
+fn serve_with_log<R: Threads + Wait + Sync, S: Source, O: Site + Send, G: Gate + Sync>(
+    rt: &R,
+    alloc: Global,
+    source: &mut S,
+    gate: &G,
+    unit: Unit<O>,
+    worker: Worker<O>,
+) -> (Unit<O>, Worker<O>, RunEnd)
+    requires alone { IsAlone unit.counters unit.plan worker }
+    requires no_log { (view worker).turn.known.log ≡ [] }
+    requires none_made { (view worker).turn.made ≡ [] }
+    ensures alone { IsAlone result.0.counters result.0.plan result.1 }
+    ensures opening { (view result.1).turn.known.opening ≡ (view worker).turn.known.opening }
+    ensures comes { let seen : SourceSeen = source_seen S.told S.left S.faults source.old
+        in
+        let after : SourceSeen = source_seen S.told S.left S.faults source.new in
+        OfRun O.told (view worker) (λ begin. Comes seen after begin (view worker) (view result.1) result.2) }
+{
+    let Ok(log) = Log::new(alloc) else {
+        return (unit, worker, RunEnd::NoMemory);
+    };
+    let mut session = Session::new(alloc, unit, worker, log);
+    let came = session.serve_input(rt, alloc, source, gate);
+    let Session {
+        unit,
+        worker,
+        log: _,
+        piece: _,
+        spare: _,
+    } = session;
+    (unit, worker, came)
+}
+
+/// Serves the input of a source with a unit that was opened, closes the unit, and ends the run. `before` is the site's
+/// count of faults before the run.
+fn serve_unit<R: Threads + Wait + Sync, S: Source, O: Site + Send, G: Gate + Sync>(
+    rt: &R,
+    alloc: Global,
+    source: &mut S,
+    gate: &G,
+    unit: Unit<O>,
+    worker: Worker<O>,
+    before: u64,
+) -> Outcome<O>
+    requires alone { IsAlone unit.counters unit.plan worker }
+    requires no_log { (view worker).turn.known.log ≡ [] }
+    requires none_made { (view worker).turn.made ≡ [] }
+    requires before { before ≤ (view worker).turn.known.opening.faults }
+    ensures { let seen : SourceSeen = source_seen S.told S.left S.faults source.old
+        in
+        let after : SourceSeen = source_seen S.told S.left S.faults source.new in
+        RunsUnit O.told before seen after (view worker) (site_seen O.trace O.faults O.put_faults result.site)
+        result.entries.items result.status }
+{
+    let (unit, worker, came) = serve_with_log(rt, alloc, source, gate, unit, worker);
+    let (book, words) = unit.close(worker);
+    states_have_bounds();
+    finish(alloc, book, &words, before, came)
+}
+
+/// Serves the recorded input of a source with the unit of the site's image: its records in segments, the lanes of a
+/// segment at once, the answers in input order, and End behind them.
+pub fn run_recorded<R: Threads + Wait + Sync, S: Source, O: Site + Send, G: Gate + Sync>(
+    rt: &R,
+    alloc: Global,
+    source: &mut S,
+    site: O,
+    gate: &G,
+) -> Outcome<O>
+    ensures { EndsAndLives (call_seen (source_seen S.told S.left S.faults)
+        (site_seen O.trace O.faults O.put_faults) O.told source.old source.new site result.site result.status
+        result.entries.items) }
+{
+    let before = site.faults();
+    image_stays::<O>();
+    shown_keeps_rules();
+    run_ends_well();
+    refused_run_ends();
+    match Unit::open(rt, alloc, site) {
+        Ok((unit, worker)) => serve_unit(rt, alloc, source, gate, unit, worker, before),
+        Err((fault, site)) => refuse(alloc, before, fault, site),
+    }
+}

@@ -1,0 +1,213 @@
+// Segments that are served, one after the other, to the end of the input.
+ghost use Rattle.std.specs.Prelude.{◌≡◌, ◌≢◌, ◌<◌, ℕ, List, [], ◌∷◌, IfNone};
+ghost use Rattle.std.specs.List.{All};
+ghost use Rattle.record_io.specs.declared.kinds.TheConstants.{LANES};
+ghost use Rattle.record_io.specs.declared.records.Record.{Record};
+ghost use Rattle.record_io.specs.Input.{Item};
+ghost use Rattle.record_io.specs.Reading.{first_standing, IsReading, SourceSeen, source_seen};
+ghost use Rattle.counter_table.specs.Worker.{view};
+ghost use Rattle.counter_table.specs.declared.view.View.{View};
+ghost use Rattle.run_promise.specs.Call.{Begin};
+ghost use Rattle.law_workers.specs.Deeds.{Ascend};
+ghost use Rattle.law_workers.specs.Began.{BeganWith};
+ghost use Rattle.cli_run.specs.Putting.{IsAlone, OfRun};
+ghost use Rattle.fsr_log.specs.Report.{report_of};
+ghost use Rattle.cli_run.specs.Serving.{came_after, Comes, end_of_stop, EndsAs, Goes, Leads, served_as};
+ghost use Rattle.cli_run.specs.Serving.{ServesSegment};
+
+use crate::putting::count_alone;
+use crate::reporting::{log_answer, note_all};
+use crate::session::Session;
+use frame_workers::{Gate, run_segment};
+use law_workers::looking_reports;
+use record_io::{Reader, Record, RecordKind, SegmentEnd, answers_have_widths};
+use run_promise::RunEnd;
+use sdls_base::NoMemory;
+use sdls_outside::{Site, Source};
+use std::alloc::Global;
+use std::sync::Wait;
+use std::thread::Threads;
+use unit_book::BookFault;
+
+/// Why no more records are served.
+#[derive(Clone, Copy, Debug, PartialEq, Eq)]
+pub enum Stop {
+    /// Memory ran out.
+    NoMemory,
+    /// The history is full.
+    Full,
+    /// A put failed.
+    PutFailed,
+}
+
+fn end_of(stop: Stop) -> RunEnd
+    ensures { result ≡ end_of_stop stop }
+{
+    match stop {
+        Stop::NoMemory => RunEnd::NoMemory,
+        Stop::Full => RunEnd::SessionFull,
+        Stop::PutFailed => RunEnd::PutFailed,
+    }
+}
+
+/// Whether more records are served, behind answers that were put, or a front of them.
+fn stop_after(put: Result<(), BookFault>, full: bool) -> Result<(), Stop>
+    ensures { result ≡ served_as put full }
+{
+    match put {
+        Ok(()) if full => Err(Stop::Full),
+        Ok(()) => Ok(()),
+        Err(_) => Err(Stop::PutFailed),
+    }
+}
+
+/// What served records say of the run: nothing, where the input may go on.
+fn came_after(served: Result<(), Stop>) -> Option<RunEnd>
+    ensures { result ≡ came_after served }
+{
+    match served {
+        Err(stop) => Some(end_of(stop)),
+        Ok(()) => None,
+    }
+}
+
+impl<O: Site + Send> Session<O> {
+    /// Answers a monitoring message by the log, notes the answer and puts it.
+    fn report<R: Wait>(&mut self, rt: &R, alloc: Global, task: &Record) -> Result<(), Stop>
+        requires alone { IsAlone self.old.unit.counters self.old.unit.plan self.old.worker }
+        requires kind { task.now.kind ≡ RecordKind.Monitor }
+        ensures alone { IsAlone self.new.unit.counters self.new.unit.plan self.new.worker }
+        ensures opening { (view self.new.worker).turn.known.opening ≡ (view self.old.worker).turn.known.opening }
+        ensures serves { OfRun O.told (view self.old.worker) (λ begin. ServesSegment begin (task.now ∷ []) result
+            (view self.old.worker) (view self.new.worker) self.old.log self.new.log) }
+    {
+        let entries = count_alone(rt, &self.unit, &mut self.worker);
+        let answer = log_answer(alloc, &self.log, task.octets.as_slice(), entries);
+        self.log.note(task.index, task.kind, &answer);
+        let answers = [answer];
+        answers_have_widths(&answers);
+        let put = self.put_answers(rt, &answers);
+        looking_reports();
+        stop_after(put, false)
+    }
+
+    /// What the end of a segment that was served says of the run. A Monitor record that ended it is answered.
+    fn end_segment<R: Wait>(&mut self, rt: &R, alloc: Global, end: SegmentEnd) -> Option<RunEnd>
+        requires alone { IsAlone self.old.unit.counters self.old.unit.plan self.old.worker }
+        requires kind { (task : Record) → end ≡ SegmentEnd.Monitor task → task.kind ≡ RecordKind.Monitor }
+        ensures alone { IsAlone self.new.unit.counters self.new.unit.plan self.new.worker }
+        ensures opening { (view self.new.worker).turn.known.opening ≡ (view self.old.worker).turn.known.opening }
+        ensures ends { OfRun O.told (view self.old.worker) (λ begin. EndsAs begin end result (view self.old.worker)
+            (view self.new.worker) self.old.log self.new.log) }
+    {
+        match end {
+            SegmentEnd::More => None,
+            SegmentEnd::Monitor(task) => came_after(self.report(rt, alloc, &task)),
+            SegmentEnd::End => Some(RunEnd::Ended),
+            SegmentEnd::Malformed(offset) => Some(RunEnd::Malformed(offset)),
+            SegmentEnd::SourceFault(count) => Some(RunEnd::SourceFault(count)),
+        }
+    }
+
+    /// Handles the records of a segment, and notes and puts their answers in input order.
+    fn serve<R: Threads + Wait + Sync, G: Gate + Sync>(
+        &mut self,
+        rt: &R,
+        alloc: Global,
+        records: &[Record],
+        gate: &G,
+    ) -> Result<(), Stop>
+        requires alone { IsAlone self.old.unit.counters self.old.unit.plan self.old.worker }
+        requires lanes { All (λ (task : Record). task.lane < LANES) records.now }
+        requires plain { All (λ (task : Record). task.kind ≢ RecordKind.Monitor) records.now }
+        requires ascend { Ascend records.now }
+        ensures alone { IsAlone self.new.unit.counters self.new.unit.plan self.new.worker }
+        ensures opening { (view self.new.worker).turn.known.opening ≡ (view self.old.worker).turn.known.opening }
+        ensures serves { OfRun O.told (view self.old.worker)
+            (λ begin. ServesSegment begin records.now result (view self.old.worker) (view self.new.worker)
+            self.old.log self.new.log) }
+    {
+        let segment = match run_segment(
+            rt,
+            alloc,
+            &self.unit,
+            &mut self.worker,
+            records,
+            &mut self.spare,
+            gate,
+        ) {
+            Ok(segment) => segment,
+            Err(NoMemory) => return Err(Stop::NoMemory),
+        };
+        note_all(&mut self.log, records, &segment.answers);
+        let put = self.put_answers(rt, &segment.answers);
+        answers_have_widths(&segment.answers);
+        self.spare.keep_answers(segment.answers);
+        stop_after(put, segment.full)
+    }
+
+    /// Reads the next segment and serves it. `None`: the input may go on.
+    fn serve_next<R: Threads + Wait + Sync, S: Source, G: Gate + Sync>(
+        &mut self,
+        rt: &R,
+        alloc: Global,
+        source: &mut S,
+        reader: &mut Reader,
+        gate: &G,
+    ) -> Option<RunEnd>
+        requires alone { IsAlone self.old.unit.counters self.old.unit.plan self.old.worker }
+        requires reading { let before : SourceSeen =
+            source_seen S.told S.left S.faults source.old in
+            (start : SourceSeen) × (items : List Item) × (read : List ℕ)
+            × IsReading start before reader.old items read }
+        ensures alone { IsAlone self.new.unit.counters self.new.unit.plan self.new.worker }
+        ensures opening { (view self.new.worker).turn.known.opening ≡ (view self.old.worker).turn.known.opening }
+        ensures leads { let before : SourceSeen = source_seen S.told S.left S.faults source.old in
+            let after : SourceSeen = source_seen S.told S.left S.faults source.new in
+            (start : SourceSeen) (begin : Begin) (first : View)
+            → BeganWith O.told begin (view self.old.worker).turn.known.opening
+            → Goes start before reader.old begin first (view self.old.worker) self.old.log
+            → Leads start after reader.new begin first (view self.new.worker) self.new.log result }
+        ensures forth { IfNone result (reader.old.taken < reader.new.taken) }
+    {
+        let (records, end) = match reader.next_segment(alloc, source) {
+            Ok(read) => read,
+            Err(NoMemory) => return Some(RunEnd::NoMemory),
+        };
+        match self.serve(rt, alloc, &records, gate) {
+            Ok(()) => {
+                reader.take_back(records);
+                self.end_segment(rt, alloc, end)
+            }
+            Err(stop) => Some(end_of(stop)),
+        }
+    }
+
+    /// Reads and serves segments until the input ends, or something else does.
+    pub fn serve_input<R: Threads + Wait + Sync, S: Source, G: Gate + Sync>(
+        &mut self,
+        rt: &R,
+        alloc: Global,
+        source: &mut S,
+        gate: &G,
+    ) -> RunEnd
+        requires alone { IsAlone self.old.unit.counters self.old.unit.plan self.old.worker }
+        requires no_log { (view self.old.worker).turn.known.log ≡ [] }
+        requires none_made { (view self.old.worker).turn.made ≡ [] }
+        requires none_noted { self.old.log ≡ report_of [] }
+        ensures alone { IsAlone self.new.unit.counters self.new.unit.plan self.new.worker }
+        ensures opening { (view self.new.worker).turn.known.opening ≡ (view self.old.worker).turn.known.opening }
+        ensures comes { let before : SourceSeen = source_seen S.told S.left S.faults source.old in
+            let after : SourceSeen = source_seen S.told S.left S.faults source.new in
+            (begin : Begin) → BeganWith O.told begin (view self.old.worker).turn.known.opening
+            → Comes before after begin (view self.old.worker) (view self.new.worker) result }
+    {
+        let mut reader = Reader::new(alloc);
+        'segments: loop {
+            match self.serve_next(rt, alloc, source, &mut reader, gate) {
+                None => {}
+                Some(end) => return end,
+            }
+        }
+    }
+}
