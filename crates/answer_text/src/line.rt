@@ -11,7 +11,7 @@ use sdls_base::NoMemory;
 use std::alloc::Global;
 use text_words::{put_decimal, put_number_member, put_octets, put_spaced, put_word_member};
 
-/// Puts how a line begins: the number of the record and the code, and of End the code alone.
+/// Writes how a line begins: the number of the record and the code, and of End the code alone.
 fn put_front(text: &mut Vec<u8>, form: Form, index: u64, code: AnswerCode) -> Result<(), NoMemory>
     ensures { OnOk result (text.new.items ≡ text.old.items ++ front_text form index code) }
 {
@@ -43,7 +43,7 @@ fn put_end(text: &mut Vec<u8>, form: Form) -> Result<(), NoMemory>
     }
 }
 
-/// Puts the line of the answer to the record with this number behind what there is. After an error a front of it may
+/// Writes the line of the answer to the record with this number behind what there is. After an error a front of it may
 /// have been put.
 pub fn put_answer(
     alloc: Global,

@@ -41,7 +41,7 @@ impl Model for Listing {
     ghost view = { λ listing. record { index = listing.index; offset = listing.offset } };
 }
 
-/// Puts the line of an answer. After an error nothing was put.
+/// Writes the line of an answer. After an error nothing was put.
 fn put_whole(
     alloc: Global,
     text: &mut Vec<u8>,
@@ -83,7 +83,7 @@ impl Listing {
         self.offset = self.offset.saturating_add(octets as u64);
     }
 
-    /// Puts the line of the next answer behind what there is, or says why there is none; then nothing was put.
+    /// Writes the line of the next answer behind what there is, or says why there is none; then nothing was put.
     #[tactic(auto, unfolding(record_io::specs::NextAnswer::Stands))]
     pub fn next_line<S: Source>(
         &mut self,

@@ -151,7 +151,7 @@ fn event_at(carried: &[u8]) -> Event
     }
 }
 
-/// Puts an event in words.
+/// Writes an event in words.
 fn put_event(text: &mut Vec<u8>, event: Event) -> Result<(), NoMemory>
     ensures { OnOk result (text.new.items ≡ text.old.items ++ event_words event) }
 {
@@ -162,7 +162,7 @@ fn put_event(text: &mut Vec<u8>, event: Event) -> Result<(), NoMemory>
     put_spaced_number(text, event.number)
 }
 
-/// Puts so many events, in words.
+/// Writes so many events, in words.
 #[tactic(auto, using(crate::proofs::Events::event_left))]
 fn put_events(text: &mut Vec<u8>, count: usize, carried: &[u8]) -> Result<(), NoMemory>
     requires { length carried.now ≡ EVENT * count }
@@ -176,7 +176,7 @@ fn put_events(text: &mut Vec<u8>, count: usize, carried: &[u8]) -> Result<(), No
     Ok(())
 }
 
-/// Puts the code, the detail and the number of an event, as members of a JSON object.
+/// Writes the code, the detail and the number of an event, as members of a JSON object.
 fn put_members(text: &mut Vec<u8>, event: Event) -> Result<(), NoMemory>
     ensures { OnOk result (text.new.items ≡ text.old.items ++ event_members event) }
 {
@@ -187,7 +187,7 @@ fn put_members(text: &mut Vec<u8>, event: Event) -> Result<(), NoMemory>
     put_number_member(text, b"number", event.number)
 }
 
-/// Puts an event as a JSON object.
+/// Writes an event as a JSON object.
 fn put_object(text: &mut Vec<u8>, event: Event) -> Result<(), NoMemory>
     ensures { OnOk result (text.new.items ≡ text.old.items ++ event_object event) }
 {
@@ -205,7 +205,7 @@ fn put_further(text: &mut Vec<u8>, event: Event) -> Result<(), NoMemory>
     put_object(text, event)
 }
 
-/// Puts so many events behind another, as JSON objects.
+/// Writes so many events behind another, as JSON objects.
 #[tactic(auto, using(crate::proofs::Events::event_left))]
 fn put_further_events(text: &mut Vec<u8>, count: usize, carried: &[u8]) -> Result<(), NoMemory>
     requires { length carried.now ≡ EVENT * count }
@@ -219,7 +219,7 @@ fn put_further_events(text: &mut Vec<u8>, count: usize, carried: &[u8]) -> Resul
     Ok(())
 }
 
-/// Puts so many events as JSON objects.
+/// Writes so many events as JSON objects.
 fn put_objects(text: &mut Vec<u8>, count: usize, carried: &[u8]) -> Result<(), NoMemory>
     requires { length carried.now ≡ EVENT * count }
     ensures { OnOk result (text.new.items ≡ text.old.items ++ event_objects count carried.now) }
@@ -231,7 +231,7 @@ fn put_objects(text: &mut Vec<u8>, count: usize, carried: &[u8]) -> Result<(), N
     put_further_events(text, count - 1, behind(carried))
 }
 
-/// Puts the events of a dump.
+/// Writes the events of a dump.
 #[tactic(auto, unfolding(crate::specs::Part::part_text))]
 fn put_dump(text: &mut Vec<u8>, form: Form, count: usize, carried: &[u8]) -> Result<(), NoMemory>
     requires { length carried.now ≡ EVENT * count }
@@ -249,7 +249,7 @@ fn put_dump(text: &mut Vec<u8>, form: Form, count: usize, carried: &[u8]) -> Res
     }
 }
 
-/// Puts the report word bit by bit, and its key and number.
+/// Writes the report word bit by bit, and its key and number.
 fn put_report(
     text: &mut Vec<u8>,
     form: Form,
@@ -267,7 +267,7 @@ fn put_report(
     put_named(text, form, b"number", number)
 }
 
-/// Puts how many events there are, and how many more fit.
+/// Writes how many events there are, and how many more fit.
 fn put_counts(text: &mut Vec<u8>, form: Form, kept: u16, free: u16) -> Result<(), NoMemory>
     ensures { OnOk result (text.new.items ≡ text.old.items ++ parts_text form (count_parts kept free)) }
 {
@@ -275,7 +275,7 @@ fn put_counts(text: &mut Vec<u8>, form: Form, kept: u16, free: u16) -> Result<()
     put_named(text, form, b"free", u64::from(free))
 }
 
-/// Puts a block enciphered, and its MAC.
+/// Writes a block enciphered, and its MAC.
 fn put_tested(
     alloc: Global,
     text: &mut Vec<u8>,
@@ -290,7 +290,7 @@ fn put_tested(
     Ok(())
 }
 
-/// Puts what the reply carries.
+/// Writes what the reply carries.
 pub(crate) fn put_monitor_values(
     alloc: Global,
     text: &mut Vec<u8>,

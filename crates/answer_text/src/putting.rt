@@ -14,7 +14,7 @@ use text_words::{
     put_word_member,
 };
 
-/// Puts a member whose value are hexadecimal digits.
+/// Writes a member whose value are hexadecimal digits.
 fn put_octets_member(
     alloc: Global,
     text: &mut Vec<u8>,
@@ -27,7 +27,7 @@ fn put_octets_member(
     put_word_member(text, name, digits.as_bytes())
 }
 
-/// Puts a number by its name.
+/// Writes a number by its name.
 pub(crate) fn put_named(
     text: &mut Vec<u8>,
     form: Form,
@@ -48,7 +48,7 @@ pub(crate) fn put_named(
     }
 }
 
-/// Puts a number whose name the words leave out.
+/// Writes a number whose name the words leave out.
 pub(crate) fn put_number(
     text: &mut Vec<u8>,
     form: Form,
@@ -66,7 +66,7 @@ pub(crate) fn put_number(
     }
 }
 
-/// Puts a word whose name the words leave out.
+/// Writes a word whose name the words leave out.
 pub(crate) fn put_word(
     text: &mut Vec<u8>,
     form: Form,
@@ -84,7 +84,7 @@ pub(crate) fn put_word(
     }
 }
 
-/// Puts octets by their name.
+/// Writes octets by their name.
 pub(crate) fn put_named_octets(
     alloc: Global,
     text: &mut Vec<u8>,
@@ -106,7 +106,7 @@ pub(crate) fn put_named_octets(
     }
 }
 
-/// Puts a number with its key as a JSON object.
+/// Writes a number with its key as a JSON object.
 fn put_drawn_object(text: &mut Vec<u8>, key: u64, number: u64) -> Result<(), NoMemory>
     ensures { OnOk result (text.new.items ≡ text.old.items ++ drawn_object key number) }
 {
@@ -117,7 +117,7 @@ fn put_drawn_object(text: &mut Vec<u8>, key: u64, number: u64) -> Result<(), NoM
     put_octets(text, b"}")
 }
 
-/// Puts the number that was drawn for a command, and its key.
+/// Writes the number that was drawn for a command, and its key.
 pub(crate) fn put_drawn(
     text: &mut Vec<u8>,
     form: Form,

@@ -37,7 +37,7 @@ fn procedure_of(reply: &ReplyPdu) -> Procedure
     }
 }
 
-/// Puts the procedure, and of an inventory the count of the keys.
+/// Writes the procedure, and of an inventory the count of the keys.
 #[tactic(auto, unfolding(crate::specs::Reply::reply_name))]
 pub(crate) fn put_reply_name(
     text: &mut Vec<u8>,
@@ -53,7 +53,7 @@ pub(crate) fn put_reply_name(
     }
 }
 
-/// Puts what is sealed, behind its vector and before its tag.
+/// Writes what is sealed, behind its vector and before its tag.
 fn put_sealed(
     alloc: Global,
     text: &mut Vec<u8>,
@@ -70,7 +70,7 @@ fn put_sealed(
     put_named_octets(alloc, text, form, b"tag", tag)
 }
 
-/// Puts the width of a window field, and its back window if it has one.
+/// Writes the width of a window field, and its back window if it has one.
 fn put_window(text: &mut Vec<u8>, form: Form, window: u64) -> Result<(), NoMemory>
     ensures { OnOk result (text.new.items ≡ text.old.items ++ parts_text form (window_field_parts window)) }
 {
@@ -82,7 +82,7 @@ fn put_window(text: &mut Vec<u8>, form: Form, window: u64) -> Result<(), NoMemor
     put_named(text, form, b"back", u64::from(back))
 }
 
-/// Puts what the reply of `status` carries.
+/// Writes what the reply of `status` carries.
 #[tactic(auto, unfolding(crate::specs::Reply::reply_values))]
 fn put_status(
     text: &mut Vec<u8>,
@@ -110,7 +110,7 @@ fn put_status(
     put_window(text, form, window)
 }
 
-/// Puts what the reply carries.
+/// Writes what the reply carries.
 #[tactic(auto, unfolding(crate::specs::Reply::reply_values))]
 pub(crate) fn put_reply_values(
     alloc: Global,

@@ -12,7 +12,7 @@ use text_words::{
     put_word_member,
 };
 
-/// Puts a key and its state, in words.
+/// Writes a key and its state, in words.
 fn put_row(text: &mut Vec<u8>, row: &(KeyId, KeyState)) -> Result<(), NoMemory>
     ensures { OnOk result (text.new.items ≡ text.old.items ++ row_words row.now) }
 {
@@ -21,7 +21,7 @@ fn put_row(text: &mut Vec<u8>, row: &(KeyId, KeyState)) -> Result<(), NoMemory>
     put_spaced(text, key_state_word(*state))
 }
 
-/// Puts rows in words.
+/// Writes rows in words.
 fn put_row_words(text: &mut Vec<u8>, rows: &[(KeyId, KeyState)]) -> Result<(), NoMemory>
     ensures { OnOk result (text.new.items ≡ text.old.items ++ flat_map row_words rows.now) }
 {
@@ -31,7 +31,7 @@ fn put_row_words(text: &mut Vec<u8>, rows: &[(KeyId, KeyState)]) -> Result<(), N
     Ok(())
 }
 
-/// Puts a key and its state as a JSON object.
+/// Writes a key and its state as a JSON object.
 fn put_object(text: &mut Vec<u8>, row: &(KeyId, KeyState)) -> Result<(), NoMemory>
     ensures { OnOk result (text.new.items ≡ text.old.items ++ row_object row.now) }
 {
@@ -50,7 +50,7 @@ fn put_further_row(text: &mut Vec<u8>, row: &(KeyId, KeyState)) -> Result<(), No
     put_object(text, row)
 }
 
-/// Puts rows behind others.
+/// Writes rows behind others.
 fn put_further_rows(text: &mut Vec<u8>, rows: &[(KeyId, KeyState)]) -> Result<(), NoMemory>
     ensures { OnOk result (text.new.items ≡ text.old.items ++ flat_map further_row rows.now) }
 {
@@ -60,7 +60,7 @@ fn put_further_rows(text: &mut Vec<u8>, rows: &[(KeyId, KeyState)]) -> Result<()
     Ok(())
 }
 
-/// Puts rows as JSON objects.
+/// Writes rows as JSON objects.
 fn put_objects(text: &mut Vec<u8>, rows: &[(KeyId, KeyState)]) -> Result<(), NoMemory>
     ensures { OnOk result (text.new.items ≡ text.old.items ++ row_objects rows.now) }
 {
@@ -73,7 +73,7 @@ fn put_objects(text: &mut Vec<u8>, rows: &[(KeyId, KeyState)]) -> Result<(), NoM
     }
 }
 
-/// Puts the rows of an inventory.
+/// Writes the rows of an inventory.
 pub(crate) fn put_rows(
     text: &mut Vec<u8>,
     form: Form,

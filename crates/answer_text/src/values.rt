@@ -33,7 +33,7 @@ fn is_plain(answer: &Answer) -> bool
     answer.detail == 0 && answer.number == 0 && is_bare(answer)
 }
 
-/// Puts the number of a key, and the position by its name.
+/// Writes the number of a key, and the position by its name.
 fn put_numbered(
     text: &mut Vec<u8>,
     form: Form,
@@ -78,7 +78,7 @@ fn accepted(alloc: Global, text: &mut Vec<u8>, form: Form, answer: &Answer) -> R
     Ok(())
 }
 
-/// Puts the position of an answer that has nothing else, by its name.
+/// Writes the position of an answer that has nothing else, by its name.
 fn plain(text: &mut Vec<u8>, form: Form, answer: &Answer, position: &[u8]) -> Result<(), TextError>
     ensures put { OnOk result (IsPlain answer.now ×
         (text.new.items ≡ text.old.items ++ parts_text form (Part.named position.now answer.now.position ∷ []))) }
@@ -91,7 +91,7 @@ fn plain(text: &mut Vec<u8>, form: Form, answer: &Answer, position: &[u8]) -> Re
     Ok(())
 }
 
-/// Puts the number that was drawn for a command.
+/// Writes the number that was drawn for a command.
 fn put_drawn_of(text: &mut Vec<u8>, form: Form, answer: &Answer) -> Result<(), NoMemory>
     ensures { OnOk result (text.new.items ≡ text.old.items ++ parts_text form (drawn answer.now)) }
 {
@@ -101,7 +101,7 @@ fn put_drawn_of(text: &mut Vec<u8>, form: Form, answer: &Answer) -> Result<(), N
     put_drawn(text, form, u64::from(answer.key), answer.number)
 }
 
-/// Puts a reply, and between its name and its values what the answer says.
+/// Writes a reply, and between its name and its values what the answer says.
 fn put_done(
     alloc: Global,
     text: &mut Vec<u8>,
@@ -153,7 +153,7 @@ fn refused(text: &mut Vec<u8>, form: Form, answer: &Answer) -> Result<(), TextEr
     Ok(())
 }
 
-/// Puts the message that was answered, the count of entries, and what the reply carries.
+/// Writes the message that was answered, the count of entries, and what the reply carries.
 fn put_monitored(
     alloc: Global,
     text: &mut Vec<u8>,
@@ -222,7 +222,7 @@ fn state(text: &mut Vec<u8>, form: Form, answer: &Answer) -> Result<(), TextErro
     Ok(())
 }
 
-/// Puts the highest number that was accepted, and the width of the window.
+/// Writes the highest number that was accepted, and the width of the window.
 fn put_window(text: &mut Vec<u8>, form: Form, body: &[u8]) -> Result<(), NoMemory>
     requires { length body.now ≡ 16 }
     ensures { OnOk result (text.new.items ≡ text.old.items ++ parts_text form (window_parts body.now)) }
@@ -260,7 +260,7 @@ fn exhausted(text: &mut Vec<u8>, form: Form, answer: &Answer) -> Result<(), Text
     Ok(())
 }
 
-/// Puts the number by its name, and the count of entries.
+/// Writes the number by its name, and the count of entries.
 fn counting(text: &mut Vec<u8>, form: Form, answer: &Answer, name: &[u8]) -> Result<(), TextError>
     ensures put { OnOk result (IsCounting answer.now
         × (text.new.items ≡ text.old.items ++ parts_text form (counting_parts answer.now name.now))) }
@@ -308,7 +308,7 @@ fn end(text: &mut Vec<u8>, form: Form, answer: &Answer) -> Result<(), TextError>
     }
 }
 
-/// Puts the values of an answer of this code.
+/// Writes the values of an answer of this code.
 pub(crate) fn put_values(
     alloc: Global,
     text: &mut Vec<u8>,

@@ -51,7 +51,7 @@ pub fn part_of(alloc: Global, octets: &[u8], line: &str) -> anyhow::Result<Strin
     Ok(hex::encode(alloc, octets.get(from..to).unwrap_or(&[]))?)
 }
 
-/// Puts octets over some of these, as far as these reach: `OFFSET OCTETS`.
+/// Writes octets over some of these, as far as these reach: `OFFSET OCTETS`.
 pub fn set_part_of(alloc: Global, octets: &mut [u8], line: &str) -> anyhow::Result<()> {
     let at = usize::try_from(number_at(line, 0)).unwrap_or(usize::MAX);
     let part = hex::decode(alloc, word_at(line, 1))?;

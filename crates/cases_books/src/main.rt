@@ -27,7 +27,7 @@
 //! zeros behind them; behind `xN` the next word stands N times. `bare` prints what the bare plan of the text reads as,
 //! and its octets with `/` for each line feed. `made` writes the content of version 1 of the plan's state, `made two`
 //! that of version 2, and each prints how many keys and associations it has, or that there is no room. `at OFFSET
-//! LENGTH` prints octets of the content, and `set OFFSET OCTETS` puts others there. `read` prints what is read of it,
+//! LENGTH` prints octets of the content, and `set OFFSET OCTETS` writes others there. `read` prints what is read of it,
 //! in the version that was made, behind `same` if writing that gives it again. `back` takes the content again that
 //! `made` wrote.
 #![tactic(auto)]

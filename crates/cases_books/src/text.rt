@@ -8,7 +8,7 @@ pub struct Text {
     behind: Vec<u8>,
 }
 
-/// Puts the octet of two digits, and what stands behind them.
+/// Writes the octet of two digits, and what stands behind them.
 fn put_digits(alloc: Global, out: &mut Vec<u8>, part: &str) -> anyhow::Result<()> {
     let octets = part.as_bytes();
     let (digits, rest) = octets.split_at_checked(2).unwrap_or((&[], octets));
@@ -17,7 +17,7 @@ fn put_digits(alloc: Global, out: &mut Vec<u8>, part: &str) -> anyhow::Result<()
     Ok(())
 }
 
-/// Puts the octets of a line, in which `\` and two digits stand for one.
+/// Writes the octets of a line, in which `\` and two digits stand for one.
 fn put(alloc: Global, out: &mut Vec<u8>, line: &str) -> anyhow::Result<()> {
     let mut parts = line.split('\\');
     out.extend_from_slice(parts.next().unwrap_or("").as_bytes())?;
@@ -36,7 +36,7 @@ impl Text {
         }
     }
 
-    /// Changes the text: `: LINE` puts a line and its line feed before the place, `; LINE` a line feed and a line
+    /// Changes the text: `: LINE` writes a line and its line feed before the place, `; LINE` a line feed and a line
     /// behind it, and `fill N` number signs before it, up to so many octets.
     pub fn change(&mut self, alloc: Global, word: &str, rest: &str) -> anyhow::Result<()> {
         match word {

@@ -1,13 +1,13 @@
 //! Runs over the image of a unit.
 use crate::answers::{Answer, push_answers};
 use case_units::{BEGINNING, joined};
+use cli_run::{OpenGate, run_recorded};
 use record_io::Outcome;
 use sdls_outside::{Crash, MemSite, SureSource};
 use std::alloc::{AllocError, Global};
 use std::mem;
 use std::sync::Wait;
 use std::thread::Threads;
-use cli_run::{OpenGate, run_recorded};
 
 /// More calls than an opening makes, a power of two, and its exponent.
 const MOST_CALLS: u64 = 8_192;

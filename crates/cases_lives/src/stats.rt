@@ -1,8 +1,8 @@
 //! What `stat` prints of an image.
 use case_lines::words_of;
 use case_units::write_octets;
-use sdls_outside::{MemSite, SureSource};
 use cli_image::{Outcome, run_plain};
+use sdls_outside::{MemSite, SureSource};
 use sha2::{Digest, Sha256};
 use std::alloc::{AllocError, Global};
 

@@ -45,7 +45,7 @@ impl Failing {
 enum Call {
     /// It opens the image.
     Opening,
-    /// It puts answers.
+    /// It writes answers.
     Put,
     /// It stores a change, or syncs.
     Other,
@@ -83,7 +83,7 @@ fn call_of(call: u64, opening: u64, ran: &Ran) -> Call {
     }
 }
 
-/// Whether a run in which such a call failed put what is due: End alone if it opens the image; if it puts answers a
+/// Whether a run in which such a call failed put what is due: End alone if it opens the image; if it writes answers a
 /// front of those of the whole run, and nothing more; else an answer for each record, and End.
 fn is_due(call: Call, records: usize, ran: &Ran, answers: &[Answer], whole: &[u8]) -> bool {
     let sunk = ran.site.sunk();
@@ -97,7 +97,7 @@ fn is_due(call: Call, records: usize, ran: &Ran, answers: &[Answer], whole: &[u8
 }
 
 impl<R: Threads + Wait + Sync> Runs<'_, R> {
-    /// Whether the next run is sound behind one in which such a call failed: if it opens the image, it puts what it
+    /// Whether the next run is sound behind one in which such a call failed: if it opens the image, it writes what it
     /// does alone.
     fn is_next_due(
         &self,

@@ -3,13 +3,13 @@ use crate::calls::Trouble;
 use crate::noted_site::NotedSite;
 use case_lines::words_of;
 use case_units::{BEGINNING, FENCE};
+use cli_image::run_plain;
+use cli_run::{OpenGate, run_recorded};
 use record_io::Outcome;
 use sdls_outside::SureSource;
-use cli_image::run_plain;
 use std::alloc::{AllocError, Global};
 use std::sync::Wait;
 use std::thread::Threads;
-use cli_run::{OpenGate, run_recorded};
 
 /// How a run ended: its status, the count of its entries, and the site.
 #[derive(Drop)]

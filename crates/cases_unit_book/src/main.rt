@@ -11,7 +11,7 @@
 //! are its calls. A number is drawn as on one lane: the key's next one, which is stored for before it is used. `close`
 //! ends the run; `crash kept`, `crash lost` and `crash OCTET` end it by a crash.
 //!
-//! `times COUNT STEP` does a step so often, and tells the last answer. `life STEP` gathers a life, `live` does its
+//! `times COUNT STEP` does a step so often, and prints the last answer. `life STEP` gathers a life, `live` does its
 //! steps, and `forget` leaves none of it.
 #![tactic(auto)]
 

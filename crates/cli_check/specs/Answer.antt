@@ -26,7 +26,7 @@ refused_text fault = line (codes "refused " ++ word fault)
 abbrev pub accepted_text : List ℕ → List ℕ
 accepted_text field = line (codes "ok " ++ encode_lower field)
 
--- what `check KEY` puts for an input, and the status that goes with it
+-- what `check KEY` writes for an input, and the status that goes with it
 abbrev pub CheckOutput : List ℕ → List ℕ → List ℕ → ℕ → Type 0
 CheckOutput key input text status =
     (PassesChecks key input × (text ≡ accepted_text (data_field input)) × (status ≡ DONE))

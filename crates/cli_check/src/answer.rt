@@ -23,7 +23,7 @@ fn refusal_line(refusal: Refusal) -> &'static [u8]
     }
 }
 
-/// Puts the line for an accepted frame.
+/// Writes the line for an accepted frame.
 fn put_field<O: Site>(site: &mut O, field: &[u8]) -> Result<(), Failed>
     ensures delivered { IsTrue O.told → Delivers (accepted_text field.now) result (O.trace site.old)
         (O.trace site.new) }
@@ -34,7 +34,7 @@ fn put_field<O: Site>(site: &mut O, field: &[u8]) -> Result<(), Failed>
     put_text(site, b"\n")
 }
 
-/// Puts the line for a verdict on a frame, and answers the status that goes with it.
+/// Writes the line for a verdict on a frame, and answers the status that goes with it.
 pub(crate) fn put_verdict<O: Site>(
     site: &mut O,
     verdict: Result<&[u8], Refusal>,

@@ -13,7 +13,7 @@ use record_io::status::{SITE_FAULT, SOURCE_FAULT};
 use sdls_outside::{Failed, Site, Source, collect};
 use std::alloc::Global;
 
-/// Reads the whole input as one frame, puts the verdict on it under `key`, and answers the status.
+/// Reads the whole input as one frame, writes the verdict on it under `key`, and answers the status.
 ///
 /// One octet more than the longest frame is taken at most, which shows that the input is too long.
 fn put_check<S: Source, O: Site>(key: &Schedule, source: &mut S, site: &mut O) -> Result<u8, Failed>

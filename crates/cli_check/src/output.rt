@@ -9,7 +9,7 @@ use sdls_outside::{Failed, Site};
 /// The most octets that are spelled by one `put`.
 const PIECE: usize = 64;
 
-/// Puts up to 64 octets as hexadecimal digits, with lower-case letters, in one piece.
+/// Writes up to 64 octets as hexadecimal digits, with lower-case letters, in one piece.
 fn put_piece<O: Site>(site: &mut O, octets: &[u8]) -> Result<(), Failed>
     requires { length octets.now ≤ PIECE }
     ensures delivered { IsTrue O.told → Delivers (encode_lower octets.now) result (O.trace site.old)
@@ -22,7 +22,7 @@ fn put_piece<O: Site>(site: &mut O, octets: &[u8]) -> Result<(), Failed>
     put_text(site, spelled)
 }
 
-/// Puts octets as hexadecimal digits, with lower-case letters, piece by piece.
+/// Writes octets as hexadecimal digits, with lower-case letters, piece by piece.
 pub(crate) fn put_hexadecimal<O: Site>(site: &mut O, octets: &[u8]) -> Result<(), Failed>
     ensures delivered { IsTrue O.told → Delivers (encode_lower octets.now) result (O.trace site.old)
         (O.trace site.new) }

@@ -175,7 +175,7 @@ fn cause_word(cause: PlanCause) -> &'static [u8]
     }
 }
 
-/// Puts a number in decimal digits.
+/// Writes a number in decimal digits.
 fn put_number<O: Site>(site: &mut O, number: u32) -> Result<(), Failed>
     ensures delivered { IsTrue O.told → Delivers (decimal number) result (O.trace site.old) (O.trace site.new) }
     ensures cause { HasCause (O.faults site.old) (O.faults site.new) result }
@@ -191,7 +191,7 @@ fn put_word<O: Site>(site: &mut O, cause: PlanCause) -> Result<(), Failed>
     put_text(site, cause_word(cause))
 }
 
-/// Puts the end of the line that names a fault: its cause.
+/// Writes the end of the line that names a fault: its cause.
 fn put_cause<O: Site>(site: &mut O, cause: PlanCause) -> Result<(), Failed>
     ensures delivered { IsTrue O.told → Delivers (cause_text cause) result (O.trace site.old) (O.trace site.new) }
     ensures cause { HasCause (O.faults site.old) (O.faults site.new) result }
@@ -201,7 +201,7 @@ fn put_cause<O: Site>(site: &mut O, cause: PlanCause) -> Result<(), Failed>
     put_text(site, b"\n")
 }
 
-/// Puts the line that names the first fault of a plan.
+/// Writes the line that names the first fault of a plan.
 fn put_plan_fault<O: Site>(site: &mut O, fault: PlanFault) -> Result<(), Failed>
     ensures delivered { IsTrue O.told → Delivers (plan_fault_text fault) result (O.trace site.old) (O.trace site.new) }
     ensures cause { HasCause (O.faults site.old) (O.faults site.new) result }
@@ -211,7 +211,7 @@ fn put_plan_fault<O: Site>(site: &mut O, fault: PlanFault) -> Result<(), Failed>
     put_cause(site, fault.cause)
 }
 
-/// Puts the text that is due at this end, if there is one.
+/// Writes the text that is due at this end, if there is one.
 fn put_end<O: Site>(site: &mut O, end: InitEnd) -> Result<(), Failed>
     ensures delivered { IsTrue O.told → Delivers (init_text end) result (O.trace site.old) (O.trace site.new) }
     ensures cause { HasCause (O.faults site.old) (O.faults site.new) result }

@@ -48,7 +48,7 @@ impl StatEnd {
     }
 }
 
-/// Puts a text through the book, and answers the status: this one, or that of a put that failed.
+/// Writes a text through the book, and answers the status: this one, or that of a put that failed.
 fn put_through<O: Site>(book: &mut Book<O>, text: &[u8], status: u8) -> u8
     requires kept { IsKept O.told book.old }
     ensures kept { IsKept O.told book.new }
@@ -82,7 +82,7 @@ fn put_state<O: Site>(alloc: Global, book: &mut Book<O>) -> u8
     }
 }
 
-/// Tells the state of a book that was opened.
+/// Writes the state of a book that was opened.
 fn tell_state<O: Site>(alloc: Global, mut book: Book<O>) -> Outcome<O>
     requires kept { IsKept O.told book }
     requires first { (book.log ≡ []) × (book.opened ≡ book.site) }
@@ -106,7 +106,7 @@ fn tell_state<O: Site>(alloc: Global, mut book: Book<O>) -> Outcome<O>
     }
 }
 
-/// Puts an offset in decimal digits.
+/// Writes an offset in decimal digits.
 fn put_offset<O: Site>(site: &mut O, offset: u64) -> Result<(), Failed>
     ensures delivered { IsTrue O.told → Delivers (decimal offset) result (O.trace site.old) (O.trace site.new) }
     ensures cause { HasCause (O.faults site.old) (O.faults site.new) result }
@@ -115,7 +115,7 @@ fn put_offset<O: Site>(site: &mut O, offset: u64) -> Result<(), Failed>
     put_text(site, buffer.format(offset).as_bytes())
 }
 
-/// Puts the line that names the offset at which an image is refused.
+/// Writes the line that names the offset at which an image is refused.
 fn put_refused<O: Site>(site: &mut O, offset: u64) -> Result<(), Failed>
     ensures delivered { IsTrue O.told → Delivers (image_text offset) result (O.trace site.old) (O.trace site.new) }
     ensures cause { HasCause (O.faults site.old) (O.faults site.new) result }
@@ -125,7 +125,7 @@ fn put_refused<O: Site>(site: &mut O, offset: u64) -> Result<(), Failed>
     put_text(site, b"\n")
 }
 
-/// Puts the line that says why there is no state to be told.
+/// Writes the line that says why there is no state to print.
 fn put_fault<O: Site>(site: &mut O, end: StatEnd) -> Result<(), Failed>
     ensures delivered { IsTrue O.told → Delivers (fault_text end) result (O.trace site.old) (O.trace site.new) }
     ensures cause { HasCause (O.faults site.old) (O.faults site.new) result }
@@ -148,7 +148,7 @@ fn end_of(fault: OpenFault) -> StatEnd
     }
 }
 
-/// Tells why there is no state to be told.
+/// Writes why there is no state to print.
 fn tell_fault<O: Site>(alloc: Global, fault: OpenFault, mut site: O) -> Outcome<O>
     ensures ends { Ends O.told (O.trace site) (O.trace result.site) (Rose (O.faults site) (O.faults result.site))
         (fault_text (end_of_open fault)) (stat_status (end_of_open fault)) result.status }

@@ -59,7 +59,7 @@ pub(crate) fn answer_of(alloc: Global, end: RunEnd, entries: u64) -> Answer
     Answer::counting(alloc, code::END, end.status(), end.number(), entries)
 }
 
-/// Puts End, and answers the status. Where a put failed before, nothing is put.
+/// Writes End, and answers the status. Where a put failed before, nothing is put.
 fn put_end<O: Site>(alloc: Global, book: &mut Book<O>, came: RunEnd, told: RunEnd) -> u8
     requires kept { IsKept O.told book.old }
     ensures kept { IsKept O.told book.new }
@@ -76,8 +76,8 @@ fn put_end<O: Site>(alloc: Global, book: &mut Book<O>, came: RunEnd, told: RunEn
     }
 }
 
-/// Releases what the run did not use, and puts End. `before` is the site's count of faults before the run, `words` the
-/// rows' words `next`.
+/// Releases what the run did not use, and writes End. `before` is the site's count of faults before the run, `words`
+/// the rows' words `next`.
 pub fn finish<O: Site>(
     alloc: Global,
     mut book: Book<O>,

@@ -1,5 +1,5 @@
-//! One worker that serves a run of the unit: it reads segments, has their records handled, puts the answers, and at the
-//! end releases what was not used and puts End.
+//! One worker that serves a run of the unit: it reads segments, has their records handled, writes the answers, and at
+//! the end releases what was not used and writes End.
 #![tactic(auto)]
 
 mod ending;

@@ -12,7 +12,7 @@ use shared_unit::{Unit, Worker};
 use std::sync::Wait;
 use unit_book::BookFault;
 
-/// Puts octets. Nobody else does anything meanwhile, since the worker has all shares.
+/// Writes octets. Nobody else does anything meanwhile, since the worker has all shares.
 pub(crate) fn put_alone<R: Wait, O: Site>(
     rt: &R,
     unit: &Unit<O>,

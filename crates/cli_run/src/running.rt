@@ -49,7 +49,7 @@ fn status_of(put: Result<(), Failed>, told: RunEnd) -> u8
     }
 }
 
-/// Puts End where the book was not opened. `before` is the site's count of faults before the run.
+/// Writes End where the book was not opened. `before` is the site's count of faults before the run.
 fn refuse<O: Site>(alloc: Global, before: u64, fault: OpenFault, mut site: O) -> Outcome<O>
     requires later { before ≤ O.faults site }
     ensures puts { PutsRefusal O.told before fault (site_seen O.trace O.faults O.put_faults site)

@@ -72,7 +72,7 @@ fn came_after(served: Result<(), Stop>) -> Option<RunEnd>
 }
 
 impl<O: Site + Send> Session<O> {
-    /// Answers a monitoring message by the log, notes the answer and puts it.
+    /// Answers a monitoring message by the log, notes the answer and writes it.
     fn report<R: Wait>(&mut self, rt: &R, alloc: Global, task: &Record) -> Result<(), Stop>
         requires alone { IsAlone self.old.unit.counters self.old.unit.plan self.old.worker }
         requires kind { task.now.kind ≡ RecordKind.Monitor }
@@ -109,7 +109,7 @@ impl<O: Site + Send> Session<O> {
         }
     }
 
-    /// Handles the records of a segment, and notes and puts their answers in input order.
+    /// Handles the records of a segment, and notes and writes their answers in input order.
     fn serve<R: Threads + Wait + Sync, G: Gate + Sync>(
         &mut self,
         rt: &R,

@@ -1,4 +1,4 @@
-// One worker that serves a run, and the answers that it puts.
+// One worker that serves a run, and the answers that it writes.
 ghost use Rattle.std.specs.Prelude.{◌≡◌, ◌↔◌, ◌+◌, ◌≤◌, [], ◌++◌, IsTrue, length, vec_len, vec_capacity};
 ghost use Rattle.record_io.specs.Answers.{answer_octets, answers_octets};
 ghost use Rattle.counter_table.specs.Worker.{view};
@@ -65,7 +65,7 @@ impl<O: Site> Session<O> {
         }
     }
 
-    /// Puts the piece, and begins another.
+    /// Writes the piece, and begins another.
     fn put_piece<R: Wait>(&mut self, rt: &R) -> Result<(), BookFault>
         requires alone { IsAlone self.old.unit.counters self.old.unit.plan self.old.worker }
         ensures alone { IsAlone self.new.unit.counters self.new.unit.plan self.new.worker }
@@ -79,7 +79,7 @@ impl<O: Site> Session<O> {
         put
     }
 
-    /// Puts an answer, its header before its body.
+    /// Writes an answer, its header before its body.
     fn put_answer<R: Wait>(&mut self, rt: &R, answer: &Answer) -> Result<(), BookFault>
         requires alone { IsAlone self.old.unit.counters self.old.unit.plan self.old.worker }
         ensures alone { IsAlone self.new.unit.counters self.new.unit.plan self.new.worker }
@@ -152,7 +152,7 @@ impl<O: Site> Session<O> {
         }
     }
 
-    /// Puts answers, one after the other, in pieces.
+    /// Writes answers, one after the other, in pieces.
     pub fn put_answers<R: Wait>(&mut self, rt: &R, answers: &[Answer]) -> Result<(), BookFault>
         requires alone { IsAlone self.old.unit.counters self.old.unit.plan self.old.worker }
         ensures alone { IsAlone self.new.unit.counters self.new.unit.plan self.new.worker }

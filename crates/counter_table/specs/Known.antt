@@ -1,4 +1,4 @@
--- Profile: what a book tells, and how a later book follows an earlier one.
+-- Profile: what a book shows, and how a later book follows an earlier one.
 use Rattle.std.specs.Prelude.{◌≡◌, ℕ, ◌+◌, ◌≤◌, max, nat_lt, Bool, true, false, List, [], ◌∷◌, ◌++◌, length}
 use Rattle.std.specs.Prelude.{slice_index_or, if◌then◌else◌}
 use Rattle.sdls_base.specs.declared.entry.Logged.{Logged}

@@ -1,4 +1,4 @@
--- What each step tells the worker that makes it: of its view and slots before, the word found, and its view and slots
+-- What each step shows the worker that makes it: of its view and slots before, the word found, and its view and slots
 -- after.
 use Rattle.std.specs.Prelude.{◌≡◌, ◌≢◌, ℕ, ◌<◌, ◌≤◌, true, List, [], ◌∷◌, Some, None, Option}
 use Rattle.atomic_table.specs.Table.{Me}

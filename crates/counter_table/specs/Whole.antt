@@ -33,7 +33,7 @@ pub record Meet (v w : Turn) : Type 0 where
   pub other_earlier : Earlier w.known (merged v w).known
   pub made : (place : ℕ) → stands place v.made + stands place w.made ≤ 1
 
--- what a look tells of the last join
+-- what a look shows of the last join
 pub record Look (v : Turn) : Type 0 where
   pub made : (place : ℕ) → stands place v.made ≤ 1
   pub book : Known

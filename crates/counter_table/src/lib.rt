@@ -6,7 +6,7 @@
 //! lock is on the way of a frame. A worker steps by a token of no bytes, whose view (`View`) is what it knows.
 //!
 //! Begin with `Counters::arm`, `draw` and `peek_limit`. The rule that holds between any two steps is `IsKept`, in
-//! specs/Rule.antt. Of the book this crate knows what `Counted` tells.
+//! specs/Rule.antt. Of the book this crate knows what `Counted` says.
 #![tactic(auto)]
 
 mod counters;

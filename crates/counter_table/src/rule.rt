@@ -1,4 +1,4 @@
-//! The rule of the counters, and what each step tells. Apart from `Counted`, all of it is here
+//! The rule of the counters, and what each step says. Apart from `Counted`, all of it is here
 //! for contracts alone.
 ghost use Rattle.std.specs.Prelude.{◌≡◌};
 ghost use Rattle.std.specs.Prelude.{ℕ, List, []};
@@ -14,9 +14,9 @@ use crate::view::View;
 use atomic_table::{Join, Play, Split, TableRule};
 use std::marker::{Brand, PhantomData};
 
-/// A book that the counters can keep: it tells its marks and its count of changes.
+/// A book that the counters can keep: it shows contracts its marks and its count of changes.
 pub trait Counted {
-    /// What the book tells contracts.
+    /// What the book shows contracts.
     ghost told: { Self → Known };
 
     /// The mark of a row, and 1 where the book has no such row.
@@ -37,7 +37,7 @@ impl<B: Counted> TableRule<Option<B>, View, u16> for Rule {
     ghost first = { λ _. first_view };
 }
 
-// What a step tells beyond the words that it reads: each call picks it.
+// What a step says beyond the words that it reads: each call picks it.
 pub(crate) trait Told {
     ghost of_row: { ℕ };
 

@@ -115,7 +115,7 @@ impl<B: Counted> Counters<B> {
         (book, nexts)
     }
 
-    // A load that tells that no number was drawn twice, and what all shares mean.
+    // A load that shows that no number was drawn twice, and what all shares mean.
     fn look<T: Told>(&self, worker: &mut Worker<B>, rows: u16)
         requires own { IsOf self.now worker.old }
         requires rows { (rows ≡ rows_of self.now) × (rows ≡ T.number) }

@@ -28,7 +28,7 @@ const WAITED: u64 = 3;
 pub(crate) const EPOCH: usize = 8;
 
 impl<B: Counted> Counters<B> {
-    /// Puts the first book in its place. All workers but this one were joined.
+    /// Writes the first book in its place. All workers but this one were joined.
     pub fn fill(&self, worker: &mut Worker<B>, book: B)
         requires own { IsOf self.now worker.old }
         requires all { (view worker.old).numbers.shares ≡ ALL_SHARES }
@@ -225,7 +225,7 @@ impl<B: Counted> Counters<B> {
         book
     }
 
-    // Puts a book into its slot.
+    // Writes a book into its slot.
     fn put_in(&self, seat: &mut Seat<Option<B>, View>, book: B)
         requires own { seat.old.table_id ≡ self.now.table.shared.table_id }
         requires empty { seat.old.me.1 ≡ (0, None) ∷ [] }

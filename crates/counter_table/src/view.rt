@@ -56,7 +56,7 @@ pub struct Opening {
     pub faults: u64,
 }
 
-/// What a book tells.
+/// What a book shows contracts.
 pub struct Known {
     /// The mark of each row, from row 0 on.
     pub marks: LinkedList<u64>,

@@ -63,7 +63,7 @@ fn field_of(mut octets: Vec<u8>, from: usize, to: usize) -> Vec<u8>
     octets
 }
 
-/// The octets of the answer that tells a window.
+/// The octets of the answer that names a window.
 pub(crate) const WINDOW_OCTETS: usize = 16;
 
 /// The highest number accepted and the width of the window, 8 octets each.

@@ -57,7 +57,7 @@ fn protect<R: Wait, O: Site>(
     protected_answer(alloc, protected, room, body)
 }
 
-/// A copy of the octets, with room for the answer that tells a window.
+/// A copy of the octets, with room for the answer that names a window.
 fn copy_octets(alloc: Global, spare: &mut Spare, octets: &[u8]) -> Result<Vec<u8>, AllocError>
     ensures items { IfOk result (λ copy. copy.items ≡ octets.now) }
     ensures room { IfOk result (λ copy. WINDOW_OCTETS ≤ vec_capacity copy) }

@@ -102,7 +102,7 @@ pub fn run_segment<R: Threads + Wait + Sync, O: Site + Send, G: Gate + Sync>(
         → ServedAlone begin (view worker.old) (view worker.new) (length records.now)
         (deeds_of number records.now segment.answers.items)) }
 
-    // On however many lanes: each record moved a word once at most, as its answer tells.
+    // On however many lanes: each record moved a word once at most, as its answer says.
     ensures moved { IfOk result (λ segment. (begin : Begin) (number : ℕ)
         → BeganWith O.told begin (view worker.old).turn.known.opening
         → MovesWords begin (view worker.old) (view worker.new) records.now

@@ -17,7 +17,7 @@ use fsr_log::{Monitoring, write_monitoring};
 use sdls_base::{NoMemory, Octets};
 use std::alloc::Global;
 
-/// Puts an item of this kind.
+/// Writes an item of this kind.
 fn put(out: &mut Vec<u8>, kind: u8, lane: u8, link: u8, octets: &[u8]) -> Result<(), NoMemory>
     requires { length octets.now ≤ MOST_RECORD_OCTETS }
     ensures { OnOk result (out.new.items
@@ -50,7 +50,7 @@ fn monitoring(alloc: Global, message: &Monitoring) -> Result<Octets, NoMemory>
     write_monitoring(alloc, message)
 }
 
-/// Puts a Monitor record.
+/// Writes a Monitor record.
 #[tactic(auto, unfolding(crate::specs::Monitor::IsAsked, crate::specs::Monitor::asked_octets))]
 fn put_asked(
     alloc: Global,
@@ -72,7 +72,7 @@ fn put_asked(
     }
 }
 
-/// Puts the octets of the line's item behind what there is. After an error a front of them may have been put.
+/// Writes the octets of the line's item behind what there is. After an error a front of them may have been put.
 pub fn put_item(alloc: Global, out: &mut Vec<u8>, line: &Line) -> Result<(), NoMemory>
     requires { IsLine line.now }
     ensures put { OnOk result (out.new.items ≡ out.old.items ++ item_octets (line_item line.now)) }

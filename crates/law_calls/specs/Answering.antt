@@ -79,7 +79,7 @@ Answered layout begin segment old new task (Some answer) = Handled layout begin 
 Answered layout begin segment old new task None = Handled layout begin old new (task ∷ []) []
     × IsFullFor begin old new task
 
--- The record was served in turn, and moved a word as its answer tells; if it has none, it may have moved one.
+-- The record was served in turn, and moved a word as its answer says; if it has none, it may have moved one.
 abbrev pub AnsweredExactly : Begin → ℕ → View → View → Record → Option Answer → Type 0
 AnsweredExactly begin segment old new task (Some answer) = MovedInTurn begin old new 1
     (deed_of segment task answer ∷ [])

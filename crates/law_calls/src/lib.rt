@@ -2,7 +2,7 @@
 //! answer that its record has (profile).
 //!
 //! There is no code to run here: definitions stand in `specs`, and the functions are laws over them, with an empty
-//! body. Each law takes what a call of `shared_unit` ensures, and tells the piece of work that it is. Those of calls
+//! body. Each law takes what a call of `shared_unit` ensures, and says which piece of work it is. Those of calls
 //! that answer a record are lemmas of `proofs`, which those of other crates cite: read `protecting_answers` first.
 #![tactic(auto)]
 

@@ -50,7 +50,7 @@ abbrev pub doers : ℕ → List View → List Doer
 doers id [] = []
 doers id (v ∷ vs) = doer id v.numbers ∷ doers (suc id) vs
 
--- the key of a row. What a book tells is stored, so its mark is the durable one too
+-- the key of a row. What a book shows is stored, so its mark is the durable one too
 abbrev pub key_at : List ℕ → Known → ℕ → ℕ → Key
 key_at words book row id = record {
   id = id;

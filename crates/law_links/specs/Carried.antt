@@ -29,7 +29,7 @@ pub record IsDataField (binding : Binding) (clear field : List ℕ) : Type 0 whe
   pub framed : IsFrame (clear_layout binding.suite binding.link.layout) parts clear
   pub field_is : field ≡ room_of parts
 
--- the binding that the checks of a frame to be protected found, in the state of the epoch that the answer tells
+-- the binding that the checks of a frame to be protected found, in the state of the epoch that the answer has
 abbrev pub IsSentUnder : Given → Binding → Type 0
 IsSentUnder given binding = protect_reply given.course.begin.plan (state_in given.course given.deed.answer.position)
     given.deed.task.link given.deed.task.octets

@@ -54,7 +54,7 @@ pub record HasDone (begin : Begin) (first now : View) (places : List Place) (ans
       × Lined (TakeTurns layout) (log_of now) now.turn.made (length (records_of places) + drawers (records_of places))
       pieces
 
--- One lane alone: each record moved the words as its answer tells, and where no other worker made a line, the answered
+-- One lane alone: each record moved the words as its answer says, and where no other worker made a line, the answered
 -- ones were served in turn from the entries that stood in the first view; they made all that stand but what a record
 -- without an answer left. If not all entries stand, it was so at first, or an answer has told it.
 pub record RunAlone (begin : Begin) (first now : View) (places : List Place) (answers : List Answer) : Type 0 where

@@ -68,7 +68,7 @@ pub record IsUnhindered (call : CallSeen) (ends : RunEnds call) (plan : PlanLine
 abbrev pub NoneWants : List Answer → Type 0
 NoneWants answers = All (λ answer. answer.code ≢ NO_MEMORY) answers
 
--- none of the answers tells a fault of the site or lack of memory: none is 31, 32 or 33
+-- none of the answers names a fault of the site or lack of memory: none is 31, 32 or 33
 abbrev pub NoneFails : List Answer → Type 0
 NoneFails answers = All (λ answer. (¬ SaysSiteFailed answer) × (answer.code ≢ NO_MEMORY)) answers
 

@@ -28,7 +28,7 @@ pub fn one_input_is_handled_alike()
 }
 
 /// Law: two calls over one image that handled the same records, all of one lane, and answered each, have the same
-/// answers, if none of these tells a fault of the site or lack of memory: whatever the statuses. If the site failed in
+/// answers, if none of these names a fault of the site or lack of memory: whatever the statuses. If the site failed in
 /// neither, not even at a release, they have the same entries too.
 pub fn one_lane_answers_alike()
     ensures { (call other : CallSeen) (run : RunEnds call) (again : RunEnds other) (plan : PlanLines) (state : State)
@@ -45,7 +45,7 @@ pub fn one_lane_answers_alike()
 }
 
 /// Law: two calls over one image that handled the same records, all of one lane, give the same answers as far as both
-/// have answers and none of these tells a fault of the site or lack of memory. So far they made the same entries, with
+/// have answers and none of these names a fault of the site or lack of memory. So far they made the same entries, with
 /// which both histories begin. So it is whatever the statuses, and also where the disk failed later, or a full history,
 /// or a put that failed, left records without answers.
 pub fn one_lane_fronts_alike()

@@ -30,7 +30,7 @@ pub fn due_is_put()
         → call.site_after.trace.now.sunk ≡ call.site.trace.now.sunk ++ due_octets call run.account) }
 {}
 
-/// Law: an answer that tells a fault of the site makes the status that of a fault of the site.
+/// Law: an answer that names a fault of the site makes the status that of a fault of the site.
 pub fn faults_are_told()
     ensures { (call : CallSeen) (run : RunEnds call) (k : ℕ) (default : Answer) → k < length run.account.answers
         → SaysSiteFailed (slice_index_or run.account.answers k default) → call.status ≡ SITE_FAULT }

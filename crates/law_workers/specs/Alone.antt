@@ -7,7 +7,7 @@ use Rattle.run_promise.specs.Words.{Move}
 use Rattle.law_workers.specs.Exact.{Exact}
 use Rattle.law_workers.specs.InTurn.{ServedBetween, ServedInTurn}
 
--- Of so many records these were answered. Each of them moved the words once, as its answer tells; of a record without
+-- Of so many records these were answered. Each of them moved the words once, as its answer says; of a record without
 -- an answer there may be one move more. All lines that the worker made since the old view are of these records.
 pub record MovedExactly (begin : Begin) (old new : View) (count : ℕ) (deeds : List Deed) : Type 0 where
   pub made : List ℕ

@@ -32,9 +32,9 @@ course_in begin view = record {
   entries = entries_in view;
 }
 
--- where the answer stands, between what was seen before and after; an entry that it tells stands in the book, behind
+-- where the answer stands, between what was seen before and after; an entry that it names stands in the book, behind
 -- the
--- epoch that was seen before, and a count that it tells is one of all entries
+-- epoch that was seen before, and a count that it has is one of all entries
 pub record StandsWithin (begin : Begin) (old new : View) (deed : Deed) : Type 0 where
   pub entry : IsTrue (tells_entry deed) → (length (entries_in old) < deed.answer.position)
       × (deed.answer.position ≤ length (entries_in new))

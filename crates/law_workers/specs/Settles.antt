@@ -10,7 +10,7 @@ use Rattle.run_promise.specs.Numbers.{mark_of}
 use Rattle.run_promise.specs.Call.{Begin}
 use Rattle.law_workers.specs.Views.{log_of, entries_in, IsRow}
 
--- What the first put behind a segment tells of the book that it found: so many lines and entries stood there, so many
+-- What the first put behind a segment shows of the book that it found: so many lines and entries stood there, so many
 -- of the entries were stored, whose epoch is not below the one that the worker had seen, and whose marks are above each
 -- number that the worker has spent on a row of the table. No fewer stood than the worker knew of, and no more once the
 -- site had failed.

@@ -78,7 +78,7 @@ starting v = record { numbers = newcomer v.numbers; turn = beginner v.turn }
 abbrev pub meeting : View → View → View
 meeting v w = record { numbers = joined v.numbers w.numbers; turn = merged v.turn w.turn }
 
--- What a join tells of the two views: both are of an earlier time than the joined one, and neither drew a number or
+-- What a join shows of the two views: both are of an earlier time than the joined one, and neither drew a number or
 -- made a place that the other did.
 pub record Meets (rows : ℕ) (v w : View) : Type 0 where
   pub earlier : Earlier v.turn.known (meeting v w).turn.known

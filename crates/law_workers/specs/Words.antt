@@ -30,7 +30,7 @@ abbrev pub moves_add : ℕ → List (ℕ × Move) → ℕ
 moves_add row [] = 0
 moves_add row (own ∷ moves) = adds row own.1 + moves_add row moves
 
--- the answer tells a move of its record
+-- the answer shows a move of its record
 abbrev pub TellsOne : State → List Entry → List (ℕ × Move) → Deed → Type 0
 TellsOne start entries moves deed =
     (move : Move) × Contains moves (deed.task.index, move) × Tells start entries deed move
@@ -41,7 +41,7 @@ IsDrawnBy moves line = (entry : Entry) → line ≡ Some (lines.Entry entry) →
     → (index : ℕ) × (row : ℕ) × (number : ℕ) × (entry.seen ≡ Number number) × Contains moves (index, Drew row number)
 
 -- From the old view to the new one a worker moved the words so, with these records, whatever others moved meanwhile: by
--- no more moves than there are records with the number, an answered one by a move that its answer tells. Each reserve
+-- no more moves than there are records with the number, an answered one by a move that its answer shows. Each reserve
 -- that it made is of a number that it drew. Each fact stays true while the views grow apart, and none looks at the
 -- order
 -- of the records.

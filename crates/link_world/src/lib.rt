@@ -1,6 +1,6 @@
 //! A link between two units (profile): it loses, repeats and reorders released frames, and delivers no others.
 //!
-//! [`link_run`] tells what arrives of the frames that were released; [`fate`] what becomes of each frame of a drill.
+//! [`link_run`] says what arrives of the frames that were released; [`fate`] what becomes of each frame of a drill.
 //! Read `specs/Link.antt` first.
 #![tactic(auto)]
 

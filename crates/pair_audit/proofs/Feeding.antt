@@ -369,7 +369,8 @@ tells_use_as fed answer code key number old new told says is knows feeds =
 
 pub knows_acceptance_as : (fed : List Answer) (answer : Answer) (code key number : ℕ) (old new : Audit)
     (told : Option Repeat)
-    → HasHead code key number answer → SaysAcceptance code → KnowsAudit fed old → FeedsAcceptance old new key number told
+    → HasHead code key number answer → SaysAcceptance code → KnowsAudit fed old
+    → FeedsAcceptance old new key number told
     → KnowsAudit (fed ++ answer ∷ []) new
 knows_acceptance_as fed answer code key number old new told says is knows feeds =
     knows_acceptance fed answer old new told (says.code_is ∙ is) knows
@@ -377,7 +378,8 @@ knows_acceptance_as fed answer code key number old new told says is knows feeds 
 
 pub tells_acceptance_as : (fed : List Answer) (answer : Answer) (code key number : ℕ) (old new : Audit)
     (told : Option Repeat)
-    → HasHead code key number answer → SaysAcceptance code → KnowsAudit fed old → FeedsAcceptance old new key number told
+    → HasHead code key number answer → SaysAcceptance code → KnowsAudit fed old
+    → FeedsAcceptance old new key number told
     → TellsOf fed answer told
 tells_acceptance_as fed answer code key number old new told says is knows feeds =
     tells_acceptance fed answer old new told (says.code_is ∙ is) knows

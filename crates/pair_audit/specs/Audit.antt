@@ -1,4 +1,4 @@
--- What an audit knows, and what it tells of an answer (profile).
+-- What an audit knows, and what it says of an answer (profile).
 use Rattle.std.specs.Prelude.{◌≡◌, ◌⊎◌, ℕ, ◌+◌, ◌==◌, ◌&&◌, ◌||◌, not, Bool, true, false, if◌then◌else◌, List}
 use Rattle.std.specs.Prelude.{length, take, slice_get, Option, Some, None, MatchOption, unwrap_or}
 use Rattle.std.specs.List.{All, count_by}

@@ -34,7 +34,7 @@ fn placed(line: &[u8]) -> Option<(u64, u64)>
     Some((number_of(channel)?, number_of(link)?))
 }
 
-/// Whether a line puts this channel on such a link.
+/// Whether a line has this channel on such a link.
 fn puts_on(plan: &Plan, channel: u8, line: &[u8]) -> bool
     ensures { result ≡ puts_on plan.now.links channel (words_of line.now) }
 {

@@ -28,7 +28,7 @@ pub struct PlanNote {
     pub text: Vec<u8>,
 }
 
-/// Puts an octet of a word: as it is if it is visible ASCII, else `\x` and two digits.
+/// Writes an octet of a word: as it is if it is visible ASCII, else `\x` and two digits.
 fn put_octet(text: &mut Vec<u8>, octet: u8) -> Result<(), NoMemory> {
     if octet.is_ascii_graphic() {
         return put_octets(text, &[octet]);
@@ -38,7 +38,7 @@ fn put_octet(text: &mut Vec<u8>, octet: u8) -> Result<(), NoMemory> {
     put_octets(text, &[b'\\', b'x', high, low])
 }
 
-/// Puts a word: its first octets.
+/// Writes a word: its first octets.
 fn put_seen(text: &mut Vec<u8>, word: &[u8]) -> Result<(), NoMemory> {
     put_octets(text, b" \"")?;
     let mut shown: u32 = 0;
@@ -66,7 +66,7 @@ fn may_show(line: &[u8], place: u32, word: &[u8]) -> bool {
     word.len() < LEAST_OF_KEY || !are_digits(word)
 }
 
-/// Puts where a word stands, and the word itself.
+/// Writes where a word stands, and the word itself.
 fn put_place(text: &mut Vec<u8>, line: &[u8], word: u32) -> Result<(), NoMemory> {
     let mut column: u64 = 1;
     let mut place: u32 = 1;

@@ -87,7 +87,7 @@ fn said(alloc: Global, text: &[u8]) -> Result<(PlanEnd, Vec<u8>), NoMemory>
     }
 }
 
-/// Puts what is said of a text.
+/// Writes what is said of a text.
 fn put_said<O: Site>(alloc: Global, sink: &mut O, text: &[u8]) -> PlanEnd
     ensures ends { IsTrue O.told
         → PutsPlan text.now (O.trace sink.old).now.sunk (O.trace sink.new).now.sunk result }
@@ -109,7 +109,8 @@ fn zeros(alloc: Global, count: usize) -> Result<Vec<u8>, AllocError>
     vec![in alloc; 0; count]
 }
 
-/// Reads a plan to its end into the room, which has one octet more than the longest plan, and puts what is said of it.
+/// Reads a plan to its end into the room, which has one octet more than the longest plan, and writes what is said of
+/// it.
 fn collect_and_put<S: Source, O: Site>(
     alloc: Global,
     source: &mut S,
@@ -129,7 +130,7 @@ fn collect_and_put<S: Source, O: Site>(
     }
 }
 
-/// Reads a plan to its end, and puts a summary of the state that it makes, or a line for each line at fault, the one
+/// Reads a plan to its end, and writes a summary of the state that it makes, or a line for each line at fault, the one
 /// that `init` names first.
 pub fn put_plan<S: Source, O: Site>(alloc: Global, source: &mut S, sink: &mut O) -> PlanEnd
     ensures ends { IsTrue S.told → IsTrue O.told

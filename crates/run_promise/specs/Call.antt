@@ -23,7 +23,7 @@ site_seen trace faults puts site = record { trace = trace site; faults = faults 
 
 -- ---- what a run began with
 
--- How many rows the counters have; whether the site tells what it holds; the plan of the image, and the state that it
+-- How many rows the counters have; whether the site shows what it holds; the plan of the image, and the state that it
 -- shows.
 pub record Begin : Type 0 where
   pub rows : ℕ
@@ -33,7 +33,7 @@ pub record Begin : Type 0 where
 
 -- ---- the call
 
--- a call: source and site before and after it, whether the site tells what it holds, and the status and the entries
+-- a call: source and site before and after it, whether the site shows what it holds, and the status and the entries
 -- that
 -- it answers
 pub record CallSeen : Type 0 where

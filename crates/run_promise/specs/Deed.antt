@@ -57,7 +57,7 @@ tells_epoch begin deed =
     is_protected deed.task.kind && (has_channel begin.plan deed.task.link deed.task.octets && nat_le deed.answer.code
     EXHAUSTED)
 
--- the epoch that an ordered answer tells
+-- the epoch that an ordered answer has
 abbrev pub epoch_told : List Entry → Deed → ℕ
 epoch_told history deed = if is_protected deed.task.kind then deed.answer.position else epoch_after
     (take deed.answer.position history)

@@ -184,7 +184,7 @@ pub record RunEnds (call : CallSeen) : Type 0 where
   pub after_later : account.faults_when_put ≤ call.site_after.faults
   pub quiet : call.status ≢ status.SITE_FAULT → StoodUntilRelease call account
   pub bounded : length call.entries ≤ MOST_ENTRIES
-  -- each monitoring message has the answer of the log of the answers before it, whatever the site tells
+  -- each monitoring message has the answer of the log of the answers before it, whatever the site shows
   pub reports : AreReported [] (deeds_in account)
   -- by what the image at the entry shows: there is no third case
   pub by_image : IsTrue call.told → HasServed call account ⊎ HasRefused call account

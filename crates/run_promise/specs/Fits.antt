@@ -130,7 +130,7 @@ pub record MayAppendOnce (near : ℕ → ℕ → Type 0) (course : Course) (task
 
 -- ---- frames protected
 
--- the frame is bound in the state of the epoch that the answer tells
+-- the frame is bound in the state of the epoch that the answer has
 pub record IsBound (course : Course) (task : Record) (answer : Answer) : Type 0 where
   pub reached : answer.position ≤ epoch_after course.entries
   pub binding : Binding
@@ -153,7 +153,7 @@ pub record IsExhausted (near : ℕ → ℕ → Type 0) (course : Course) (task :
   pub is_near : near answer.key answer.number
   pub at_end : end_of answer.key ≤ answer.number
 
--- The checks tell the answer, in the state of the epoch that it tells. Where the plan is enough for them it tells none:
+-- The checks tell the answer, in the state of the epoch that it has. Where the plan is enough for them it has none:
 -- the position is 0, or the frame is of a channel.
 pub record IsUnbound (course : Course) (task : Record) (answer : Answer) : Type 0 where
   pub reached : answer.position ≤ epoch_after course.entries
@@ -164,7 +164,7 @@ pub record IsUnbound (course : Course) (task : Record) (answer : Answer) : Type 
 
 -- ---- frames opened, and commands
 
--- the answer tells the place of this entry, behind it
+-- the answer names the place of this entry, behind it
 pub record StandsAt (course : Course) (answer : Answer) (entry : Entry) : Type 0 where
   pub least : 1 ≤ answer.position
   pub there : slice_get course.entries (answer.position - 1) ≡ Some entry
@@ -181,7 +181,7 @@ pub record IsOpenAnswer (course : Course) (task : Record) (answer : Answer) : Ty
   pub stands : StandsAt course answer (frame_entry course.begin.plan (state_before course answer) task.index reply)
   pub told : told_by answer ≡ opened_told reply field
 
--- the step tells the answer, in the state before the record's entry
+-- the step gives the answer, in the state before the record's entry
 pub record IsCommandAnswer (course : Course) (task : Record) (answer : Answer) : Type 0 where
   pub seen : Seen
   pub change : Change
@@ -192,7 +192,7 @@ pub record IsCommandAnswer (course : Course) (task : Record) (answer : Answer) :
 
 -- ---- what a record of any kind but Monitor may be answered
 
--- the answer tells a count of faults that rose since the opening, and the count of all entries
+-- the answer has a count of faults that rose since the opening, and the count of all entries
 pub record TellsRisenCount (course : Course) (code : ℕ) (answer : Answer) : Type 0 where
   pub told : told_by answer ≡ counting code 0 answer.number
   pub rose : Rose course.faults_before answer.number

@@ -134,7 +134,7 @@ pub record AloneShown (begin : Begin) (history : List Entry) (task : Record) (re
   pub step : IsStepOf (now begin (history ++ reserve)) task.octets seen (change, reply)
 
 module _ (begin : Begin) (history : List Entry) where
-  -- the step tells the answer, and an entry says so
+  -- the step gives the answer, and an entry says so
   pub record AloneHandled (task : Record) (answer : Answer) (own : List Entry) (move : Move) : Type 0 where
     pub reserve : List Entry
     pub is : AloneShown begin history task reserve move
@@ -156,7 +156,7 @@ module _ (begin : Begin) (history : List Entry) where
   abbrev pub AloneServes : Record → Answer → List Entry → Move → Type 0
   AloneServes task answer own move = (SITE_FAULT ≤ answer.code) ⊎ ServesKind task.kind task answer own move
 
--- an append has failed: before, or as this answer tells
+-- an append has failed: before, or as this answer says
 abbrev pub has_failed : Bool → Answer → Bool
 has_failed before answer = before || (answer.code == SITE_FAULT)
 

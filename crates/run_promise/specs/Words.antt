@@ -74,7 +74,7 @@ abbrev pub Runs : ℕ → (ℕ → ℕ) → List Move → Type 0
 Runs rows words [] = ⊤
 Runs rows words (move ∷ moves) = IsAt rows words move × Runs rows (word_after words move) moves
 
--- ---- which move an answer tells
+-- ---- which move an answer says
 
 module _ (start : State) (entries : List Entry) where
   -- the state after the first p entries
@@ -90,7 +90,7 @@ module _ (start : State) (entries : List Entry) where
   Shown state task need of move = (key : ℕ) × (row : ℕ) × IsNeedOf state task.octets (need key) × HasRow key row
       × (move ≡ of row)
 
-  -- What a command saw tells its move: a word that was only looked at was left, or raised to 1; a word from which the
+  -- What a command saw shows its move: a word that was only looked at was left, or raised to 1; a word from which the
   -- message asks that the numbers go on was raised to the number asked for, or left above it; a number was drawn; the
   -- key had none left.
   abbrev pub TellsSeen : State → Record → Seen → Move → Type 0
@@ -105,7 +105,7 @@ module _ (start : State) (entries : List Entry) where
       Shown state task (λ key. needs.Number key) (λ row. Found row number) move
       ⊎ Shown state task (λ key. needs.Number key) (λ row. Overdrew row number) move
 
-  -- the answer to a frame that is protected tells its move: the number used, the word or number at the end, or none if
+  -- the answer to a frame that is protected shows its move: the number used, the word or number at the end, or none if
   -- it is not bound, or memory ran out for it
   pub record TellsProtect (deed : Deed) (move : Move) : Type 0 where
     pub protected : deed.answer.code ≡ PROTECTED → (row : ℕ) × HasRow deed.answer.key row
@@ -115,7 +115,7 @@ module _ (start : State) (entries : List Entry) where
     pub unbound : (deed.answer.code ≡ CLEAR) ⊎ ((LAYOUT ≤ deed.answer.code) × (deed.answer.code ≤ STATE)) → move ≡ Kept
     pub wanting : deed.answer.code ≡ NO_MEMORY → move ≡ Kept
 
-  -- a command's answer tells it by its entry
+  -- a command's answer shows it by its entry
   pub record TellsCommand (deed : Deed) (move : Move) : Type 0 where
     pub entry : (deed.answer.code ≡ DONE) ⊎ (deed.answer.code ≡ REFUSED) → (e : Entry)
         × (slice_get entries (deed.answer.position - 1) ≡ Some e)
@@ -145,12 +145,12 @@ abbrev pub adds_each : ℕ → (ℕ → Move) → List Record → ℕ
 adds_each row move_of [] = 0
 adds_each row move_of (task ∷ tasks) = adds row (move_of task.index) + adds_each row move_of tasks
 
--- A count that the answer tells has the entry at place p, which was made for the record with this index, if that record
+-- A count in the answer has the entry at place p, which was made for the record with this index, if that record
 -- comes before the answer's own, and only then.
 abbrev pub CountsEntry : ℕ → ℕ → Deed → Type 0
 CountsEntry p index deed = IsTrue (tells_count deed) → ((p < deed.answer.position) ↔ (index < deed.task.index))
 
--- Each record that was handled made one move, on whichever lane, and its answer tells it. Of a record without an
+-- Each record that was handled made one move, on whichever lane, and its answer shows it. Of a record without an
 -- answer,
 -- of one that is answered 31 or 32 (but an Open), and of a command that is answered 33, the move may be any one that
 -- lies between the marks at the start and the words, as each move does. Each reserve, of the first `ends` entries, is

@@ -28,7 +28,7 @@ pub enum RunEnd {
 }
 
 impl RunEnd {
-    /// The status that tells it.
+    /// The status that says so.
     pub fn status(self) -> u8
         ensures { result ≡ end_status self }
     {

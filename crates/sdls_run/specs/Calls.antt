@@ -17,7 +17,7 @@ use Rattle.unit_drill.specs.OverLink.{EndsLinkDrill}
 
 -- ---- what it read, and what failed
 
--- the input, if the source tells it
+-- the input, if the source shows it
 abbrev pub IsInputOf : CallSeen → List ℕ → Type 0
 IsInputOf call input = IsTrue call.source.told → input ≡ call.source.left
 

@@ -2,7 +2,7 @@
 //!
 //! [`run`] serves the words after the program's name: `check KEY` judges one AOS transfer frame (CCSDS 732.0-B-4) that
 //! carries a CMAC (CCSDS 355.0-B-2), `init` makes the image of a unit from a plan, `run` serves a recorded input of
-//! frames to protect, frames to open and commands, `stat` tells what an image holds, `audit` looks for repeats in what
+//! frames to protect, frames to open and commands, `stat` prints what an image holds, `audit` looks for repeats in what
 //! runs wrote, and `drill N` protects and opens N frames with two units in memory, `drill link N` over a link between
 //! them; every other list of words is answered with the usage line. [`run_plain`] serves the words that need no
 //! threads.
@@ -16,6 +16,8 @@ mod top;
 
 // The laws on what `run` promises: of two units on one link, of lives, of what a status says, and of one lane alone.
 pub use cli_check::{Refusal, check_frame};
+pub use cli_image::{InitEnd, run_plain};
+pub use cli_run::{Gate, OpenGate};
 pub use law_links::{
     accepted_in_order, no_triple_twice, one_device_in_a_life, two_units_by_covered_octets,
     two_units_on_one_link,
@@ -29,6 +31,4 @@ pub use law_runs::{
 };
 pub use laws::{audit_passes_a_life, calls_are_a_life};
 pub use record_io::{Outcome, status};
-pub use cli_image::{InitEnd, run_plain};
 pub use top::run;
-pub use cli_run::{Gate, OpenGate};

@@ -8,15 +8,15 @@ ghost use Rattle.command_words.specs.Words.{IsUnread, command_of};
 ghost use Rattle.sdls_run.specs.Calls.{Audits, Checks, Drills, DrillsOverLink, EndsWithUsage, MakesImage, PrintsState};
 
 use crate::laws::{sinking_keeps_lives, stat_keeps_lives};
+use cli_image::run_plain;
+use cli_run::{Gate, run_recorded};
 use command_words::{Command, command_of};
 use record_io::Outcome;
 use sdls_outside::{Site, Source};
-use cli_image::run_plain;
 use std::alloc::Global;
 use std::sync::Wait;
 use std::thread::Threads;
 use unit_drill::{drill, drill_link};
-use cli_run::{Gate, run_recorded};
 
 /// Serves the words after the program's name, and answers the status, the site and the run's entries.
 ///

@@ -57,7 +57,7 @@ pub record IsUsed (plan : PlanLines) (link : ℕ) (clear : List ℕ) (p : Permit
   pub frame : IsOfPermit plan p clear
   pub trusted : IsTrueFor p w
 
--- a fact of the epoch that an answer tells
+-- a fact of the epoch that an answer has
 abbrev pub IfEpoch : Protected → (ℕ → Type 0) → Type 0
 IfEpoch (answers.Done d) P = P d.epoch
 IfEpoch answers.Clear P = ⊤

@@ -1,4 +1,4 @@
--- What a book tells the counters, and what can be read of it (profile).
+-- What a book shows the counters, and what can be read of it (profile).
 use Rattle.std.specs.Prelude.{ℕ, length}
 use Rattle.unit_state.specs.declared.state.State.{State}
 use Rattle.unit_state.specs.History.{at_epoch}

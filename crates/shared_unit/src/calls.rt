@@ -34,7 +34,7 @@ impl<O: Site> Unit<O> {
         count
     }
 
-    /// Hands octets to the site's sink. It makes no entry, and still puts after a fault of the disk.
+    /// Hands octets to the site's sink. It makes no entry, and still writes after a fault of the disk.
     pub fn put<R: Wait>(
         &self,
         rt: &R,

@@ -21,8 +21,8 @@ mod permit;
 mod permitting;
 mod protecting;
 mod ready;
-mod sharing;
 mod shared_book;
+mod sharing;
 mod under_turn;
 mod unit;
 

@@ -1,4 +1,4 @@
--- The text that tells the state of a unit (profile): the slots, each key, each association, a line each.
+-- The text of the state of a unit (profile): the slots, each key, each association, a line each.
 use Rattle.std.specs.Prelude.{ℕ, ◌+◌, ◌==◌, if◌then◌else◌, List, [], ◌∷◌, ◌++◌, suc, zero, codes, decimal, unwrap_or}
 use Rattle.std.specs.Option.{option_map_or}
 use Rattle.sdls_base.specs.declared.states.KeyState.{KeyState}

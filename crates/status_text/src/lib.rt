@@ -1,4 +1,4 @@
-//! The text that tells the state of a unit, a line each for the slots, the keys and the associations (profile).
+//! The text of the state of a unit, a line each for the slots, the keys and the associations (profile).
 //!
 //! [`status_text`] is the one call.
 #![tactic(auto)]

@@ -36,7 +36,7 @@ pub(crate) fn put_key(text: &mut Vec<u8>, row: &KeyRow) -> Result<(), NoMemory>
     put_octets(text, b"\n")
 }
 
-/// Puts the back window, if there is one.
+/// Writes the back window, if there is one.
 fn put_back(text: &mut Vec<u8>, back: u8) -> Result<(), NoMemory>
     ensures { OnOk result (text.new.items ≡ text.old.items ++ back_text back) }
 {
@@ -47,7 +47,7 @@ fn put_back(text: &mut Vec<u8>, back: u8) -> Result<(), NoMemory>
     put_decimal(text, u64::from(back))
 }
 
-/// Puts the key of an association, and its window.
+/// Writes the key of an association, and its window.
 #[tactic(auto, unfolding(crate::specs::Text::held_text))]
 fn put_key_and_window(text: &mut Vec<u8>, row: &SaRow) -> Result<(), NoMemory>
     ensures { OnOk result (text.new.items ≡ text.old.items ++ key_and_window row.now) }

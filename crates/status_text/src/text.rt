@@ -11,7 +11,7 @@ use sdls_base::NoMemory;
 use std::alloc::Global;
 use unit_state::State;
 
-/// Puts a line for each of some keys, in their order.
+/// Writes a line for each of some keys, in their order.
 #[tactic(auto, unfolding(crate::specs::Text::key_lines))]
 fn put_key_lines(text: &mut Vec<u8>, rows: &[&KeyRow]) -> Result<(), NoMemory>
     ensures put { OnOk result (text.new.items ≡ text.old.items ++ key_lines (map (λ row. row.now) rows.now)) }
@@ -23,7 +23,7 @@ fn put_key_lines(text: &mut Vec<u8>, rows: &[&KeyRow]) -> Result<(), NoMemory>
     Ok(())
 }
 
-/// Puts a line for each key, ascending by identifier.
+/// Writes a line for each key, ascending by identifier.
 fn put_keys(text: &mut Vec<u8>, rows: &[KeyRow]) -> Result<(), NoMemory>
     requires { IsKeyBook rows.now }
     ensures { OnOk result (text.new.items ≡ text.old.items ++ keys_text rows.now 1 highest_identifier) }

@@ -23,7 +23,7 @@ fn end_of(end: AnswersEnd) -> End
     }
 }
 
-/// Takes the next answer and puts its line, or says why no line follows.
+/// Takes the next answer and writes its line, or says why no line follows.
 fn put_next<S: Source, O: Site>(
     alloc: Global,
     form: Form,
@@ -50,8 +50,8 @@ fn put_next<S: Source, O: Site>(
     }
 }
 
-/// Puts the line of each answer of the source in this form before it takes the next one. If an answer is cut, or octets
-/// are none, the lines before it are put.
+/// Writes the line of each answer of the source in this form before it takes the next one. If an answer is cut, or
+/// octets are none, the lines before it are put.
 pub fn put_answers<S: Source, O: Site>(
     alloc: Global,
     form: Form,

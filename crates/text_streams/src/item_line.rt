@@ -19,7 +19,7 @@ use text_words::{
     put_spaced_number, put_spaced_octets,
 };
 
-/// Puts the lane, the link and the octets of a frame.
+/// Writes the lane, the link and the octets of a frame.
 fn put_frame(
     alloc: Global,
     text: &mut Vec<u8>,
@@ -35,7 +35,7 @@ fn put_frame(
     put_spaced_octets(alloc, text, octets)
 }
 
-/// Puts the words of a monitoring message.
+/// Writes the words of a monitoring message.
 fn put_message(alloc: Global, text: &mut Vec<u8>, message: &Monitoring) -> Result<(), NoMemory>
     ensures { OnOk result (text.new.items ≡ text.old.items ++ joined (monitoring_words message.now)) }
 {
@@ -52,7 +52,7 @@ fn put_message(alloc: Global, text: &mut Vec<u8>, message: &Monitoring) -> Resul
     }
 }
 
-/// Puts the words of what a Monitor record asks.
+/// Writes the words of what a Monitor record asks.
 #[tactic(auto, unfolding(input_text::specs::Monitor::asked_words))]
 fn put_asked(alloc: Global, text: &mut Vec<u8>, asked: &Asked) -> Result<(), NoMemory>
     ensures { OnOk result (text.new.items ≡ text.old.items ++ joined (asked_words asked.now)) }
@@ -66,7 +66,7 @@ fn put_asked(alloc: Global, text: &mut Vec<u8>, asked: &Asked) -> Result<(), NoM
     }
 }
 
-/// Puts where a Monitor record stands, if its lane or its link is not 0.
+/// Writes where a Monitor record stands, if its lane or its link is not 0.
 fn put_at(text: &mut Vec<u8>, lane: u8, link: u8) -> Result<(), NoMemory>
     ensures { OnOk result (text.new.items ≡ text.old.items ++ at_text lane link) }
 {
@@ -79,7 +79,7 @@ fn put_at(text: &mut Vec<u8>, lane: u8, link: u8) -> Result<(), NoMemory>
     put_octets(text, b" ")
 }
 
-/// Puts the words of a Monitor record.
+/// Writes the words of a Monitor record.
 fn put_monitor(
     alloc: Global,
     text: &mut Vec<u8>,
@@ -95,7 +95,7 @@ fn put_monitor(
     Ok(())
 }
 
-/// Puts the words of a line.
+/// Writes the words of a line.
 fn put_words(alloc: Global, text: &mut Vec<u8>, line: &Line) -> Result<(), NoMemory>
     ensures { OnOk result (text.new.items ≡ text.old.items ++ joined (line_words line.now)) }
 {
@@ -124,7 +124,7 @@ fn put_words(alloc: Global, text: &mut Vec<u8>, line: &Line) -> Result<(), NoMem
     }
 }
 
-/// Puts the words of a line, and the line feed. After an error a front of it may have been put.
+/// Writes the words of a line, and the line feed. After an error a front of it may have been put.
 pub(crate) fn put_line(alloc: Global, text: &mut Vec<u8>, line: &Line) -> Result<(), NoMemory>
     ensures { OnOk result (text.new.items ≡ text.old.items ++ line_text line.now) }
 {

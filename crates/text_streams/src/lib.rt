@@ -1,7 +1,7 @@
 //! Recorded input and answers as text, and outputs of runs as one recording, from a source to a sink (profile). Each
 //! call streams: what is read ahead and what is not yet put is bounded, whatever the length of the input.
 //!
-//! [`put_records`] puts the recorded input that lines of text say, [`put_lines`] the lines of recorded input, and
+//! [`put_records`] writes the recorded input that lines of text say, [`put_lines`] the lines of recorded input, and
 //! [`put_answers`] the lines of answers, as words or as JSON objects. Each says by its [`End`] why the input was read
 //! no further.
 //!
@@ -10,12 +10,12 @@
 //!
 //! [`next_line`] takes a line of text.
 //!
-//! [`put_state_objects`] puts a JSON object for each line of what the word `stat` prints, and says by its [`StateEnd`]
-//! why the input was read no further. [`read_state_line`] reads one line, and [`put_state_object`] puts the object of
-//! one. [`rows_have_lines`] is the law that what `stat` prints of keys and associations are such lines.
+//! [`put_state_objects`] writes a JSON object for each line of what the word `stat` prints, and says by its
+//! [`StateEnd`] why the input was read no further. [`read_state_line`] reads one line, and [`put_state_object`] writes
+//! the object of one. [`rows_have_lines`] is the law that what `stat` prints of keys and associations are such lines.
 //!
-//! A recording is what the word `audit` reads: [`begin_recording`] puts the octets that it begins with, and [`put_run`]
-//! a run, which is the length of what the run wrote in 4 octets, and that.
+//! A recording is what the word `audit` reads: [`begin_recording`] writes the octets that it begins with, and
+//! [`put_run`] a run, which is the length of what the run wrote in 4 octets, and that.
 #![tactic(auto)]
 
 mod answers;

@@ -80,7 +80,7 @@ fn line_of(alloc: Global, recorded: Record) -> Result<Line, NoMemory>
     }
 }
 
-/// Puts the line of a record, with a line feed at its end. After an error a front of it may have been put.
+/// Writes the line of a record, with a line feed at its end. After an error a front of it may have been put.
 ///
 /// A command is told by its name and values where its octets are a message, and else by its octets; a monitoring
 /// message likewise.
@@ -93,7 +93,7 @@ pub fn put_record(alloc: Global, text: &mut Vec<u8>, recorded: Record) -> Result
     Ok(())
 }
 
-/// Puts the line of a fence, with a line feed at its end.
+/// Writes the line of a fence, with a line feed at its end.
 pub fn put_fence(alloc: Global, text: &mut Vec<u8>) -> Result<(), NoMemory>
     ensures { OnOk result (AddsLine (record { kind = Fence; lane = 0; link = 0; octets = [] }) text.old.items
         text.new.items) }

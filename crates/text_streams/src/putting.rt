@@ -7,7 +7,7 @@ ghost use Rattle.text_streams.specs.TextLine.{PutsRest};
 use crate::ends::End;
 use sdls_outside::{Failed, Site};
 
-/// Puts octets. After `Failed` a front of them was put.
+/// Writes octets. After `Failed` a front of them was put.
 pub fn put_octets<O: Site>(sink: &mut O, octets: &[u8]) -> Result<(), Failed>
     ensures put { IsTrue O.told → OnOk result ((O.trace sink.new).now.sunk ≡ (O.trace sink.old).now.sunk
         ++ octets.now) }
@@ -18,7 +18,7 @@ pub fn put_octets<O: Site>(sink: &mut O, octets: &[u8]) -> Result<(), Failed>
     sink.put(octets)
 }
 
-/// Puts what stands in the buffer, which is empty then. After `Failed` a front of it was put.
+/// Writes what stands in the buffer, which is empty then. After `Failed` a front of it was put.
 fn put<O: Site>(sink: &mut O, out: &mut Vec<u8>) -> Result<(), Failed>
     ensures put { IsTrue O.told → OnOk result ((O.trace sink.new).now.sunk ≡ (O.trace sink.old).now.sunk
         ++ out.old.items) }
@@ -32,7 +32,7 @@ fn put<O: Site>(sink: &mut O, out: &mut Vec<u8>) -> Result<(), Failed>
     Ok(())
 }
 
-/// Puts what stands in the buffer, if anything does: who reads has it before the next line comes.
+/// Writes what stands in the buffer, if anything does: who reads has it before the next line comes.
 pub fn put_made<O: Site>(sink: &mut O, out: &mut Vec<u8>) -> Result<(), Failed>
     ensures put { IsTrue O.told → OnOk result
         ((O.trace sink.new).now.sunk ++ out.new.items ≡ (O.trace sink.old).now.sunk ++ out.old.items) }
@@ -48,7 +48,7 @@ pub fn put_made<O: Site>(sink: &mut O, out: &mut Vec<u8>) -> Result<(), Failed>
     put(sink, out)
 }
 
-/// Puts what is left in the buffer, unless the output has failed, and answers how the run ends.
+/// Writes what is left in the buffer, unless the output has failed, and answers how the run ends.
 pub fn put_rest<O: Site>(sink: &mut O, mut out: Vec<u8>, end: End) -> End
     ensures put { IsTrue O.told → PutsRest end result (O.trace sink.old).now.sunk out.items
         (O.trace sink.new).now.sunk }

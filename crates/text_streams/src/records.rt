@@ -71,8 +71,8 @@ fn take_next<S: Source>(
     }
 }
 
-/// Reads the lines up to the end or the first fault, and puts what each says before it reads the next. The rest stands
-/// in the buffer.
+/// Reads the lines up to the end or the first fault, and writes what each says before it reads the next. The rest
+/// stands in the buffer.
 fn read_lines<S: Source, O: Site>(
     alloc: Global,
     source: &mut S,
@@ -96,8 +96,8 @@ fn read_lines<S: Source, O: Site>(
     End::Done
 }
 
-/// Puts the recorded input that the lines of the source say. Where a line is at fault the items of the lines before it
-/// are put, and nothing of it or of a later one.
+/// Writes the recorded input that the lines of the source say. Where a line is at fault the items of the lines before
+/// it are put, and nothing of it or of a later one.
 pub fn put_records<S: Source, O: Site>(alloc: Global, source: &mut S, sink: &mut O) -> End
     ensures put { IsTrue S.told → IsTrue O.told
         → PutsRecords (S.left source.old) (O.trace sink.old).now.sunk (O.trace sink.new).now.sunk result }

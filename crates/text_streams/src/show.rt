@@ -61,7 +61,7 @@ fn offset_behind(offset: u64, found: &FoundItem) -> u64
     offset.saturating_add(octets as u64)
 }
 
-/// Takes the next item and puts its line, or says why no line follows. It keeps how many octets stand before an item.
+/// Takes the next item and writes its line, or says why no line follows. It keeps how many octets stand before an item.
 fn put_next<S: Source, O: Site>(
     alloc: Global,
     source: &mut S,
@@ -98,8 +98,8 @@ fn put_next<S: Source, O: Site>(
     }
 }
 
-/// Puts the line of each item of the source before it takes the next one, up to the end or the first octets that are no
-/// item.
+/// Writes the line of each item of the source before it takes the next one, up to the end or the first octets that are
+/// no item.
 pub fn put_lines<S: Source, O: Site>(alloc: Global, source: &mut S, sink: &mut O) -> End
     ensures put { IsTrue S.told → IsTrue O.told
         → PutsLines (S.left source.old) (O.trace sink.old).now.sunk (O.trace sink.new).now.sunk result }

@@ -11,7 +11,7 @@ use text_words::{
     suite_word,
 };
 
-/// Puts how the object of a line begins.
+/// Writes how the object of a line begins.
 #[tactic(auto, unfolding(crate::specs::StateObject::line_member))]
 fn put_line_member(text: &mut Vec<u8>, word: &[u8]) -> Result<(), NoMemory>
     ensures { OnOk result (text.new.items ≡ text.old.items ++ line_member word.now) }
@@ -20,7 +20,7 @@ fn put_line_member(text: &mut Vec<u8>, word: &[u8]) -> Result<(), NoMemory>
     put_word_member(text, b"line", word)
 }
 
-/// Puts a further member whose value is a number.
+/// Writes a further member whose value is a number.
 #[tactic(auto, unfolding(crate::specs::StateObject::further_number))]
 fn put_further_number(text: &mut Vec<u8>, name: &[u8], number: u64) -> Result<(), NoMemory>
     ensures { OnOk result (text.new.items ≡ text.old.items ++ further_number name.now number) }
@@ -29,7 +29,7 @@ fn put_further_number(text: &mut Vec<u8>, name: &[u8], number: u64) -> Result<()
     put_number_member(text, name, number)
 }
 
-/// Puts a further member whose value is a string.
+/// Writes a further member whose value is a string.
 #[tactic(auto, unfolding(crate::specs::StateObject::further_word))]
 fn put_further_word(text: &mut Vec<u8>, name: &[u8], word: &[u8]) -> Result<(), NoMemory>
     ensures { OnOk result (text.new.items ≡ text.old.items ++ further_word name.now word.now) }
@@ -38,7 +38,7 @@ fn put_further_word(text: &mut Vec<u8>, name: &[u8], word: &[u8]) -> Result<(), 
     put_word_member(text, name, word)
 }
 
-/// Puts the back window, if there is one.
+/// Writes the back window, if there is one.
 fn put_back(text: &mut Vec<u8>, back: u8) -> Result<(), NoMemory>
     ensures { OnOk result (text.new.items ≡ text.old.items ++ back_member back) }
 {
@@ -130,7 +130,7 @@ fn put_members(text: &mut Vec<u8>, line: &StateLine) -> Result<(), NoMemory>
     }
 }
 
-/// Puts the object of a line and its line feed behind what there is. After an error a front of it may have been put.
+/// Writes the object of a line and its line feed behind what there is. After an error a front of it may have been put.
 pub fn put_state_object(text: &mut Vec<u8>, line: &StateLine) -> Result<(), NoMemory>
     ensures { OnOk result (text.new.items ≡ text.old.items ++ object_text line.now) }
 {

@@ -12,7 +12,7 @@ use sdls_base::NoMemory;
 use sdls_outside::{Failed, Site, Source};
 use std::alloc::Global;
 
-/// Puts the object of a line, which has this number, or says why not.
+/// Writes the object of a line, which has this number, or says why not.
 fn put_object<O: Site>(alloc: Global, sink: &mut O, number: u64, text: &[u8]) -> Option<StateEnd>
     ensures puts { IsTrue O.told
         → IfNone result (PutsText text.now (O.trace sink.old).now.sunk (O.trace sink.new).now.sunk) }
@@ -34,7 +34,7 @@ fn put_object<O: Site>(alloc: Global, sink: &mut O, number: u64, text: &[u8]) ->
     }
 }
 
-/// Takes the next line, which has this number, and puts its object, or says why no object follows.
+/// Takes the next line, which has this number, and writes its object, or says why no object follows.
 fn put_next<S: Source, O: Site>(
     alloc: Global,
     source: &mut S,
@@ -60,7 +60,7 @@ fn put_next<S: Source, O: Site>(
     }
 }
 
-/// Puts the JSON object of each line of the source before it takes the next one, up to the end or the first line that
+/// Writes the JSON object of each line of the source before it takes the next one, up to the end or the first line that
 /// `stat` does not print; nothing is put of that line or of a later one.
 pub fn put_state_objects<S: Source, O: Site>(
     alloc: Global,

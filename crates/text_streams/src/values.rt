@@ -40,7 +40,7 @@ fn procedure_of(command: &Command) -> Procedure
     }
 }
 
-/// Puts the width of a window field, and its back window if it has one.
+/// Writes the width of a window field, and its back window if it has one.
 fn put_window(text: &mut Vec<u8>, window: u64) -> Result<(), NoMemory>
     ensures { OnOk result (text.new.items ≡ text.old.items ++ all_spaced (window_words window)) }
 {
@@ -53,7 +53,7 @@ fn put_window(text: &mut Vec<u8>, window: u64) -> Result<(), NoMemory>
     put_spaced_number(text, u64::from(back))
 }
 
-/// Puts what an association is created with.
+/// Writes what an association is created with.
 fn put_association(text: &mut Vec<u8>, sa: &NewSa) -> Result<(), NoMemory>
     ensures { OnOk result (text.new.items ≡ text.old.items ++ all_spaced (value_words (commands.Create sa.now))) }
 {
@@ -64,7 +64,7 @@ fn put_association(text: &mut Vec<u8>, sa: &NewSa) -> Result<(), NoMemory>
     put_channels(text, sa.channels.as_slice())
 }
 
-/// Puts the values of a command.
+/// Writes the values of a command.
 fn put_values(alloc: Global, text: &mut Vec<u8>, command: &Command) -> Result<(), NoMemory>
     ensures { OnOk result (text.new.items ≡ text.old.items ++ all_spaced (value_words command.now)) }
 {
@@ -118,7 +118,7 @@ fn put_values(alloc: Global, text: &mut Vec<u8>, command: &Command) -> Result<()
     }
 }
 
-/// Puts the name of a command, and its values.
+/// Writes the name of a command, and its values.
 pub(crate) fn put_command(
     alloc: Global,
     text: &mut Vec<u8>,

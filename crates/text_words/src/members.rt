@@ -5,7 +5,7 @@ ghost use Rattle.text_words.specs.Members.{member, quoted};
 use crate::putting::{put_decimal, put_octets};
 use sdls_base::NoMemory;
 
-/// Puts a text between quotation marks. None that is put has a mark of its own.
+/// Writes a text between quotation marks. None that is put has a mark of its own.
 pub fn put_quoted(text: &mut Vec<u8>, word: &[u8]) -> Result<(), NoMemory>
     ensures { OnOk result (text.new.items ≡ text.old.items ++ quoted word.now) }
 {
@@ -14,7 +14,7 @@ pub fn put_quoted(text: &mut Vec<u8>, word: &[u8]) -> Result<(), NoMemory>
     put_octets(text, b"\"")
 }
 
-/// Puts the name of a member, and the colon.
+/// Writes the name of a member, and the colon.
 pub fn put_name(text: &mut Vec<u8>, name: &[u8]) -> Result<(), NoMemory>
     ensures { OnOk result (text.new.items ≡ text.old.items ++ (codes "\"" ++ (name.now ++ codes "\":"))) }
 {
@@ -23,7 +23,7 @@ pub fn put_name(text: &mut Vec<u8>, name: &[u8]) -> Result<(), NoMemory>
     put_octets(text, b"\":")
 }
 
-/// Puts a member whose value is a number.
+/// Writes a member whose value is a number.
 pub fn put_number_member(text: &mut Vec<u8>, name: &[u8], number: u64) -> Result<(), NoMemory>
     ensures { OnOk result (text.new.items ≡ text.old.items ++ member name.now (decimal number)) }
 {
@@ -31,7 +31,7 @@ pub fn put_number_member(text: &mut Vec<u8>, name: &[u8], number: u64) -> Result
     put_decimal(text, number)
 }
 
-/// Puts a member whose value is a string.
+/// Writes a member whose value is a string.
 pub fn put_word_member(text: &mut Vec<u8>, name: &[u8], word: &[u8]) -> Result<(), NoMemory>
     ensures { OnOk result (text.new.items ≡ text.old.items ++ member name.now (quoted word.now)) }
 {

@@ -7,7 +7,7 @@ use itoa::Buffer;
 use sdls_base::NoMemory;
 use std::alloc::Global;
 
-/// Puts octets behind the text.
+/// Writes octets behind the text.
 pub fn put_octets(text: &mut Vec<u8>, octets: &[u8]) -> Result<(), NoMemory>
     ensures { OnOk result (text.new.items ≡ text.old.items ++ octets.now) }
 {
@@ -15,7 +15,7 @@ pub fn put_octets(text: &mut Vec<u8>, octets: &[u8]) -> Result<(), NoMemory>
     Ok(())
 }
 
-/// Puts a number behind the text, in decimal digits.
+/// Writes a number behind the text, in decimal digits.
 pub fn put_decimal(text: &mut Vec<u8>, number: u64) -> Result<(), NoMemory>
     ensures { OnOk result (text.new.items ≡ text.old.items ++ decimal number) }
 {
@@ -23,7 +23,7 @@ pub fn put_decimal(text: &mut Vec<u8>, number: u64) -> Result<(), NoMemory>
     put_octets(text, buffer.format(number).as_bytes())
 }
 
-/// Puts a word behind a space.
+/// Writes a word behind a space.
 pub fn put_spaced(text: &mut Vec<u8>, word: &[u8]) -> Result<(), NoMemory>
     ensures { OnOk result (text.new.items ≡ text.old.items ++ spaced word.now) }
 {
@@ -31,7 +31,7 @@ pub fn put_spaced(text: &mut Vec<u8>, word: &[u8]) -> Result<(), NoMemory>
     put_octets(text, word)
 }
 
-/// Puts a number behind a space, in decimal digits.
+/// Writes a number behind a space, in decimal digits.
 pub fn put_spaced_number(text: &mut Vec<u8>, number: u64) -> Result<(), NoMemory>
     ensures { OnOk result (text.new.items ≡ text.old.items ++ spaced (decimal number)) }
 {
@@ -39,7 +39,7 @@ pub fn put_spaced_number(text: &mut Vec<u8>, number: u64) -> Result<(), NoMemory
     put_decimal(text, number)
 }
 
-/// Puts octets behind a space, in hexadecimal digits.
+/// Writes octets behind a space, in hexadecimal digits.
 pub fn put_spaced_digits(alloc: Global, text: &mut Vec<u8>, octets: &[u8]) -> Result<(), NoMemory>
     ensures { OnOk result (text.new.items ≡ text.old.items ++ spaced (encode_lower octets.now)) }
 {
@@ -47,7 +47,7 @@ pub fn put_spaced_digits(alloc: Global, text: &mut Vec<u8>, octets: &[u8]) -> Re
     put_spaced(text, digits.as_bytes())
 }
 
-/// Puts octets as a word behind a space: hexadecimal digits, or - for none.
+/// Writes octets as a word behind a space: hexadecimal digits, or - for none.
 pub fn put_spaced_octets(alloc: Global, text: &mut Vec<u8>, octets: &[u8]) -> Result<(), NoMemory>
     ensures { OnOk result (text.new.items ≡ text.old.items ++ spaced (octets_word octets.now)) }
 {

@@ -9,7 +9,7 @@ use std::process::Abort;
 use std::test::Fail;
 
 /// The site's call that syncs the gate of the second entry. Calls 0 to 24 open the image, 25 to 28 append the first
-/// entry, 29 puts the first answer, and 30 to 33 append the second entry.
+/// entry, 29 writes the first answer, and 30 to 33 append the second entry.
 const SYNC_OF_THE_SECOND_GATE: u64 = 33;
 
 // The codes of answers.
@@ -38,7 +38,7 @@ fn judge(rt: &impl Abort, heads: &[Head]) {
 }
 
 /// One frame is answered, so that numbers to 4 are reserved. Then sixteen lanes protect six frames each, and the site
-/// fails at the next reserve: that lane tells the fault, the three numbers that are left are used, and all other frames
+/// fails at the next reserve: that lane names the fault, the three numbers that are left are used, and all other frames
 /// are refused.
 #[test]
 fn a_fault_under_one_lane_stops_the_others(rt: HostRuntime) -> Result<(), Fail> {

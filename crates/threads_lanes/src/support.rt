@@ -16,7 +16,7 @@ pub(crate) struct Heard {
     pub(crate) heads: Vec<Head>,
 }
 
-/// A run over an input, on a site that holds this image and fails at these calls. It puts so many answers.
+/// A run over an input, on a site that holds this image and fails at these calls. It writes so many answers.
 pub(crate) fn told<R: Threads + Wait + Sync, G: Gate + Sync>(
     rt: &R,
     alloc: Global,

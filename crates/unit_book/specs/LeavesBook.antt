@@ -35,7 +35,7 @@ abbrev pub IsCalm : BookView → BookView → Type 0
 IsCalm old new = Rose new.opened.faults new.site.faults → length (entries_of new.log) ≤ new.standing
     → Rose old.opened.faults old.site.faults
 
--- the count that a refusal tells is that of the site, and had risen since the opening
+-- the count that a refusal has is that of the site, and had risen since the opening
 abbrev pub TellsRise : BookView → BookFault → Type 0
 TellsRise book (SiteFault count) = Rose book.opened.faults book.site.faults × (count ≡ book.site.faults)
 TellsRise book (Stopped count) = Rose book.opened.faults book.site.faults × (count ≡ book.site.faults)

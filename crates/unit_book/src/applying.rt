@@ -9,7 +9,7 @@ use crate::next::Next;
 use sdls_base::Change;
 use unit_state::State;
 
-/// Puts the state after the change in its place.
+/// Writes the state after the change in its place.
 pub(crate) fn put_next(state: &mut State, change: &Change, next: Next)
     requires allowed { Allows state.old change.now }
     requires makes { IsNextState state.old change.now next }

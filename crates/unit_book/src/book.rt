@@ -174,7 +174,7 @@ impl<O: Site> Book<O> {
         }
     }
 
-    /// Hands octets to the site's sink. It makes no entry, and still puts after a fault of the disk.
+    /// Hands octets to the site's sink. It makes no entry, and still writes after a fault of the disk.
     pub fn put(&mut self, octets: &[u8]) -> Result<(), BookFault>
         requires kept { IsKept O.told self.old }
         ensures kept { IsKept O.told self.new }

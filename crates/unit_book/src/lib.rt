@@ -2,7 +2,7 @@
 //! it.
 //!
 //! [`Book::open`] makes all checks of an image and answers the book over the state that it shows. [`Book::reserve`]
-//! stores a mark above a number that is to be used, [`Book::binding`] tells what a frame is protected under,
+//! stores a mark above a number that is to be used, [`Book::binding`] says what a frame is protected under,
 //! [`Book::accept`] opens a frame (CCSDS 355.0-B-2), and [`Book::command`] does what a message of the key and
 //! association management asks (355.1-B-1). [`Book::release`] gives back what a run did not use, and [`Book::put`]
 //! hands octets to the site's sink.

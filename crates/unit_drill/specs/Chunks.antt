@@ -55,7 +55,7 @@ pub record UnitIsOpened (plan : List ℕ) (begin : Begin) (v : View) : Type 0 wh
   pub opened : runs.IsJustOpened begin v
 
 -- From the one view to the other the unit handled these records as a segment, with these answers: all of them are
--- answered, or those before one for which its history was full. No answer tells a fault of its site, and the worker
+-- answered, or those before one for which its history was full. No answer names a fault of its site, and the worker
 -- still did all.
 pub record HandlesSegment (begin : Begin) (v w : View) (tasks : List Record) (answers : List Answer) : Type 0 where
   pub handled : (layout : Layout) (number : ℕ) → LiesIn layout number tasks

@@ -8,4 +8,5 @@ accept_tried-requires-clause-opener g c =
     let epoch = c.changes-epoch.ensures in
     let same = c.if-permit-epoch.true in
     let same_epoch : c.args.shared.now.changes ≡ c.in-Some-kept.permit.epoch = omega arith in
-    subst (λ (kept : Option OpenPermit). OpensInBook kept c.args.shared.now) c.in-Some-kept.is c.requires.kept same_epoch
+    subst (λ (kept : Option OpenPermit). OpensInBook kept c.args.shared.now) c.in-Some-kept.is c.requires.kept
+    same_epoch
