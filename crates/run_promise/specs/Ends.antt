@@ -55,7 +55,7 @@ pub record StandsAtExit (call : CallSeen) (account : Account) (state : State) : 
   -- all of it is then on the disk, its closed gates are 0, and so are the octets of the other bank and of old banks
   pub rests : ¬ Rose call.site.faults call.site_after.faults
       → IsUnopened call account ⊎ ((journal : JournalView) × IsSettled call.site_after.trace journal)
-  -- the plan in the image is then the one at the entry, octet for octet
+  -- the plan in the image is then the one at the entry, octet for octet, if the opening came to its end
   pub same_plan : ¬ Rose call.site.faults call.site_after.faults
       → IsUnopened call account ⊎ ((held call.site_after.trace.now.image).plan ≡ plan_at_entry call)
   -- whatever failed, a crash leaves an image that shows all entries but the last at least
@@ -86,8 +86,8 @@ pub record IsFenced (call : CallSeen) (account : Account) (state : State) (image
       → length (answers_octets (answers_of_first place.segment account.handled account.answers))
       ≤ length (sunk_since call sunk)
 
--- The run is sound, and each of its moments is so, or early. Each moment behind the opening is fenced. The plan in the
--- image is at each moment the one at the entry. The fields of its End have their widths.
+-- The run is sound, and each of its moments is so, or early. Each moment behind the opening is fenced. At each moment
+-- that is not early the plan in the image is the one at the entry. The fields of its End have their widths.
 pub record IsSoundCall (call : CallSeen) (account : Account) (plan : PlanLines) (state : State) : Type 0 where
   pub run : IsSound (course_of call account plan state) account.handled (deeds_in account)
   pub moments : EachMoment call.site.trace call.site_after.trace
