@@ -6,12 +6,13 @@ use denote.RattleType.{RattleType}
 use denote.Builtin.{u8}
 use denote.Struct.Field.{row_field, u64-field}
 use denote.Struct.Tuple.{TupleAt, type_at}
-use denote.Param.Send.{IsSend, IsSync, view_send, sendable}
+use denote.Param.Send.{IsSend, IsSync, shr_send, view_send, sendable}
 use denote.Param.SendFields.{as_row_send, as_row_sync, declared_send, declared_sync, variants_send}
 use denote.Hole.{as_row}
+use denote.Ref.{NamedLft}
 use Rattle.std.specs.Prelude.{[], ◌∷◌}
 use Rattle.std.specs.contracts.snapshot.Snapshot as Snapshot
-use Rattle.std.proofs.Crossing.{crosses, Box-send, Vec-send}
+use Rattle.std.proofs.Crossing.{crosses, Arc-send, Box-send, Vec-send, Vec-sync}
 use Rattle.sdls_base.specs.contracts.entry.Entry as Entry
 use Rattle.sdls_base.proofs.entry.Entry.TheSendSync as entry
 use Rattle.sdls_outside.specs.declared.site.Site as Site
@@ -25,10 +26,14 @@ use Rattle.counter_table.proofs.counters.Counters.TheSendSync as counters
 use Rattle.unit_book.specs.contracts.log.Log as Log
 use Rattle.unit_book.specs.contracts.book.Book as Book
 use Rattle.unit_book.specs.contracts.book.Book.TheInside as BookFields
+use Rattle.record_io.specs.contracts.records.Record as Record
+use Rattle.record_io.proofs.records.Record.TheSendSync as row
 use Rattle.shared_unit.specs.contracts.shared_book.SharedBook as SharedBook
 use Rattle.shared_unit.specs.contracts.shared_book.SharedBook.TheInside as SharedBookFields
 use Rattle.shared_unit.specs.contracts.shared_book.SharedBookCounted.TheImpl as counted
 use Rattle.shared_unit.specs.contracts.unit.Unit as TheUnit
+use Rattle.frame_workers.specs.contracts.crew.LaneTask as LaneTask
+use Rattle.frame_workers.proofs.lane.Lane.TheSendSync as lane
 
 snapshot_send : (T : RattleType) → IsSend (Snapshot.the_row T)
 snapshot_send T = search crosses
@@ -84,6 +89,16 @@ module _ (O : RattleType) (g : Site.Ghosts O.Denot) (s : IsSend O) where
     counters.the_sync (SharedBook.the_row O g) (counted.ghosts O g counted.no_dict) shared_book_send,
     (as_row_sync (row_field Plan.the_row) plan.the_sync, tt),
   )
+
+-- a lane's task may go to another thread
+pub task_send : (a : NamedLft) (O : RattleType) (g : Site.Ghosts O.Denot) → IsSend O → IsSend (LaneTask.the_row a O g)
+task_send a O g s = declared_send (LaneTask.the_type a O g) (
+  shr_send _ _ _ (unit_sync O g s),
+  (
+    Arc-send _ (Vec-send Record.the_row row.the_send) (Vec-sync Record.the_row row.the_sync),
+    (lane.the_send (SharedBook.the_row O g) (shared_book_send O g s), tt),
+  ),
+)
 
 -- what a closure captures may be shared
 pub captures_sync : (ν : Sym) (A B C D E : RattleType) → IsSync A → IsSync B → IsSync C → IsSync D → IsSync E

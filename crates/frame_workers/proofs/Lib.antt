@@ -9,3 +9,4 @@ pub mod Segments
 pub mod Crossing
 pub mod Bodies
 pub mod Used
+pub mod Crews

@@ -44,6 +44,12 @@ module _ {B : Type 0} (ready : Worker B → Type 0) where
         → MovedInTurn begin (view old.worker) (view new.worker) (length (of_lane old.number tasks))
         (deeds_of segment (of_lane old.number tasks) new.answers.items)
 
+  -- each of the lanes handled its records
+  pub record HaveRun (told : Bool) (tasks : List Record) (old new : List (Lane B)) : Type 0 where
+    pub many : length new ≡ length old
+    pub each : (k : ℕ) (d : Lane B) → k < length old
+        → HasRun told tasks (slice_index_or old k d) (slice_index_or new k d)
+
   -- a lane of one of the records, that was split from a worker with this view, and may run
   pub record IsSplit (tasks : List Record) (base : View) (lane : Lane B) : Type 0 where
     pub below : lane.number < LANES

@@ -20,7 +20,7 @@ use std::thread::Threads;
 
 /// A lane of a segment: its number, its worker with what the worker handles frames under, and the answers to its
 /// records, up to one for which the history was full.
-pub(crate) struct Lane<B> {
+pub struct Lane<B> {
     pub(crate) number: u8,
     pub(crate) worker: counter_table::Worker<B>,
     pub(crate) kept: [Permits; PLACES],
@@ -65,7 +65,7 @@ impl<B> Lane<B> {
 }
 
 /// Handles the records of a lane, one after the other, until the history is full.
-fn run_lane<R: Wait, O: Site, G: Gate>(
+pub(crate) fn run_lane<R: Wait, O: Site, G: Gate>(
     rt: &R,
     alloc: Global,
     unit: &Unit<O>,

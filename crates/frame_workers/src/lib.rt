@@ -6,6 +6,7 @@
 #![tactic(auto)]
 
 mod answering;
+mod crew;
 mod gate;
 mod handling;
 mod joining;
@@ -14,5 +15,6 @@ mod permits;
 mod placing;
 mod segment;
 
+pub use crew::{Crew, LaneTask, LaneWork, Team, run_segment_by};
 pub use gate::{Gate, OpenGate};
 pub use segment::{Segment, run_segment};

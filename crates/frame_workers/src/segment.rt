@@ -17,15 +17,16 @@ ghost use Rattle.law_workers.specs.Began.{BeganWith};
 ghost use Rattle.law_workers.specs.Views.{keeping, meeting, Meets, starting};
 ghost use Rattle.law_workers.specs.Ends.{EndsSegment};
 ghost use Rattle.frame_workers.specs.Lanes.{left_at};
+ghost use Rattle.frame_workers.specs.Segment.{AreSplit, HandlesSegment, HasRooms, RanFrom};
 
 use crate::gate::Gate;
 use crate::joining::{join_lanes, rooms_for, split_lanes, used_lanes};
-use crate::lane::run_lanes;
+use crate::lane::{Lane, run_lanes};
 use crate::placing::place_answers;
 use record_io::{Answer, LANES, Record, Spare};
 use sdls_base::NoMemory;
 use sdls_outside::Site;
-use shared_unit::{Unit, Worker};
+use shared_unit::{SharedBook, Unit, Worker};
 use std::alloc::Global;
 use std::sync::Wait;
 use std::thread::Threads;
@@ -62,6 +63,79 @@ fn look_back<O: Site>(unit: &Unit<O>, worker: &mut Worker<O>)
 {
     let other = unit.split(worker);
     unit.join(worker, other);
+}
+
+/// A segment whose lanes are to run, with rooms for its answers.
+pub(crate) struct Begun<O: Site> {
+    pub(crate) lanes: Vec<Lane<SharedBook<O>>>,
+    parts: Vec<Vec<Answer>>,
+    answers: Vec<Answer>,
+}
+
+/// Splits a worker off for each lane that has records.
+pub(crate) fn begin_segment<O: Site>(
+    alloc: Global,
+    unit: &Unit<O>,
+    worker: &mut Worker<O>,
+    records: &[Record],
+    spare: &mut Spare,
+) -> Result<Begun<O>, NoMemory>
+    requires ready { IsReady unit.now.counters unit.now.plan worker.old }
+    requires shares { LANES < (view worker.old).numbers.shares }
+    requires lanes { All (λ (task : Record). task.lane < LANES) records.now }
+    ensures ready { IsReady unit.now.counters unit.now.plan worker.new }
+    ensures no_memory { OnErr result (view worker.new ≡ view worker.old) }
+    ensures split { IfOk result (λ begun. AreSplit (IsReady unit.now.counters unit.now.plan) records.now
+        (view worker.old) (view worker.new) begun.lanes.items) }
+    ensures rooms { IfOk result (λ begun. HasRooms records.now begun.parts.items begun.answers) }
+{
+    let used = used_lanes(records);
+    let rooms = rooms_for(alloc, records, &used)?;
+    let mut lanes = Vec::with_capacity(alloc, usize::from(LANES))?;
+    let parts = empty_rooms(alloc)?;
+    let answers = Vec::with_capacity(alloc, records.len())?;
+    split_lanes(
+        alloc, unit, worker, records, &used, rooms, spare, &mut lanes,
+    );
+    Ok(Begun {
+        lanes,
+        parts,
+        answers,
+    })
+}
+
+/// Joins the workers of lanes that ran, and places their answers.
+pub(crate) fn end_segment<O: Site>(
+    unit: &Unit<O>,
+    worker: &mut Worker<O>,
+    records: &[Record],
+    begun: Begun<O>,
+    spare: &mut Spare,
+) -> Segment
+    requires ready { IsReady unit.now.counters unit.now.plan worker.old }
+    requires ran { (before : _) × (old : _) × RanFrom (IsReady unit.now.counters unit.now.plan) O.told records.now
+        before (view worker.old) old begun.lanes.items }
+    requires rooms { HasRooms records.now begun.parts.items begun.answers }
+    requires lanes { All (λ (task : Record). task.lane < LANES) records.now }
+    requires plain { All (λ (task : Record). task.kind ≢ Monitor) records.now }
+    requires ascend { Ascend records.now }
+    ensures ready { IsReady unit.now.counters unit.now.plan worker.new }
+    ensures shares { (before : _) (old : _) → RanFrom (IsReady unit.now.counters unit.now.plan) O.told records.now
+        before (view worker.old) old begun.lanes.items
+        → (view worker.new).numbers.shares ≡ (view before).numbers.shares }
+    ensures handles { (before : _) (old : _) → RanFrom (IsReady unit.now.counters unit.now.plan) O.told records.now
+        before (view worker.old) old begun.lanes.items
+        → HandlesSegment O.told (view before) (view worker.new) records.now result.answers.items result.full }
+{
+    let Begun {
+        lanes,
+        mut parts,
+        mut answers,
+    } = begun;
+    join_lanes(unit, worker, lanes, parts.as_mut_slice(), spare);
+    look_back(unit, worker);
+    let full = place_answers(records, parts.as_mut_slice(), &mut answers);
+    Segment { answers, full }
 }
 
 /// Handles the records of a segment, the lanes at the same time, each by a worker of its own, and the records of a lane
@@ -112,17 +186,7 @@ pub fn run_segment<R: Threads + Wait + Sync, O: Site + Send, G: Gate + Sync>(
     ensures whole { (view worker.old).numbers.shares ≡ ALL_SHARES
         → IfOk result (λ segment. IsWhole MOST_KEYS (view worker.new)) }
 {
-    let used = used_lanes(records);
-    let rooms = rooms_for(alloc, records, &used)?;
-    let mut lanes = Vec::with_capacity(alloc, usize::from(LANES))?;
-    let mut parts = empty_rooms(alloc)?;
-    let mut answers = Vec::with_capacity(alloc, records.len())?;
-    split_lanes(
-        alloc, unit, worker, records, &used, rooms, spare, &mut lanes,
-    );
-    run_lanes(rt, alloc, unit, records, gate, lanes.as_mut_slice());
-    join_lanes(unit, worker, lanes, parts.as_mut_slice(), spare);
-    look_back(unit, worker);
-    let full = place_answers(records, parts.as_mut_slice(), &mut answers);
-    Ok(Segment { answers, full })
+    let mut begun = begin_segment(alloc, unit, worker, records, spare)?;
+    run_lanes(rt, alloc, unit, records, gate, begun.lanes.as_mut_slice());
+    Ok(end_segment(unit, worker, records, begun, spare))
 }
