@@ -6,6 +6,7 @@ ghost use Rattle.record_io.specs.Reading.{SourceSeen, source_seen};
 ghost use Rattle.run_promise.specs.Call.{call_seen, site_seen};
 ghost use Rattle.run_promise.specs.Life.{EndsAndLives};
 ghost use Rattle.run_promise.specs.Account.{end_status};
+ghost use Rattle.fsr_log.specs.Report.{report_of};
 ghost use Rattle.law_runs.specs.Refused.{refused_end};
 ghost use Rattle.cli_run.specs.Putting.{IsAlone, OfRun};
 ghost use Rattle.cli_run.specs.Running.{PutsRefusal, RunsUnit};
@@ -13,8 +14,9 @@ ghost use Rattle.cli_run.specs.Serving.{Comes};
 
 use crate::ending::{answer_of, finish, told_end};
 use crate::session::Session;
-use frame_workers::Gate;
+use frame_workers::{Crew, Gate, LaneTask, LaneWork, Team};
 use fsr_log::Log;
+use kept_threads::{Fresh, Named};
 use law_image::shown_keeps_rules;
 use law_runs::{refused_run_ends, run_ends_well};
 use record_io::status::SITE_FAULT;
@@ -23,7 +25,9 @@ use run_promise::RunEnd;
 use sdls_outside::{Failed, Site, Source};
 use shared_unit::{Unit, Worker};
 use std::alloc::Global;
+use std::marker::Brand;
 use std::sync::Wait;
+use std::thread;
 use std::thread::Threads;
 use unit_book::states_have_bounds;
 use unit_image::OpenFault;
@@ -73,6 +77,93 @@ fn image_stays<O: Site>()
     ensures { (site : O) → IsTrue O.told → Leaves (O.trace site).now (O.trace site).now.image }
 {}
 
+/// A source that was read, with what came of it.
+struct Back<'a, S, T> {
+    source: &'a mut S,
+    came: T,
+}
+
+impl<'a, S, T> Back<'a, S, T> {
+    fn into_came(self) -> T
+        ensures came { result ≡ self.entry.came }
+        ensures source { self.exit.0.now ≡ self.entry.source.now }
+    {
+        let Back { source: _, came } = self;
+        came
+    }
+}
+
+/// Serves the input of a source by a crew, whose threads end with the call.
+fn serve_by_crew<
+    'a,
+    'e,
+    R: Threads + Wait + Sync,
+    S: Source,
+    O: Site + Send,
+    G: Gate + Sync,
+    N: Named + Send,
+>(
+    rt: &'e R,
+    alloc: Global,
+    source: &'a mut S,
+    gate: &'e G,
+    unit: &'e Unit<O>,
+    worker: Worker<O>,
+    log: Log,
+    fresh: Fresh<LaneTask<'e, O>>,
+) -> Back<'a, S, (Worker<O>, RunEnd)>
+    requires book { fresh ≡ N.book }
+    requires alone { IsAlone unit.now.counters unit.now.plan worker }
+    requires no_log { (view worker).turn.known.log ≡ [] }
+    requires none_made { (view worker).turn.made ≡ [] }
+    requires none_noted { log ≡ report_of [] }
+    ensures alone { IsAlone unit.now.counters unit.now.plan result.came.0 }
+    ensures opening { (view result.came.0).turn.known.opening ≡ (view worker).turn.known.opening }
+    ensures comes { let seen : SourceSeen = source_seen S.told S.left S.faults source.old
+        in
+        let after : SourceSeen = source_seen S.told S.left S.faults result.source.now in
+        OfRun O.told (view worker) (λ begin. Comes seen after begin (view worker) (view result.came.0) result.came.1) }
+    ensures same { result.source.ghost_name ≡ source.entry.ghost_name }
+{
+    let work = LaneWork::new(rt, alloc, gate);
+    let work = &work;
+    thread::scope(
+        thread::scope_env(),
+        rt,
+        move |scope| -> Back<S, (Worker<O>, RunEnd)>
+            requires book { fresh ≡ N.book }
+            requires alone { IsAlone unit.now.counters unit.now.plan worker }
+            requires no_log { (view worker).turn.known.log ≡ [] }
+            requires none_made { (view worker).turn.made ≡ [] }
+            requires none_noted { log ≡ report_of [] }
+            ensures alone { IsAlone unit.entry.now.counters unit.entry.now.plan result.came.0 }
+            ensures opening { (view result.came.0).turn.known.opening ≡ (view worker).turn.known.opening }
+            ensures comes { let seen : SourceSeen = source_seen S.told S.left S.faults source.entry.now
+                in
+                let after : SourceSeen = source_seen S.told S.left S.faults result.source.now in
+                OfRun O.told (view worker)
+                (λ begin. Comes seen after begin (view worker) (view result.came.0) result.came.1) }
+            ensures same { result.source.ghost_name ≡ source.entry.ghost_name }
+        {
+            let mut crew: Crew<_, R, O, G, N> = Team::new(scope, rt, alloc, work, fresh);
+            let mut session = Session::new(alloc, unit, worker, log);
+            let came = session.serve_input(rt, alloc, &mut crew, source);
+            crew.end();
+            let Session {
+                unit: _,
+                worker,
+                log: _,
+                piece: _,
+                spare: _,
+            } = session;
+            Back {
+                source,
+                came: (worker, came),
+            }
+        },
+    )
+}
+
 /// Serves the input of a source with a unit that was opened, and hands the unit back with what came. Where memory is
 /// wanting for the log, nothing is read.
 fn serve_with_log<R: Threads + Wait + Sync, S: Source, O: Site + Send, G: Gate + Sync>(
@@ -96,15 +187,11 @@ fn serve_with_log<R: Threads + Wait + Sync, S: Source, O: Site + Send, G: Gate +
     let Ok(log) = Log::new(alloc) else {
         return (unit, worker, RunEnd::NoMemory);
     };
-    let mut session = Session::new(alloc, unit, worker, log);
-    let came = session.serve_input(rt, alloc, source, gate);
-    let Session {
-        unit,
-        worker,
-        log: _,
-        piece: _,
-        spare: _,
-    } = session;
+    let fresh = Fresh::open();
+    let back = serve_by_crew::<R, S, O, G, Brand>(
+        rt, alloc, source, gate, &unit, worker, log, fresh,
+    );
+    let (worker, came) = back.into_came();
     (unit, worker, came)
 }
 

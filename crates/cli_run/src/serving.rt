@@ -1,6 +1,7 @@
 // Segments that are served, one after the other, to the end of the input.
 ghost use Rattle.std.specs.Prelude.{◌≡◌, ◌≢◌, ◌<◌, ℕ, List, [], ◌∷◌, IfNone};
 ghost use Rattle.std.specs.List.{All};
+ghost use Rattle.std.specs.Arc.{arc_value};
 ghost use Rattle.record_io.specs.declared.kinds.TheConstants.{LANES};
 ghost use Rattle.record_io.specs.declared.records.Record.{Record};
 ghost use Rattle.record_io.specs.Input.{Item};
@@ -18,14 +19,15 @@ ghost use Rattle.cli_run.specs.Serving.{ServesSegment};
 use crate::putting::count_alone;
 use crate::reporting::{log_answer, note_all};
 use crate::session::Session;
-use frame_workers::{Gate, run_segment};
+use frame_workers::{Crew, Gate, run_segment_by};
+use kept_threads::Named;
 use law_workers::looking_reports;
 use record_io::{Reader, Record, RecordKind, SegmentEnd, answers_have_widths};
 use run_promise::RunEnd;
 use sdls_base::NoMemory;
 use sdls_outside::{Site, Source};
 use std::alloc::Global;
-use std::sync::Wait;
+use std::sync::{Arc, Wait};
 use std::thread::Threads;
 use unit_book::BookFault;
 
@@ -71,17 +73,18 @@ fn came_after(served: Result<(), Stop>) -> Option<RunEnd>
     }
 }
 
-impl<O: Site + Send> Session<O> {
+impl<'u, O: Site + Send> Session<'u, O> {
     /// Answers a monitoring message by the log, notes the answer and writes it.
     fn report<R: Wait>(&mut self, rt: &R, alloc: Global, task: &Record) -> Result<(), Stop>
-        requires alone { IsAlone self.old.unit.counters self.old.unit.plan self.old.worker }
+        requires alone { IsAlone self.old.unit.now.counters self.old.unit.now.plan self.old.worker }
         requires kind { task.now.kind ≡ RecordKind.Monitor }
-        ensures alone { IsAlone self.new.unit.counters self.new.unit.plan self.new.worker }
+        ensures alone { IsAlone self.new.unit.now.counters self.new.unit.now.plan self.new.worker }
+        ensures same { self.new.unit.now ≡ self.old.unit.now }
         ensures opening { (view self.new.worker).turn.known.opening ≡ (view self.old.worker).turn.known.opening }
         ensures serves { OfRun O.told (view self.old.worker) (λ begin. ServesSegment begin (task.now ∷ []) result
             (view self.old.worker) (view self.new.worker) self.old.log self.new.log) }
     {
-        let entries = count_alone(rt, &self.unit, &mut self.worker);
+        let entries = count_alone(rt, self.unit, &mut self.worker);
         let answer = log_answer(alloc, &self.log, task.octets.as_slice(), entries);
         self.log.note(task.index, task.kind, &answer);
         let answers = [answer];
@@ -93,9 +96,10 @@ impl<O: Site + Send> Session<O> {
 
     /// What the end of a segment that was served says of the run. A Monitor record that ended it is answered.
     fn end_segment<R: Wait>(&mut self, rt: &R, alloc: Global, end: SegmentEnd) -> Option<RunEnd>
-        requires alone { IsAlone self.old.unit.counters self.old.unit.plan self.old.worker }
+        requires alone { IsAlone self.old.unit.now.counters self.old.unit.now.plan self.old.worker }
         requires kind { (task : Record) → end ≡ SegmentEnd.Monitor task → task.kind ≡ RecordKind.Monitor }
-        ensures alone { IsAlone self.new.unit.counters self.new.unit.plan self.new.worker }
+        ensures alone { IsAlone self.new.unit.now.counters self.new.unit.now.plan self.new.worker }
+        ensures same { self.new.unit.now ≡ self.old.unit.now }
         ensures opening { (view self.new.worker).turn.known.opening ≡ (view self.old.worker).turn.known.opening }
         ensures ends { OfRun O.told (view self.old.worker) (λ begin. EndsAs begin end result (view self.old.worker)
             (view self.new.worker) self.old.log self.new.log) }
@@ -110,31 +114,36 @@ impl<O: Site + Send> Session<O> {
     }
 
     /// Handles the records of a segment, and notes and writes their answers in input order.
-    fn serve<R: Threads + Wait + Sync, G: Gate + Sync>(
+    fn serve<'s, 'e: 's, E, R: Threads + Wait + Sync, G: Gate + Sync, N: Named + Send + 's>(
         &mut self,
         rt: &R,
         alloc: Global,
+        crew: &mut Crew<'s, 'e, E, R, O, G, N>,
         records: &[Record],
-        gate: &G,
+        shared: &Arc<Vec<Record>, Global>,
     ) -> Result<(), Stop>
-        requires alone { IsAlone self.old.unit.counters self.old.unit.plan self.old.worker }
+    where
+        'u: 'e,
+        requires same { records.now ≡ (arc_value shared.now).items }
+        requires alone { IsAlone self.old.unit.now.counters self.old.unit.now.plan self.old.worker }
         requires lanes { All (λ (task : Record). task.lane < LANES) records.now }
         requires plain { All (λ (task : Record). task.kind ≢ RecordKind.Monitor) records.now }
         requires ascend { Ascend records.now }
-        ensures alone { IsAlone self.new.unit.counters self.new.unit.plan self.new.worker }
+        ensures alone { IsAlone self.new.unit.now.counters self.new.unit.now.plan self.new.worker }
+        ensures same { self.new.unit.now ≡ self.old.unit.now }
         ensures opening { (view self.new.worker).turn.known.opening ≡ (view self.old.worker).turn.known.opening }
         ensures serves { OfRun O.told (view self.old.worker)
             (λ begin. ServesSegment begin records.now result (view self.old.worker) (view self.new.worker)
             self.old.log self.new.log) }
     {
-        let segment = match run_segment(
-            rt,
+        let segment = match run_segment_by(
+            crew,
             alloc,
-            &self.unit,
+            self.unit,
             &mut self.worker,
             records,
+            shared,
             &mut self.spare,
-            gate,
         ) {
             Ok(segment) => segment,
             Err(NoMemory) => return Err(Stop::NoMemory),
@@ -146,21 +155,65 @@ impl<O: Site + Send> Session<O> {
         stop_after(put, segment.full)
     }
 
-    /// Reads the next segment and serves it. `None`: the input may go on.
-    fn serve_next<R: Threads + Wait + Sync, S: Source, G: Gate + Sync>(
+    /// Serves records that were read, and hands their list back to the reader.
+    fn serve_read<'s, 'e: 's, E, R: Threads + Wait + Sync, G: Gate + Sync, N: Named + Send + 's>(
         &mut self,
         rt: &R,
         alloc: Global,
+        crew: &mut Crew<'s, 'e, E, R, O, G, N>,
+        reader: &mut Reader,
+        records: Vec<Record>,
+    ) -> Result<(), Stop>
+    where
+        'u: 'e,
+        requires alone { IsAlone self.old.unit.now.counters self.old.unit.now.plan self.old.worker }
+        requires lanes { All (λ (task : Record). task.lane < LANES) records.items }
+        requires plain { All (λ (task : Record). task.kind ≢ RecordKind.Monitor) records.items }
+        requires ascend { Ascend records.items }
+        ensures alone { IsAlone self.new.unit.now.counters self.new.unit.now.plan self.new.worker }
+        ensures same { self.new.unit.now ≡ self.old.unit.now }
+        ensures opening { (view self.new.worker).turn.known.opening ≡ (view self.old.worker).turn.known.opening }
+        ensures serves { OfRun O.told (view self.old.worker)
+            (λ begin. ServesSegment begin records.items result (view self.old.worker) (view self.new.worker)
+            self.old.log self.new.log) }
+        ensures read { reader.new ≡ reader.old }
+    {
+        let Ok(shared) = Arc::new(alloc, records) else {
+            return Err(Stop::NoMemory);
+        };
+        let served = self.serve(rt, alloc, crew, shared.as_slice(), &shared);
+        if let Ok(records) = Arc::try_unwrap(shared) {
+            reader.take_back(records);
+        }
+        served
+    }
+
+    /// Reads the next segment and serves it. `None`: the input may go on.
+    fn serve_next<
+        's,
+        'e: 's,
+        E,
+        R: Threads + Wait + Sync,
+        S: Source,
+        G: Gate + Sync,
+        N: Named + Send + 's,
+    >(
+        &mut self,
+        rt: &R,
+        alloc: Global,
+        crew: &mut Crew<'s, 'e, E, R, O, G, N>,
         source: &mut S,
         reader: &mut Reader,
-        gate: &G,
     ) -> Option<RunEnd>
-        requires alone { IsAlone self.old.unit.counters self.old.unit.plan self.old.worker }
+    where
+        'u: 'e,
+        requires alone { IsAlone self.old.unit.now.counters self.old.unit.now.plan self.old.worker }
         requires reading { let before : SourceSeen =
             source_seen S.told S.left S.faults source.old in
             (start : SourceSeen) × (items : List Item) × (read : List ℕ)
             × IsReading start before reader.old items read }
-        ensures alone { IsAlone self.new.unit.counters self.new.unit.plan self.new.worker }
+        ensures alone { IsAlone self.new.unit.now.counters self.new.unit.now.plan self.new.worker }
+        ensures same { self.new.unit.now ≡ self.old.unit.now }
         ensures opening { (view self.new.worker).turn.known.opening ≡ (view self.old.worker).turn.known.opening }
         ensures leads { let before : SourceSeen = source_seen S.told S.left S.faults source.old in
             let after : SourceSeen = source_seen S.told S.left S.faults source.new in
@@ -174,28 +227,36 @@ impl<O: Site + Send> Session<O> {
             Ok(read) => read,
             Err(NoMemory) => return Some(RunEnd::NoMemory),
         };
-        match self.serve(rt, alloc, &records, gate) {
-            Ok(()) => {
-                reader.take_back(records);
-                self.end_segment(rt, alloc, end)
-            }
+        match self.serve_read(rt, alloc, crew, reader, records) {
+            Ok(()) => self.end_segment(rt, alloc, end),
             Err(stop) => Some(end_of(stop)),
         }
     }
 
     /// Reads and serves segments until the input ends, or something else does.
-    pub fn serve_input<R: Threads + Wait + Sync, S: Source, G: Gate + Sync>(
+    pub fn serve_input<
+        's,
+        'e: 's,
+        E,
+        R: Threads + Wait + Sync,
+        S: Source,
+        G: Gate + Sync,
+        N: Named + Send + 's,
+    >(
         &mut self,
         rt: &R,
         alloc: Global,
+        crew: &mut Crew<'s, 'e, E, R, O, G, N>,
         source: &mut S,
-        gate: &G,
     ) -> RunEnd
-        requires alone { IsAlone self.old.unit.counters self.old.unit.plan self.old.worker }
+    where
+        'u: 'e,
+        requires alone { IsAlone self.old.unit.now.counters self.old.unit.now.plan self.old.worker }
         requires no_log { (view self.old.worker).turn.known.log ≡ [] }
         requires none_made { (view self.old.worker).turn.made ≡ [] }
         requires none_noted { self.old.log ≡ report_of [] }
-        ensures alone { IsAlone self.new.unit.counters self.new.unit.plan self.new.worker }
+        ensures alone { IsAlone self.new.unit.now.counters self.new.unit.now.plan self.new.worker }
+        ensures same { self.new.unit.now ≡ self.old.unit.now }
         ensures opening { (view self.new.worker).turn.known.opening ≡ (view self.old.worker).turn.known.opening }
         ensures comes { let before : SourceSeen = source_seen S.told S.left S.faults source.old in
             let after : SourceSeen = source_seen S.told S.left S.faults source.new in
@@ -204,7 +265,7 @@ impl<O: Site + Send> Session<O> {
     {
         let mut reader = Reader::new(alloc);
         'segments: loop {
-            match self.serve_next(rt, alloc, source, &mut reader, gate) {
+            match self.serve_next(rt, alloc, crew, source, &mut reader) {
                 None => {}
                 Some(end) => return end,
             }

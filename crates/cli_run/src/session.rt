@@ -18,8 +18,8 @@ const PIECE: usize = 65536;
 
 /// A unit with the one worker that serves a run, the log of the answers so far, and the octets of answers that are to
 /// be put in one piece.
-pub struct Session<O: Site> {
-    pub(crate) unit: Unit<O>,
+pub struct Session<'e, O: Site> {
+    pub(crate) unit: &'e Unit<O>,
     pub(crate) worker: Worker<O>,
     pub(crate) log: Log,
     pub(crate) piece: Vec<u8>,
@@ -48,10 +48,10 @@ fn extend_within(items: &mut Vec<u8>, octets: &[u8])
     };
 }
 
-impl<O: Site> Session<O> {
+impl<'e, O: Site> Session<'e, O> {
     /// The session of a unit with its one worker and the log of a run. Nothing was put yet.
-    pub fn new(alloc: Global, unit: Unit<O>, worker: Worker<O>, log: Log) -> Session<O>
-        ensures unit { result.unit ≡ unit }
+    pub fn new(alloc: Global, unit: &'e Unit<O>, worker: Worker<O>, log: Log) -> Session<'e, O>
+        ensures unit { result.unit.now ≡ unit.now }
         ensures worker { result.worker ≡ worker }
         ensures log { result.log ≡ log }
         ensures begun { result.piece.items ≡ [] }
@@ -67,30 +67,30 @@ impl<O: Site> Session<O> {
 
     /// Writes the piece, and begins another.
     fn put_piece<R: Wait>(&mut self, rt: &R) -> Result<(), BookFault>
-        requires alone { IsAlone self.old.unit.counters self.old.unit.plan self.old.worker }
-        ensures alone { IsAlone self.new.unit.counters self.new.unit.plan self.new.worker }
-        ensures same { self.new.unit ≡ self.old.unit }
+        requires alone { IsAlone self.old.unit.now.counters self.old.unit.now.plan self.old.worker }
+        ensures alone { IsAlone self.new.unit.now.counters self.new.unit.now.plan self.new.worker }
+        ensures same { self.new.unit.now ≡ self.old.unit.now }
         ensures logged { self.new.log ≡ self.old.log }
         ensures begun { self.new.piece.items ≡ [] }
         ensures puts { PutsOctets O.told self.old.piece.items result (view self.old.worker) (view self.new.worker) }
     {
-        let put = put_alone(rt, &self.unit, &mut self.worker, &self.piece);
+        let put = put_alone(rt, self.unit, &mut self.worker, &self.piece);
         self.piece.clear();
         put
     }
 
     /// Writes an answer, its header before its body.
     fn put_answer<R: Wait>(&mut self, rt: &R, answer: &Answer) -> Result<(), BookFault>
-        requires alone { IsAlone self.old.unit.counters self.old.unit.plan self.old.worker }
-        ensures alone { IsAlone self.new.unit.counters self.new.unit.plan self.new.worker }
-        ensures same { self.new.unit ≡ self.old.unit }
+        requires alone { IsAlone self.old.unit.now.counters self.old.unit.now.plan self.old.worker }
+        ensures alone { IsAlone self.new.unit.now.counters self.new.unit.now.plan self.new.worker }
+        ensures same { self.new.unit.now ≡ self.old.unit.now }
         ensures logged { self.new.log ≡ self.old.log }
         ensures piece { self.new.piece ≡ self.old.piece }
         ensures puts { PutsOctets O.told (answer_octets answer.now) result (view self.old.worker)
             (view self.new.worker) }
     {
-        match put_alone(rt, &self.unit, &mut self.worker, &answer_header(answer)) {
-            Ok(()) => put_alone(rt, &self.unit, &mut self.worker, answer.body.as_slice()),
+        match put_alone(rt, self.unit, &mut self.worker, &answer_header(answer)) {
+            Ok(()) => put_alone(rt, self.unit, &mut self.worker, answer.body.as_slice()),
             Err(fault) => Err(fault),
         }
     }
@@ -109,7 +109,7 @@ impl<O: Site> Session<O> {
         requires room { vec_len self.old.piece + (ANSWER_HEADER + length answer.now.body)
             ≤ vec_capacity self.old.piece }
         ensures piece { self.new.piece.items ≡ self.old.piece.items ++ answer_octets answer.now }
-        ensures others { (self.new.unit ≡ self.old.unit) × (self.new.worker ≡ self.old.worker) }
+        ensures others { (self.new.unit.now ≡ self.old.unit.now) × (self.new.worker ≡ self.old.worker) }
         ensures logged { self.new.log ≡ self.old.log }
     {
         extend_within(&mut self.piece, &answer_header(answer));
@@ -118,10 +118,10 @@ impl<O: Site> Session<O> {
 
     /// Takes an answer over behind an empty piece: into it, or alone where it never has room.
     fn take_first<R: Wait>(&mut self, rt: &R, answer: &Answer) -> Result<(), BookFault>
-        requires alone { IsAlone self.old.unit.counters self.old.unit.plan self.old.worker }
+        requires alone { IsAlone self.old.unit.now.counters self.old.unit.now.plan self.old.worker }
         requires empty { self.old.piece.items ≡ [] }
-        ensures alone { IsAlone self.new.unit.counters self.new.unit.plan self.new.worker }
-        ensures same { self.new.unit ≡ self.old.unit }
+        ensures alone { IsAlone self.new.unit.now.counters self.new.unit.now.plan self.new.worker }
+        ensures same { self.new.unit.now ≡ self.old.unit.now }
         ensures logged { self.new.log ≡ self.old.log }
         ensures takes { TakesOctets O.told (answer_octets answer.now) result [] self.new.piece.items
             (view self.old.worker) (view self.new.worker) }
@@ -135,9 +135,9 @@ impl<O: Site> Session<O> {
 
     /// Takes an answer over: into the piece, which is put before where it has no room.
     fn take_answer<R: Wait>(&mut self, rt: &R, answer: &Answer) -> Result<(), BookFault>
-        requires alone { IsAlone self.old.unit.counters self.old.unit.plan self.old.worker }
-        ensures alone { IsAlone self.new.unit.counters self.new.unit.plan self.new.worker }
-        ensures same { self.new.unit ≡ self.old.unit }
+        requires alone { IsAlone self.old.unit.now.counters self.old.unit.now.plan self.old.worker }
+        ensures alone { IsAlone self.new.unit.now.counters self.new.unit.now.plan self.new.worker }
+        ensures same { self.new.unit.now ≡ self.old.unit.now }
         ensures logged { self.new.log ≡ self.old.log }
         ensures takes { TakesOctets O.told (answer_octets answer.now) result self.old.piece.items self.new.piece.items
             (view self.old.worker) (view self.new.worker) }
@@ -154,9 +154,9 @@ impl<O: Site> Session<O> {
 
     /// Writes answers, one after the other, in pieces.
     pub fn put_answers<R: Wait>(&mut self, rt: &R, answers: &[Answer]) -> Result<(), BookFault>
-        requires alone { IsAlone self.old.unit.counters self.old.unit.plan self.old.worker }
-        ensures alone { IsAlone self.new.unit.counters self.new.unit.plan self.new.worker }
-        ensures same { self.new.unit ≡ self.old.unit }
+        requires alone { IsAlone self.old.unit.now.counters self.old.unit.now.plan self.old.worker }
+        ensures alone { IsAlone self.new.unit.now.counters self.new.unit.now.plan self.new.worker }
+        ensures same { self.new.unit.now ≡ self.old.unit.now }
         ensures logged { self.new.log ≡ self.old.log }
         ensures puts { PutsOctets O.told (answers_octets answers.now) result (view self.old.worker)
             (view self.new.worker) }

@@ -6,8 +6,8 @@ use Rattle.cli_run.proofs.session.Session.put_answers.Given as goal
 
 abbrev pub invariant-loop-answer : goal.invariant-loop-answer
 invariant-loop-answer g l = record {
-  alone : IsAlone l.self.unit.counters l.self.unit.plan l.self.worker;
-  same : l.self.unit ≡ l.initial.self.unit;
+  alone : IsAlone l.self.unit.now.counters l.self.unit.now.plan l.self.worker;
+  same : l.self.unit.now ≡ l.initial.self.unit.now;
   logged : l.self.log ≡ l.initial.self.log;
   so_far : TakesSoFar g.O.Site.told (answers_octets (take l.answer-index l.answers)) l.self.piece.items
       (view l.initial.self.worker) (view l.self.worker);

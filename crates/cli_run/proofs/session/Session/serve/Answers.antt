@@ -20,17 +20,17 @@ pub note_all-requires : goal.note_all-requires
 note_all-requires g c =
     let told = g.O.Site.told in
     let v : View = view c.args.self.now.worker in
-    let few = few_answers (begin_with told v.turn.known.opening) v (view c.run_segment.new.worker) c.args.records.now
+    let few = few_answers (begin_with told v.turn.known.opening) v (view c.run_segment_by.new.worker) c.args.records.now
     c.in-Ok.segment.answers.items c.in-Ok.segment.full
-    (c.in-Ok.ensures.full (begin_with told v.turn.known.opening) (began_with told v.turn.known.opening)) in
+    (c.in-Ok.ensures.handles.full (begin_with told v.turn.known.opening) (began_with told v.turn.known.opening)) in
     record { few = subst (λ (l : List Answer). length l ≤ length c.args.records.now) (sym c.deref.ensures.value) few }
 
 pub put_answers-put-requires : goal.put_answers-put-requires
 put_answers-put-requires g c = record {
   alone = record {
-    ready = c.run_segment.ensures.ready;
-    shares = c.run_segment.ensures.shares ∙ c.requires.alone.shares;
-    whole = c.in-Ok.ensures.whole c.requires.alone.shares;
+    ready = c.run_segment_by.ensures.ready;
+    shares = c.run_segment_by.ensures.shares ∙ c.requires.alone.shares;
+    whole = c.in-Ok.ensures.handles.whole c.requires.alone.shares;
   };
 }
 
@@ -38,16 +38,16 @@ pub returns-clause-opening : goal.returns-clause-opening
 returns-clause-opening g c =
     let told = g.O.Site.told in
     let v : View = view c.args.self.now.worker in
-    let mid : View = view c.run_segment.new.worker in
+    let mid : View = view c.run_segment_by.new.worker in
     let w : View = view c.put_answers-put.new.self.worker in
     let answers : List Answer = c.in-Ok.segment.answers.items in
     let result : Result (Unit {0}) BookFault = c.put_answers-put.result in
     let old : Report = c.args.self.now.log in
     let new : Report = c.put_answers-put.new.self.log in
-    same_opening told v mid w c.args.records.now c.requires.ascend answers result c.in-Ok.ensures.handled
-    c.in-Ok.ensures.alone
+    same_opening told v mid w c.args.records.now c.requires.ascend answers result c.in-Ok.ensures.handles.handled
+    c.in-Ok.ensures.handles.alone
     (λ b number b_began. counted_plain b v mid c.args.records.now (deeds_of number c.args.records.now answers)
-    (plain_counts number c.args.records.now answers c.requires.plain) (c.in-Ok.ensures.moved b number b_began))
+    (plain_counts number c.args.records.now answers c.requires.plain) (c.in-Ok.ensures.handles.moved b number b_began))
     (subst (λ (l : List Answer). PutsOctets told (answers_octets l) result mid w) c.deref-2.ensures.value
     c.put_answers-put.ensures.puts)
     old new
@@ -62,7 +62,7 @@ pub returns-clause-serves : goal.returns-clause-serves
 returns-clause-serves g c = λ begin began.
     let told = g.O.Site.told in
     let v : View = view c.args.self.now.worker in
-    let mid : View = view c.run_segment.new.worker in
+    let mid : View = view c.run_segment_by.new.worker in
     let w : View = view c.put_answers-put.new.self.worker in
     let answers : List Answer = c.in-Ok.segment.answers.items in
     let result : Result (Unit {0}) BookFault = c.put_answers-put.result in
@@ -70,10 +70,10 @@ returns-clause-serves g c = λ begin began.
     let new : Report = c.put_answers-put.new.self.log in
     subst (λ (r : Result (Unit {0}) Stop). ServesSegment begin c.args.records.now r v w old new)
     (sym c.stop_after.ensures)
-    (serves told v mid w c.args.records.now c.requires.ascend answers result c.in-Ok.ensures.handled
-    c.in-Ok.ensures.alone
+    (serves told v mid w c.args.records.now c.requires.ascend answers result c.in-Ok.ensures.handles.handled
+    c.in-Ok.ensures.handles.alone
     (λ b number b_began. counted_plain b v mid c.args.records.now (deeds_of number c.args.records.now answers)
-    (plain_counts number c.args.records.now answers c.requires.plain) (c.in-Ok.ensures.moved b number b_began))
+    (plain_counts number c.args.records.now answers c.requires.plain) (c.in-Ok.ensures.handles.moved b number b_began))
     (subst (λ (l : List Answer). PutsOctets told (answers_octets l) result mid w) c.deref-2.ensures.value
     c.put_answers-put.ensures.puts)
     old new
@@ -83,6 +83,6 @@ returns-clause-serves g c = λ begin began.
     (λ notes number is. plain_reported notes number c.args.records.now answers c.requires.plain)
     (subst (All IsAnswer) c.deref-3.ensures.value c.answers_have_widths.ensures)
     (plain_at c.args.records.now c.requires.plain (length answers))
-    begin began c.requires.alone.whole (c.in-Ok.ensures.whole c.requires.alone.shares)
+    begin began c.requires.alone.whole (c.in-Ok.ensures.handles.whole c.requires.alone.shares)
     c.put_answers-put.ensures.alone.whole
-    c.in-Ok.segment.full (c.in-Ok.ensures.full begin began))
+    c.in-Ok.segment.full (c.in-Ok.ensures.handles.full begin began))

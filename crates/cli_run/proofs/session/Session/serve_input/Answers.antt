@@ -17,6 +17,7 @@ segments-init g c =
     let first = view c.args.self.now.worker in
     record {
       alone = c.requires.alone;
+      same = refl;
       opening = refl;
       way = λ begin began.
           subst (λ (standing : Standing). Goes start start standing begin first first c.args.self.now.log)
@@ -51,6 +52,7 @@ segments-preserved g c =
     let first = view c.args.self.now.worker in
     record {
       alone = c.in-None.ensures.alone;
+      same = c.in-None.ensures.same ∙ c.segments.invariant.same;
       opening = c.in-None.ensures.opening ∙ c.segments.invariant.opening;
       way = λ begin began. c.in-None.ensures.leads start begin first
           (subst (BeganWith g.O.Site.told begin) (sym c.segments.invariant.opening) began)
@@ -78,3 +80,6 @@ returns-in-Some-clause-comes g c = λ begin began.
     })
     begin (view c.args.self.now.worker) (subst (BeganWith g.O.Site.told begin) (sym c.segments.invariant.opening) began)
     (c.segments.invariant.way begin began)
+
+pub returns-in-Some-clause-same : goal.returns-in-Some-clause-same
+returns-in-Some-clause-same g c = c.in-Some.ensures.same ∙ c.segments.invariant.same

@@ -8,7 +8,8 @@ use Rattle.cli_run.proofs.session.Session.serve_input.Given as goal
 
 abbrev pub invariant-segments : goal.invariant-segments
 invariant-segments g l = record {
-  alone : IsAlone l.self.unit.counters l.self.unit.plan l.self.worker;
+  alone : IsAlone l.self.unit.now.counters l.self.unit.now.plan l.self.worker;
+  same : l.self.unit.now ≡ l.fn.self.unit.now;
   opening : (view l.self.worker).turn.known.opening ≡ (view l.fn.self.worker).turn.known.opening;
   way : (begin : Begin) → BeganWith g.O.Site.told begin (view l.fn.self.worker).turn.known.opening
       → Goes (record {
