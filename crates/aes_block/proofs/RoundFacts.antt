@@ -7,8 +7,9 @@ use Rattle.std.proofs.Math.Nat.{zero-mul, one-mul}
 use Rattle.std.proofs.lemmas.List.{length-map}
 use Rattle.std.proofs.lemmas.List.FromFn.{fill_by_all}
 use Rattle.std.proofs.lemmas.Simd.{map-map, zip2_splat}
-use Rattle.aes_block.specs.Aes.{add_round_key, after, at, cipher, doubled, mix_columns, mixed, round_key, shift_rows}
-use Rattle.aes_block.specs.Aes.{state, sub_byte, sub_bytes, times, times_low}
+use Rattle.aes_block.specs.Aes.{add_round_key, after_rounds, at, cipher, doubled, mix_columns, mixed, round_key}
+use Rattle.aes_block.specs.Aes.{shift_rows}
+use Rattle.aes_block.specs.Aes.{state, sub_byte, sub_bytes, octet_product, times_low}
 use Rattle.aes_block.specs.Basis.{element, sub_linear, sub_linear_doubled, sum_of, with_constant}
 use Rattle.aes_block.specs.Vectors.{row_below}
 use Rattle.aes_block.proofs.BasisFacts.{element_sum, map_same}
@@ -73,15 +74,15 @@ at_mapped f (x ∷ xs) (suc i) lt = at_mapped f xs i (omega arith)
 
 -- ---- MixColumns
 
-times_1 : (a : ℕ) → times 1 a ≡ a
+times_1 : (a : ℕ) → octet_product 1 a ≡ a
 unfolding times_low
 times_1 a = simp (zero-mul, one-mul, xor_zero_l, xor_zero_r) refl
 
-times_2 : (a : ℕ) → times 2 a ≡ doubled a
+times_2 : (a : ℕ) → octet_product 2 a ≡ doubled a
 unfolding times_low
 times_2 a = simp (zero-mul, one-mul, xor_zero_l, xor_zero_r) refl
 
-times_3 : (a : ℕ) → times 3 a ≡ bit_xor a (doubled a)
+times_3 : (a : ℕ) → octet_product 3 a ≡ bit_xor a (doubled a)
 unfolding times_low
 times_3 a = simp (zero-mul, one-mul, xor_zero_l, xor_zero_r) refl
 
@@ -273,31 +274,33 @@ last_round_is s result key k long_s long_key result_is key_is =
 -- ---- round by round
 
 -- a round more
-pub round_more : (words block state next : List ℕ) (n : ℕ) → 0 < n → map element state ≡ after words block (n - 1)
+pub round_more : (words block state next : List ℕ) (n : ℕ) → 0 < n → map element state
+    ≡ after_rounds words block (n - 1)
     → map element next ≡ add_round_key (mix_columns (shift_rows (sub_bytes (map element state)))) (round_key words n)
-    → map element next ≡ after words block (n + 1 - 1)
-unfolding after
+    → map element next ≡ after_rounds words block (n + 1 - 1)
+unfolding after_rounds
 round_more words block state next n some so_far is =
     let count : suc (n - 1) ≡ n = omega arith in
     let all : suc (n - 1) ≡ n + 1 - 1 = omega arith in
     is
     ∙ ap (λ (s : List ℕ). add_round_key (mix_columns (shift_rows (sub_bytes s))) (round_key words n)) so_far
-    ∙ ap (λ m. add_round_key (mix_columns (shift_rows (sub_bytes (after words block (n - 1))))) (round_key words m))
+    ∙ ap (λ m. add_round_key (mix_columns (shift_rows (sub_bytes (after_rounds words block (n - 1)))))
+    (round_key words m))
     (sym count)
-    ∙ ap (after words block) all
+    ∙ ap (after_rounds words block) all
 
 -- no whole round yet
 pub round_none : (words block state : List ℕ) → map element state ≡ add_round_key block (round_key words 0)
-    → map element state ≡ after words block (1 - 1)
-unfolding after
+    → map element state ≡ after_rounds words block (1 - 1)
+unfolding after_rounds
 round_none words block state is = is
 
 pub rounds_all : (words block state result : List ℕ) (n rounds : ℕ) → n ≡ rounds
-    → map element state ≡ after words block (n - 1)
+    → map element state ≡ after_rounds words block (n - 1)
     → result ≡ add_round_key (shift_rows (sub_bytes (map element state))) (round_key words rounds)
     → result ≡ cipher words rounds block
 unfolding cipher
 rounds_all words block state result n rounds all so_far is =
     is
     ∙ ap (λ (s : List ℕ). add_round_key (shift_rows (sub_bytes s)) (round_key words rounds))
-    (so_far ∙ ap (λ m. after words block (m - 1)) all)
+    (so_far ∙ ap (λ m. after_rounds words block (m - 1)) all)

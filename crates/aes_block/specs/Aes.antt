@@ -18,11 +18,11 @@ times_low zero a b = 0
 times_low (suc n) a b = bit_xor (a % 2 * b) (times_low n (a / 2) (doubled b))
 
 -- the product (4.2)
-abbrev pub times : ℕ → ℕ → ℕ
-times a b = times_low 8 a b
+abbrev pub octet_product : ℕ → ℕ → ℕ
+octet_product a b = times_low 8 a b
 
 abbrev pub square : ℕ → ℕ
-square a = times a a
+square a = octet_product a a
 
 -- the multiplicative inverse, and 0 for 0: a ^ 254 (4.4), the product of a ^ 2, a ^ 4, .. a ^ 128
 unfoldable pub inverse : ℕ → ℕ
@@ -33,7 +33,8 @@ inverse a =
     let a16 = square a8 in
     let a32 = square a16 in
     let a64 = square a32 in
-    times a2 (times a4 (times a8 (times a16 (times a32 (times a64 (square a64))))))
+    octet_product a2 (octet_product a4
+    (octet_product a8 (octet_product a16 (octet_product a32 (octet_product a64 (square a64))))))
 
 -- ---- the cipher (5.1)
 
@@ -77,8 +78,9 @@ matrix r k = slice_index (2 ∷ 3 ∷ 1 ∷ 1 ∷ []) ((k + 4 - r) % 4)
 -- row r of the matrix times the column a, b, c, d
 abbrev pub mixed : ℕ → ℕ → ℕ → ℕ → ℕ → ℕ
 mixed r a b c d =
-    bit_xor (bit_xor (bit_xor (times (matrix r 0) a) (times (matrix r 1) b)) (times (matrix r 2) c))
-    (times (matrix r 3) d)
+    bit_xor (bit_xor (bit_xor (octet_product (matrix r 0) a) (octet_product (matrix r 1) b))
+    (octet_product (matrix r 2) c))
+    (octet_product (matrix r 3) d)
 
 -- MixColumns: the matrix times each column (5.1.3)
 abbrev pub mix_columns : List ℕ → List ℕ
@@ -95,15 +97,15 @@ round_key words round =
     ++ to_be_bytes w32 (slice_index words (4 * round + 2)) ++ to_be_bytes w32 (slice_index words (4 * round + 3))
 
 -- the state after round 0, which adds the first round key, and the given count of full rounds
-unfoldable pub after : List ℕ → List ℕ → ℕ → List ℕ
-after words block zero = add_round_key block (round_key words 0)
-after words block (suc n) =
-    add_round_key (mix_columns (shift_rows (sub_bytes (after words block n)))) (round_key words (suc n))
+unfoldable pub after_rounds : List ℕ → List ℕ → ℕ → List ℕ
+after_rounds words block zero = add_round_key block (round_key words 0)
+after_rounds words block (suc n) =
+    add_round_key (mix_columns (shift_rows (sub_bytes (after_rounds words block n)))) (round_key words (suc n))
 
 -- Cipher: the last of the rounds has no MixColumns (5.1)
 unfoldable pub cipher : List ℕ → ℕ → List ℕ → List ℕ
 cipher words rounds block =
-    add_round_key (shift_rows (sub_bytes (after words block (rounds - 1)))) (round_key words rounds)
+    add_round_key (shift_rows (sub_bytes (after_rounds words block (rounds - 1)))) (round_key words rounds)
 
 -- ---- the key expansion (5.2), for a key of nk words
 

@@ -13,7 +13,7 @@ use Rattle.answer_text.specs.declared.form.Form.{Form}
 use Rattle.answer_text.specs.Line.{HasLine, IsOfFormats}
 
 -- how far a listing has come: the number of the next answer's record, and how many octets stand before it
-pub record Place : Type 0 where
+pub record ListingPlace : Type 0 where
   pub index : ℕ
   pub offset : ℕ
 
@@ -22,14 +22,14 @@ abbrev pub counted : ℕ → ℕ → ℕ
 counted count more = min (count + more) (2 ^ 64 - 1)
 
 -- behind an answer: the numbers go on, and behind an End they begin again
-abbrev pub behind : Place → Answer → Place
+abbrev pub behind : ListingPlace → Answer → ListingPlace
 behind place answer = record {
   index = if answer.code == END then 0 else counted place.index 1;
   offset = counted place.offset (ANSWER_HEADER + length answer.body);
 }
 
 -- one answer was taken, and its line in this form put behind what there was
-pub record AddsLine (form : Form) (place place_new : Place) (left left_new text text_new : List ℕ) : Type 0 where
+pub record AddsLine (form : Form) (place place_new : ListingPlace) (left left_new text text_new : List ℕ) : Type 0 where
   pub answer : Answer
   pub taken : left ≡ answer_octets answer ++ left_new
   pub put : HasLine form place.index answer (λ line. text_new ≡ text ++ line)

@@ -2,7 +2,7 @@
 ghost use Rattle.std.specs.Prelude.{◌≡◌, ◌≤◌, ◌++◌, IsTrue, IfErr, IfNone, IfSome, OnErr, OnOk};
 ghost use Rattle.sdls_outside.specs.Faults.{Rose};
 ghost use Rattle.answer_text.specs.Line.{HasLine, LacksLine};
-ghost use Rattle.answer_text.specs.Listing.{AddsLine, EndsAt, IfEndFault, Place, behind};
+ghost use Rattle.answer_text.specs.Listing.{AddsLine, EndsAt, IfEndFault, ListingPlace, behind};
 
 use crate::error::TextError;
 use crate::form::Form;
@@ -34,9 +34,9 @@ pub struct Listing {
 }
 
 impl Model for Listing {
-    ghost use Rattle.answer_text.specs.Listing.{Place};
+    ghost use Rattle.answer_text.specs.Listing.{ListingPlace};
 
-    ghost Value = { Place };
+    ghost Value = { ListingPlace };
 
     ghost view = { λ listing. record { index = listing.index; offset = listing.offset } };
 }

@@ -215,7 +215,7 @@ pub record_found : (change : Change) (body : List ℕ) → IsRecord change body 
 record_found change body is = subst (Found change) (sym is.spelled) (again change is.types is.bounds)
 
 -- what a record says is what stands at the places of its kind
-pub record Says (change : Change) (kind : Kind) (body : List ℕ) : Type 0 where
+pub record SaysChange (change : Change) (kind : Kind) (body : List ℕ) : Type 0 where
   pub may : MayStand kind body
   pub value : change_at kind body ≡ change
 
@@ -223,11 +223,11 @@ same_kind : (a b : Kind) → Some a ≡ Some b → a ≡ b
 same_kind a b e = cc
 
 pub record_says : (change : Change) (body : List ℕ) (kind : Kind) → kind_of (octet_at 0 body) ≡ Some kind
-    → IsRecord change body → Says change kind body
+    → IsRecord change body → SaysChange change kind body
 record_says change body kind e is =
     let found = record_found change body is in
     let same : found.kind ≡ kind = same_kind found.kind kind (sym found.found ∙ e) in
-    subst (λ (k : Kind). Says change k body) same (record { may = found.may; value = found.value })
+    subst (λ (k : Kind). SaysChange change k body) same (record { may = found.may; value = found.value })
 
 -- where the kind is none there is no record
 pub no_kind : (change : Change) (body : List ℕ) → kind_of (octet_at 0 body) ≡ None → ¬ IsRecord change body

@@ -21,8 +21,8 @@ use Rattle.key_book.specs.declared.key_row.KeyRow.{KeyRow}
 use Rattle.replay_window.proofs.Fields.{window_field-parts}
 use Rattle.book_record.specs.declared.sa_parts.SaParts.{SaParts}
 use Rattle.book_record.specs.Padded.{padded}
-use Rattle.book_record.specs.KeyParts.{key_row_octets, IsRowKeyLength, HasKeyTypes, IsKeyRow}
-use Rattle.book_record.specs.SaParts.{held_code, sa_parts, sa_row_octets, HasSaTypes, IsSaRow}
+use Rattle.book_record.specs.KeyParts.{key_row_octets, IsRowKeyLength, HasKeyTypes, AreKeyRowOctets}
+use Rattle.book_record.specs.SaParts.{held_code, sa_parts, sa_row_octets, HasSaTypes, AreSaRowOctets}
 use Rattle.sdls_base.specs.Places.{octet_at, word_at, number_at}
 use Rattle.book_record.specs.Reading.{IsWithin, channels_at}
 use Rattle.book_record.specs.Record.{IsKey, IsSpi}
@@ -119,7 +119,7 @@ key_row_again parts types fits =
       };
     }
 
-pub key_row_says : (parts : KeyRow) (row : List ℕ) → IsKeyRow parts row → KeyRowSays parts row
+pub key_row_says : (parts : KeyRow) (row : List ℕ) → AreKeyRowOctets parts row → KeyRowSays parts row
 key_row_says parts row is = subst (KeyRowSays parts) (sym is.spelled) (key_row_again parts is.types is.fits)
 
 -- the key that may stand there has a length that a row may have
@@ -129,7 +129,7 @@ row_bytes_fit row size may =
     subst IsRowKeyLength (sym (length-take-le (octet_at 3 row) (drop 4 row)
     (omega (arith, size, row_key_length_small (octet_at 3 row) may.2, length-drop 4 row)))) may.2
 
-pub key_row_length : (parts : KeyRow) (row : List ℕ) → IsKeyRow parts row → length row ≡ KEY_ROW_LENGTH
+pub key_row_length : (parts : KeyRow) (row : List ℕ) → AreKeyRowOctets parts row → length row ≡ KEY_ROW_LENGTH
 unfolding key_row_octets
 key_row_length parts row is =
     let room = padded KEY_ROOM parts.bytes in
@@ -149,7 +149,7 @@ key_row_length parts row is =
     ap length is.spelled ∙ padded_length KEY_ROW_LENGTH front short
 
 -- no two keys have one row
-pub one_key_row : (a b : KeyRow) (row : List ℕ) → IsKeyRow a row → IsKeyRow b row → a ≡ b
+pub one_key_row : (a b : KeyRow) (row : List ℕ) → AreKeyRowOctets a row → AreKeyRowOctets b row → a ≡ b
 one_key_row a b row is also = sym (key_row_says a row is).value ∙ (key_row_says b row also).value
 
 -- ---- an association's row
@@ -209,10 +209,10 @@ sa_row_again parts types fits =
       };
     }
 
-pub sa_row_says : (parts : SaParts) (row : List ℕ) → IsSaRow parts row → SaRowSays parts row
+pub sa_row_says : (parts : SaParts) (row : List ℕ) → AreSaRowOctets parts row → SaRowSays parts row
 sa_row_says parts row is = subst (SaRowSays parts) (sym is.spelled) (sa_row_again parts is.types is.fits)
 
-pub sa_row_length : (parts : SaParts) (row : List ℕ) → IsSaRow parts row → length row ≡ SA_ROW_LENGTH
+pub sa_row_length : (parts : SaParts) (row : List ℕ) → AreSaRowOctets parts row → length row ≡ SA_ROW_LENGTH
 unfolding sa_row_octets
 sa_row_length parts row is =
     let new = parts.sa in
@@ -229,7 +229,7 @@ sa_row_length parts row is =
     ap length is.spelled ∙ padded_length SA_ROW_LENGTH front short
 
 -- no two associations have one row
-pub one_sa_row : (a b : SaParts) (row : List ℕ) → IsSaRow a row → IsSaRow b row → a ≡ b
+pub one_sa_row : (a b : SaParts) (row : List ℕ) → AreSaRowOctets a row → AreSaRowOctets b row → a ≡ b
 one_sa_row a b row is also = sym (sa_row_says a row is).value ∙ (sa_row_says b row also).value
 
 -- channels that may stand in a row have room there

@@ -38,7 +38,7 @@ pub record HasKeyTypes (row : KeyRow) : Type 0 where
   pub floor : row.floor < 2 ^ 64
 
 -- the octets are those of this row
-pub record IsKeyRow (row : KeyRow) (octets : List ℕ) : Type 0 where
+pub record AreKeyRowOctets (row : KeyRow) (octets : List ℕ) : Type 0 where
   pub types : HasKeyTypes row
   pub fits : IsRowKeyLength (length row.bytes)
   pub spelled : octets ≡ key_row_octets row

@@ -29,9 +29,9 @@ HasCause Malformed Cause = Cause
 HasCause NoMemory Cause = ⊤
 
 -- What a reader of a field answers: its value where what stands there may, and else `Malformed`.
-abbrev pub Judges : {X : Type 0} → Result X RecordError → Type 0 → X → Type 0
-Judges (Ok x) MayStand value = MayStand × (x ≡ value)
-Judges (Err e) MayStand value = HasCause e (¬ MayStand)
+abbrev pub JudgesField : {X : Type 0} → Result X RecordError → Type 0 → X → Type 0
+JudgesField (Ok x) MayStand value = MayStand × (x ≡ value)
+JudgesField (Err e) MayStand value = HasCause e (¬ MayStand)
 
 -- a number from the least to the most
 pub record IsWithin (least most n : ℕ) : Type 0 where

@@ -61,7 +61,7 @@ pub record HasSaTypes (parts : SaParts) : Type 0 where
   pub window : parts.sa.window < 2 ^ 64
 
 -- the octets are the row of an association with these parts; the width of the window is not bounded here
-pub record IsSaRow (parts : SaParts) (row : List ℕ) : Type 0 where
+pub record AreSaRowOctets (parts : SaParts) (row : List ℕ) : Type 0 where
   pub types : HasSaTypes parts
   pub fits : AreChannels parts.sa.channels
   pub spelled : row ≡ sa_row_octets parts

@@ -1,8 +1,8 @@
 //! The rows of keys.
 ghost use Rattle.std.specs.Prelude.{◌≡◌, length, IfOk};
 ghost use Rattle.key_book.specs.declared.key_row.KeyRow.{KeyRow};
-ghost use Rattle.book_record.specs.KeyParts.{viewed, key_row_octets, IsRowKeyLength, HasKeyTypes, IsKeyRow};
-ghost use Rattle.book_record.specs.Reading.{Judges, IsReadUnlessNoMemory};
+ghost use Rattle.book_record.specs.KeyParts.{viewed, key_row_octets, IsRowKeyLength, HasKeyTypes, AreKeyRowOctets};
+ghost use Rattle.book_record.specs.Reading.{JudgesField, IsReadUnlessNoMemory};
 ghost use Rattle.book_record.specs.RowReading.{key_row_at, MayBeKeyRow};
 
 use crate::data::Data;
@@ -20,7 +20,7 @@ pub fn write_key_row(parts: &KeyView<'_>) -> [u8; KEY_ROW_LENGTH]
     requires { IsRowKeyLength (length parts.now.bytes.now) }
     ensures spelled { result ≡ key_row_octets (viewed parts.now) }
     // What is written is a row, which `read_key_row` reads as these parts.
-    ensures row_of { IsKeyRow (viewed parts.now) result }
+    ensures row_of { AreKeyRowOctets (viewed parts.now) result }
 {
     let digest = parts.digest;
     let mut octets = Data::new();
@@ -37,7 +37,7 @@ pub fn write_key_row(parts: &KeyView<'_>) -> [u8; KEY_ROW_LENGTH]
 /// The row at the places of the octets, whatever stands in those that are not used.
 fn key_row(row: &[u8]) -> Result<KeyRow, RecordError>
     requires { length row.now ≡ KEY_ROW_LENGTH }
-    ensures { Judges result (MayBeKeyRow row.now) (key_row_at row.now) }
+    ensures { JudgesField result (MayBeKeyRow row.now) (key_row_at row.now) }
 {
     let id = key(row, 0)?;
     let state = row_key_state(row[2])?;
@@ -56,9 +56,9 @@ fn key_row(row: &[u8]) -> Result<KeyRow, RecordError>
 /// where an octet behind the key, or at the end, is not zero. Takes no memory.
 pub fn read_key_row(row: &[u8; KEY_ROW_LENGTH]) -> Result<KeyRow, RecordError>
     // What is read has these octets as its row.
-    ensures found { IfOk result (λ parts. IsKeyRow parts row.now) }
+    ensures found { IfOk result (λ parts. AreKeyRowOctets parts row.now) }
     // What has these octets as its row is read.
-    ensures only { (parts : KeyRow) → IsKeyRow parts row.now → IsReadUnlessNoMemory result parts }
+    ensures only { (parts : KeyRow) → AreKeyRowOctets parts row.now → IsReadUnlessNoMemory result parts }
 {
     let parts = key_row(row)?;
     // A key has one row: the octets that are not used are compared with it.

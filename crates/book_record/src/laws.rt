@@ -2,10 +2,10 @@ ghost use Rattle.std.specs.Prelude.{◌≡◌, ℕ, List, Some};
 ghost use Rattle.sdls_base.specs.declared.change.Change.{Change};
 ghost use Rattle.key_book.specs.declared.key_row.KeyRow.{KeyRow};
 ghost use Rattle.book_record.specs.declared.sa_parts.SaParts.{SaParts};
-ghost use Rattle.book_record.specs.KeyParts.{IsKeyRow};
+ghost use Rattle.book_record.specs.KeyParts.{AreKeyRowOctets};
 ghost use Rattle.book_record.specs.Reading.{change_of};
 ghost use Rattle.book_record.specs.Record.{IsRecord};
-ghost use Rattle.book_record.specs.SaParts.{IsSaRow};
+ghost use Rattle.book_record.specs.SaParts.{AreSaRowOctets};
 
 /// Law: no two changes have one record.
 pub fn one_change()
@@ -20,11 +20,11 @@ pub fn change_of_its_kind()
 /// Law: no two keys have one row.
 #[tactic(auto, using(crate::proofs::Rows::one_key_row))]
 pub fn one_key_row()
-    ensures { (a b : KeyRow) (row : List ℕ) → IsKeyRow a row → IsKeyRow b row → a ≡ b }
+    ensures { (a b : KeyRow) (row : List ℕ) → AreKeyRowOctets a row → AreKeyRowOctets b row → a ≡ b }
 {}
 
 /// Law: no two associations have one row.
 #[tactic(auto, using(crate::proofs::Rows::one_sa_row))]
 pub fn one_sa_row()
-    ensures { (a b : SaParts) (row : List ℕ) → IsSaRow a row → IsSaRow b row → a ≡ b }
+    ensures { (a b : SaParts) (row : List ℕ) → AreSaRowOctets a row → AreSaRowOctets b row → a ≡ b }
 {}

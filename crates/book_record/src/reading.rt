@@ -7,7 +7,7 @@ ghost use Rattle.book_record.specs.declared.kind.Kind.TheVariants.{Marks, Load, 
 ghost use Rattle.book_record.specs.declared.kind.Kind.TheVariants.{SetNumber, SetWindow};
 ghost use Rattle.book_record.specs.Record.{IsRecord};
 ghost use Rattle.sdls_base.specs.Places.{octet_at};
-ghost use Rattle.book_record.specs.Reading.{Judges, IsReadUnlessNoMemory, item_at, IsItem, items_in};
+ghost use Rattle.book_record.specs.Reading.{JudgesField, IsReadUnlessNoMemory, item_at, IsItem, items_in};
 ghost use Rattle.book_record.specs.Reading.{AreItems, keys_in, AreKeys, change_at, MayStand};
 
 use crate::fields::{count, direction, key, key_length, key_state, sa_state, spi, suite};
@@ -23,7 +23,7 @@ use std::alloc::Global;
 /// A key to be loaded, at a place.
 fn item(alloc: Global, body: &[u8], at: usize) -> Result<KeyItem, RecordError>
     requires { at + 35 ≤ length body.now }
-    ensures { Judges result (IsItem at body.now) (item_at at body.now) }
+    ensures { JudgesField result (IsItem at body.now) (item_at at body.now) }
 {
     let id = key(body, at)?;
     let length = key_length(body[at + 2])?;
@@ -39,7 +39,7 @@ fn item(alloc: Global, body: &[u8], at: usize) -> Result<KeyItem, RecordError>
 fn items(alloc: Global, body: &[u8], count: usize) -> Result<KeyItems, RecordError>
     requires room { length body.now ≡ BODY_LENGTH }
     requires count { count ≤ MOST_KEYS_AT_ONCE }
-    ensures { Judges result (AreItems count 4 body.now) (items_in count 4 body.now) }
+    ensures { JudgesField result (AreItems count 4 body.now) (items_in count 4 body.now) }
 {
     let mut items = Vec::new(alloc);
     let mut at = 4;
@@ -55,7 +55,7 @@ fn items(alloc: Global, body: &[u8], count: usize) -> Result<KeyItems, RecordErr
 fn keys(alloc: Global, body: &[u8], count: usize) -> Result<KeyList, RecordError>
     requires room { length body.now ≡ BODY_LENGTH }
     requires count { count ≤ MOST_KEYS_AT_ONCE }
-    ensures { Judges result (AreKeys count 5 body.now) (keys_in count 5 body.now) }
+    ensures { JudgesField result (AreKeys count 5 body.now) (keys_in count 5 body.now) }
 {
     let mut keys = Vec::new(alloc);
     let mut at = 5;
@@ -68,7 +68,7 @@ fn keys(alloc: Global, body: &[u8], count: usize) -> Result<KeyList, RecordError
 
 fn marks(body: &[u8]) -> Result<Change, RecordError>
     requires { length body.now ≡ BODY_LENGTH }
-    ensures { Judges result (MayStand Marks body.now) (change_at Marks body.now) }
+    ensures { JudgesField result (MayStand Marks body.now) (change_at Marks body.now) }
 {
     Ok(Change::Marks {
         key: key(body, 3)?,
@@ -79,7 +79,7 @@ fn marks(body: &[u8]) -> Result<Change, RecordError>
 
 fn load(alloc: Global, body: &[u8]) -> Result<Change, RecordError>
     requires { length body.now ≡ BODY_LENGTH }
-    ensures { Judges result (MayStand Load body.now) (change_at Load body.now) }
+    ensures { JudgesField result (MayStand Load body.now) (change_at Load body.now) }
 {
     let count = count(body[3])?;
     Ok(Change::Load(items(alloc, body, count)?))
@@ -87,7 +87,7 @@ fn load(alloc: Global, body: &[u8]) -> Result<Change, RecordError>
 
 fn key_states(alloc: Global, body: &[u8]) -> Result<Change, RecordError>
     requires { length body.now ≡ BODY_LENGTH }
-    ensures { Judges result (MayStand KeyStates body.now) (change_at KeyStates body.now) }
+    ensures { JudgesField result (MayStand KeyStates body.now) (change_at KeyStates body.now) }
 {
     let to = key_state(body[3])?;
     let count = count(body[4])?;
@@ -97,7 +97,7 @@ fn key_states(alloc: Global, body: &[u8]) -> Result<Change, RecordError>
 
 fn create(alloc: Global, body: &[u8]) -> Result<Change, RecordError>
     requires { length body.now ≡ BODY_LENGTH }
-    ensures { Judges result (MayStand Create body.now) (change_at Create body.now) }
+    ensures { JudgesField result (MayStand Create body.now) (change_at Create body.now) }
 {
     let spi = spi(body, 3)?;
     let direction = direction(body[5])?;
@@ -117,7 +117,7 @@ fn create(alloc: Global, body: &[u8]) -> Result<Change, RecordError>
 
 fn rekey(body: &[u8]) -> Result<Change, RecordError>
     requires { length body.now ≡ BODY_LENGTH }
-    ensures { Judges result (MayStand Rekey body.now) (change_at Rekey body.now) }
+    ensures { JudgesField result (MayStand Rekey body.now) (change_at Rekey body.now) }
 {
     let spi = spi(body, 3)?;
     let key = key(body, 5)?;
@@ -130,7 +130,7 @@ fn rekey(body: &[u8]) -> Result<Change, RecordError>
 
 fn sa_to(body: &[u8]) -> Result<Change, RecordError>
     requires { length body.now ≡ BODY_LENGTH }
-    ensures { Judges result (MayStand SaTo body.now) (change_at SaTo body.now) }
+    ensures { JudgesField result (MayStand SaTo body.now) (change_at SaTo body.now) }
 {
     let spi = spi(body, 3)?;
     let to = sa_state(body[5])?;
@@ -139,7 +139,7 @@ fn sa_to(body: &[u8]) -> Result<Change, RecordError>
 
 fn set_number(body: &[u8]) -> Result<Change, RecordError>
     requires { length body.now ≡ BODY_LENGTH }
-    ensures { Judges result (MayStand SetNumber body.now) (change_at SetNumber body.now) }
+    ensures { JudgesField result (MayStand SetNumber body.now) (change_at SetNumber body.now) }
 {
     Ok(Change::SetNumber {
         spi: spi(body, 3)?,
@@ -149,7 +149,7 @@ fn set_number(body: &[u8]) -> Result<Change, RecordError>
 
 fn set_window(body: &[u8]) -> Result<Change, RecordError>
     requires { length body.now ≡ BODY_LENGTH }
-    ensures { Judges result (MayStand SetWindow body.now) (change_at SetWindow body.now) }
+    ensures { JudgesField result (MayStand SetWindow body.now) (change_at SetWindow body.now) }
 {
     Ok(Change::SetWindow {
         spi: spi(body, 3)?,
@@ -160,7 +160,7 @@ fn set_window(body: &[u8]) -> Result<Change, RecordError>
 /// The change that a body of a kind says, whatever its length says, and whatever stands behind its data.
 fn change(alloc: Global, kind: Kind, body: &[u8]) -> Result<Change, RecordError>
     requires { length body.now ≡ BODY_LENGTH }
-    ensures { Judges result (MayStand kind body.now) (change_at kind body.now) }
+    ensures { JudgesField result (MayStand kind body.now) (change_at kind body.now) }
 {
     match kind {
         Kind::Marks => marks(body),

@@ -2,9 +2,10 @@
 ghost use Rattle.std.specs.Prelude.{◌≡◌, length, IfOk, IfErr, IfSome};
 ghost use Rattle.sdls_base.specs.Bounds.{AreChannels};
 ghost use Rattle.book_record.specs.declared.sa_parts.SaParts.{SaParts};
-ghost use Rattle.book_record.specs.SaParts.{viewed, held_code, sa_parts, sa_row_octets, BeginsAt, HasSaTypes, IsSaRow};
+ghost use Rattle.book_record.specs.SaParts.{viewed, held_code, sa_parts, sa_row_octets, BeginsAt, HasSaTypes};
+ghost use Rattle.book_record.specs.SaParts.{AreSaRowOctets};
 ghost use Rattle.book_record.specs.Record.{IsKey};
-ghost use Rattle.book_record.specs.Reading.{HasCause, Judges, IsReadUnlessNoMemory};
+ghost use Rattle.book_record.specs.Reading.{HasCause, JudgesField, IsReadUnlessNoMemory};
 ghost use Rattle.book_record.specs.RowReading.{sa_row_at, MayBeSaRow};
 
 use crate::data::Data;
@@ -35,7 +36,7 @@ pub fn write_sa_row(parts: &SaView<'_>) -> [u8; SA_ROW_LENGTH]
     requires { AreChannels parts.now.channels.now }
     ensures spelled { result ≡ sa_row_octets (viewed parts.now) }
     // What is written is a row, which `read_sa_row` reads as these parts.
-    ensures row_of { IsSaRow (viewed parts.now) result }
+    ensures row_of { AreSaRowOctets (viewed parts.now) result }
 {
     let mut octets = Data::new();
     octets.put_word(parts.spi.get());
@@ -52,7 +53,7 @@ pub fn write_sa_row(parts: &SaView<'_>) -> [u8; SA_ROW_LENGTH]
 /// The row at the places of the octets, whatever stands in those that are not used. Its window begins at 0.
 fn sa_row(alloc: Global, row: &[u8]) -> Result<SaRow, RecordError>
     requires { length row.now ≡ SA_ROW_LENGTH }
-    ensures { Judges result (MayBeSaRow row.now) (sa_row_at row.now) }
+    ensures { JudgesField result (MayBeSaRow row.now) (sa_row_at row.now) }
 {
     let spi = spi(row, 0)?;
     let direction = direction(row[2])?;
@@ -79,9 +80,9 @@ fn sa_row(alloc: Global, row: &[u8]) -> Result<SaRow, RecordError>
 /// behind the channels, or at the end, is not zero.
 pub fn read_association(alloc: Global, row: &[u8; SA_ROW_LENGTH]) -> Result<SaRow, RecordError>
     // What is read has these octets as its row.
-    ensures found { IfOk result (λ association. IsSaRow (sa_parts association) row.now) }
+    ensures found { IfOk result (λ association. AreSaRowOctets (sa_parts association) row.now) }
     ensures window { IfOk result (BeginsAt 0) }
-    ensures malformed { IfErr result (λ error. HasCause error ((parts : SaParts) → ¬ IsSaRow parts row.now)) }
+    ensures malformed { IfErr result (λ error. HasCause error ((parts : SaParts) → ¬ AreSaRowOctets parts row.now)) }
 {
     let association = sa_row(alloc, row)?;
     // An association has one row: the octets that are not used are compared with it.
@@ -96,9 +97,9 @@ pub fn read_association(alloc: Global, row: &[u8; SA_ROW_LENGTH]) -> Result<SaRo
 /// of an association.
 pub fn read_sa_row(alloc: Global, row: &[u8; SA_ROW_LENGTH]) -> Result<SaParts, RecordError>
     // What is read has these octets as its row.
-    ensures found { IfOk result (λ parts. IsSaRow parts row.now) }
+    ensures found { IfOk result (λ parts. AreSaRowOctets parts row.now) }
     // What has these octets as its row is read, unless memory runs out.
-    ensures only { (parts : SaParts) → IsSaRow parts row.now → IsReadUnlessNoMemory result parts }
+    ensures only { (parts : SaParts) → AreSaRowOctets parts row.now → IsReadUnlessNoMemory result parts }
 {
     let association = read_association(alloc, row)?;
     Ok(SaParts::of(association))

@@ -3,7 +3,7 @@ use Rattle.std.proofs.Common.{◌≡◌, ℕ, ◌+◌, ◌<◌, Bool, List, [], 
 use Rattle.std.proofs.Common.{inr, arith, append-nil, append_assoc, length-append, get_or, Result, Ok, Err, Some}
 use Rattle.std.specs.Prelude.{OnErr}
 use Rattle.std.proofs.lemmas.List.{take-append-le}
-use Rattle.sdls_base.specs.Numbers.{times}
+use Rattle.sdls_base.specs.Numbers.{tally}
 use Rattle.sdls_base.specs.declared.entry.Entry.{Entry}
 use Rattle.sdls_base.specs.declared.entry.Logged.{Logged}
 use Rattle.sdls_outside.specs.Faults.{Rose}
@@ -11,7 +11,7 @@ use Rattle.sdls_outside.specs.Site.{after_put}
 use Rattle.counter_table.specs.declared.view.Opening.{Opening}
 use Rattle.counter_table.specs.declared.view.View.{View}
 use Rattle.key_book.specs.KeyBook.{place_of}
-use Rattle.unit_state.specs.History.{after, after_first, epoch_after}
+use Rattle.unit_state.specs.History.{after_all, after_first, epoch_after}
 use Rattle.run_promise.specs.Log.{entries_of, pieces_of}
 use Rattle.run_promise.specs.Numbers.{mark_of}
 use Rattle.run_promise.specs.Call.{Begin}
@@ -59,7 +59,7 @@ settles_on begin u v w s on =
         marks = λ key row number few is spent.
             subst (λ (es : List Entry). number < mark_of (after_first begin.start es s.entries) key) (sym on.entries)
             (s.at.marks key row number few
-            (subst (λ (es : List Entry). place_of (after begin.start es).keys key ≡ Some row) on.entries is) spent);
+            (subst (λ (es : List Entry). place_of (after_all begin.start es).keys key ≡ Some row) on.entries is) spent);
         standing = s.at.standing;
         stopped = s.at.stopped;
         stood = λ clean. s.at.stood (clean_before v w on.does.grows clean) ∙ sym (ap length on.entries);
@@ -90,9 +90,9 @@ settles_first begin u v w before (inl same) on s = record {
     is_stored = s.at.is_stored;
     epoch = let a = s.at.epoch in let b = before.does.grows.epochs in omega arith;
     marks = λ key row number few is spent.
-        let t : times row number v.numbers.spent ≡ times row number u.numbers.spent
-        + times row number before.does.gains.spent =
-        ap (times row number) before.does.gained.spent ∙ times_both row number u.numbers.spent
+        let t : tally row number v.numbers.spent ≡ tally row number u.numbers.spent
+        + tally row number before.does.gains.spent =
+        ap (tally row number) before.does.gained.spent ∙ times_both row number u.numbers.spent
         before.does.gains.spent in
         s.at.marks key row number few is (omega arith);
     standing = let a = before.does.grows.earlier.standing in let b = s.at.standing in omega arith;

@@ -13,7 +13,7 @@ use Rattle.counter_table.specs.declared.view.Known.{Known}
 use Rattle.counter_table.specs.declared.view.Numbers.{Numbers}
 use Rattle.counter_table.specs.declared.view.Turn.{Turn}
 use Rattle.counter_table.specs.declared.view.View.{View}
-use Rattle.sdls_base.specs.Numbers.{one_if, times, total, once_below}
+use Rattle.sdls_base.specs.Numbers.{one_if, tally, total, once_below}
 use Rattle.counter_table.specs.Numbers.{count_of, amount, top, no_numbers, ALL_SHARES}
 use Rattle.counter_table.specs.Turn.{stands, no_turn}
 use Rattle.counter_table.specs.Rule.{greatest, next_at, KnowsBook, IsAtHome, IsKept}
@@ -110,7 +110,7 @@ module _ {B : Type 0} (told : B → Known) (count : ℕ) (s : State (Option B) V
           grown = let t = numbers_only (λ u. amount row u.added) refl in let g = fits.grown in omega arith;
           bound = let t = numbers_only (λ u. count_of row u.drawn) refl in let r = raised_only row in
               let g = fits.bound in omega arith;
-          drawn = λ x. let t = numbers_only (λ u. times row x u.drawn) refl in let o = fits.once x in omega arith;
+          drawn = λ x. let t = numbers_only (λ u. tally row x u.drawn) refl in let o = fits.once x in omega arith;
           seen = seat.nexts;
           last = ⊎_elim inl (λ k. inr (last_only row (get_or s.words (next_at row) 0) k)) fits.last;
         }

@@ -9,7 +9,7 @@ use lib.ListN.{get_elem?}
 use Rattle.atomic_table.proofs.Lists.{at_set}
 use borrow.Author.Tests.{ltb-true}
 use Rattle.counter_table.specs.declared.view.Numbers.{Numbers}
-use Rattle.sdls_base.specs.Numbers.{times, total}
+use Rattle.sdls_base.specs.Numbers.{tally, total}
 use Rattle.counter_table.specs.Numbers.{is_armed, no_numbers, arming, drawing, spending, returning, peeking, raising}
 use Rattle.counter_table.specs.Numbers.{lifting, ALL_SHARES}
 use Rattle.counter_table.specs.Rule.{most, next_at, limit_at, SeatFits, RowFits, IsSane, NumbersFit}
@@ -55,9 +55,9 @@ module _ (count : ℕ) (words words' : List ℕ) (views : List Numbers) (id : �
   pub seat_fits : row < count → SeatFits row (get_or words (next_at row) 0) (get_or words (limit_at row) 0) v
   seat_fits b = (row_fits b).each id v at
 
-  pub drawn_once : row < count → (x : ℕ) → times row x v.drawn ≤ 1
+  pub drawn_once : row < count → (x : ℕ) → tally row x v.drawn ≤ 1
   drawn_once b x =
-      let t = total_at (λ u. times row x u.drawn) views id v at in let o = (row_fits b).once x in
+      let t = total_at (λ u. tally row x u.drawn) views id v at in let o = (row_fits b).once x in
       let l = once_below_one x (get_or words (next_at row) 0) in omega arith
 
   -- the row moves, and the others are quiet

@@ -20,6 +20,7 @@ use Rattle.counter_table.specs.Known.{known_mark, Earlier, IsSparing, MayGive, M
 use Rattle.counter_table.specs.Numbers.{keeper, newcomer, joined, no_numbers, lifting, ALL_SHARES}
 use Rattle.counter_table.specs.Turn.{beginner, merged, no_turn, taking, giving, filling, learning, seeing, turning}
 use Rattle.counter_table.specs.Rule.{next_at, limit_at, NumbersFit, TurnFits, IsKept}
+use Rattle.sdls_base.specs.Numbers.{tally}
 use Rattle.counter_table.specs.Play.{no_view, takes, IsAsKnown, IsCovered, gives, empties, fills, lifts, sees, turns}
 use Rattle.counter_table.specs.Play.{looks}
 use Rattle.counter_table.proofs.Fitting.{limit_apart, limit_set, drawn_once, lift_fits as numbers_lift}
@@ -94,7 +95,7 @@ module _ {B : Type 0} (told : B → Known) (count : ℕ) where
     turn_at = at_turn told count s id v v at kept
 
     -- the row's part for a worker
-    pub once_each : (row : ℕ) → row < count → (x : ℕ) → Rattle.sdls_base.specs.Numbers.times row x v.numbers.drawn ≤ 1
+    pub once_each : (row : ℕ) → row < count → (x : ℕ) → tally row x v.numbers.drawn ≤ 1
     once_each row b x = drawn_once count s.words s.words (numbers_of s.views) id v.numbers v.numbers row
         (at_numbers told count s id v v at kept) kept.numbers b x
 

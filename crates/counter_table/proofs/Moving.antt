@@ -4,7 +4,7 @@ use Rattle.std.proofs.Common.{List, [], ◌∷◌, ◌++◌, sym, refl, ap, ◌�
 use Rattle.std.proofs.Common.{ne_eqb, Some, None, ◌==◌, if◌then◌else◌}
 use Rattle.std.proofs.lemmas.Bool.Decides.{nat_tests}
 use Rattle.counter_table.specs.declared.view.Numbers.{Numbers}
-use Rattle.sdls_base.specs.Numbers.{times, once_below}
+use Rattle.sdls_base.specs.Numbers.{tally, once_below}
 use Rattle.counter_table.specs.Numbers.{top, is_armed, is_last, arming, drawing, spending, returning, raising, lifting}
 use Rattle.counter_table.specs.Rule.{SeatFits, IsSane}
 use Rattle.counter_table.proofs.Sums.{times-append, top-append, times_here, count_of_here, amount_here, top_here}
@@ -112,14 +112,14 @@ module _ (row n l : ℕ) (v : Numbers) (fits : SeatFits row n l v) (alive : 0 < 
         alive = alive;
       }
 
-  module _ (sane : IsSane v) (x : ℕ) (last : v.last ≡ Some (row, x)) (one : (y : ℕ) → times row y v.drawn ≤ 1)
+  module _ (sane : IsSane v) (x : ℕ) (last : v.last ≡ Some (row, x)) (one : (y : ℕ) → tally row y v.drawn ≤ 1)
       (funded : x < l) where
-    spent_once : (y : ℕ) → times row y (v.spent ++ (row, x) ∷ []) ≤ once_below y l
+    spent_once : (y : ℕ) → tally row y (v.spent ++ (row, x) ∷ []) ≤ once_below y l
     spent_once y =
         let here : is_last row y v.last ≡ (if x == y then 1 else 0) = rw (last, eq-eqb row row refl) refl in
         let e = times_here row x v.spent y in let s = sane.drawn row y in let o = one y in let f = fits.spent y in
-        let spent = times row y v.spent in
-        lemma spent (times row y v.drawn) y (rw here at s) o f ∙≤ e
+        let spent = tally row y v.spent in
+        lemma spent (tally row y v.drawn) y (rw here at s) o f ∙≤ e
       where
         infixl 5 ◌∙≤◌
         ◌∙≤◌ : {a b c : ℕ} → b ≤ c → a ≡ b → a ≤ c
@@ -153,7 +153,7 @@ module _ (row n l : ℕ) (v : Numbers) (fits : SeatFits row n l v) (alive : 0 < 
     spend_sane =
         record {
           drawn = λ q y. rw (times-append q y v.spent ((row, x) ∷ []))
-              (let s : times q y v.spent + is_last q y (Some (row, x)) ≤ times q y v.drawn =
+              (let s : tally q y v.spent + is_last q y (Some (row, x)) ≤ tally q y v.drawn =
               rw last at (sane.drawn q y) in omega arith);
           alive = inr alive;
         }

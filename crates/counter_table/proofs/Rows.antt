@@ -8,7 +8,7 @@ use native.Mathlib.Decide.{ℕ_discrete}
 use lib.ListN.{get_elem?}
 use Rattle.atomic_table.proofs.Lists.{at_set, set_here, set_else}
 use Rattle.counter_table.specs.declared.view.Numbers.{Numbers}
-use Rattle.sdls_base.specs.Numbers.{times, total, once_below}
+use Rattle.sdls_base.specs.Numbers.{tally, total, once_below}
 use Rattle.counter_table.specs.Numbers.{count_of, amount, top, is_armed}
 use Rattle.counter_table.specs.Rule.{greatest, most, SeatFits, RowFits}
 use Rattle.counter_table.proofs.Sums.{at_below, total_set, total_at, greatest_at, greatest_least}
@@ -21,7 +21,7 @@ once_below_more x n m h = grind (arith, nat_tests)
 
 -- what a step does to the row's words and to its maker's numbers
 pub record Moves (row next limit next' limit' : ℕ) (v w : Numbers) : Type 0 where
-  pub once : (x : ℕ) → times row x w.drawn + once_below x next ≤ times row x v.drawn + once_below x next'
+  pub once : (x : ℕ) → tally row x w.drawn + once_below x next ≤ tally row x v.drawn + once_below x next'
   pub grown : next' + amount row v.added ≡ next + amount row w.added
   pub raised : top row v.raised ≤ top row w.raised
   pub counted : count_of row v.drawn ≤ count_of row w.drawn
@@ -34,8 +34,8 @@ pub record Moves (row next limit next' limit' : ℕ) (v w : Numbers) : Type 0 wh
 
 -- the numbers of this row stay as they are
 pub record Quiet (row : ℕ) (v w : Numbers) : Type 0 where
-  pub drawn : (x : ℕ) → times row x w.drawn ≡ times row x v.drawn
-  pub spent : (x : ℕ) → times row x w.spent ≡ times row x v.spent
+  pub drawn : (x : ℕ) → tally row x w.drawn ≡ tally row x v.drawn
+  pub spent : (x : ℕ) → tally row x w.spent ≡ tally row x v.spent
   pub added : amount row w.added ≡ amount row v.added
   pub raised : top row w.raised ≡ top row v.raised
   pub counted : count_of row w.drawn ≡ count_of row v.drawn
@@ -101,7 +101,7 @@ module _ (row n l n' l' : ℕ) (views : List Numbers) (id : ℕ) (v w : Numbers)
   pub row_step : n' + total (λ u. is_armed row u.armed) (set views id w) ≤ most → RowFits row n' l' (set views id w)
   row_step room =
       record {
-        once = λ x. let t = total_set (λ u. times row x u.drawn) views id v w at in let o = fits.once x in
+        once = λ x. let t = total_set (λ u. tally row x u.drawn) views id v w at in let o = fits.once x in
             let m = moves.once x in omega arith;
         room = room;
         grown = let t = total_set (λ u. amount row u.added) views id v w at in let o = fits.grown in

@@ -7,7 +7,7 @@ use native.Mathlib.Decide.{ℕ_discrete}
 use lib.ListN.{get_elem?}
 use Rattle.atomic_table.proofs.Lists.{at_set, at_snoc, at_longer, set_here, set_else}
 use Rattle.counter_table.specs.declared.view.Numbers.{Numbers}
-use Rattle.sdls_base.specs.Numbers.{times, total, once_below}
+use Rattle.sdls_base.specs.Numbers.{tally, total, once_below}
 use Rattle.counter_table.specs.Numbers.{count_of, amount, top, is_armed, no_numbers, keeper, newcomer, joined}
 use Rattle.counter_table.specs.Rule.{greatest, SeatFits, RowFits, IsSane, NumbersFit}
 use Rattle.counter_table.proofs.Sums.{at_below, total-append, total_set, total_two, greatest_at, greatest_least}
@@ -61,7 +61,7 @@ module _ (views : List Numbers) (id : ℕ) (v : Numbers) (at : get_elem? views i
     pub row_cut : RowFits row n l cut
     row_cut =
         record {
-          once = λ x. let t = cut_total (λ u. times row x u.drawn) refl refl in let o = fits.once x in omega arith;
+          once = λ x. let t = cut_total (λ u. tally row x u.drawn) refl refl in let o = fits.once x in omega arith;
           room = let t = cut_total (λ u. is_armed row u.armed) refl refl in let o = fits.room in omega arith;
           grown = let t = cut_total (λ u. amount row u.added) refl refl in let o = fits.grown in omega arith;
           bound = let t = cut_total (λ u. count_of row u.drawn) refl refl in let r = cut_raised in let o = fits.bound in
@@ -122,18 +122,18 @@ module _ (views : List Numbers) (id other : ℕ) (v w : Numbers) (at : get_elem?
       (at_set _ other j no_numbers u e)
 
   module _ (row n l : ℕ) (fits : RowFits row n l views) (sane_v : IsSane v) (sane_w : IsSane w) where
-    drawn_two : (x : ℕ) → times row x v.drawn + times row x w.drawn ≤ 1
-    drawn_two x = let t = total_two (λ u. times row x u.drawn) views id other v w at there (λ e. apart (sym e)) in
+    drawn_two : (x : ℕ) → tally row x v.drawn + tally row x w.drawn ≤ 1
+    drawn_two x = let t = total_two (λ u. tally row x u.drawn) views id other v w at there (λ e. apart (sym e)) in
         let o = fits.once x in let b = once_below_one x n in omega arith
 
-    both_spent : (x : ℕ) → times row x (v.spent ++ w.spent) ≤ once_below x l
+    both_spent : (x : ℕ) → tally row x (v.spent ++ w.spent) ≤ once_below x l
     both_spent x =
         let e = times-append row x v.spent w.spent in
         let a = (fits.each id v at).spent x in let b = (fits.each other w there).spent x in
         let c = sane_v.drawn row x in let d = sane_w.drawn row x in let two = drawn_two x in
-        let sum = times row x v.spent + times row x w.spent in
+        let sum = tally row x v.spent + tally row x w.spent in
         let h : sum ≤ once_below x l =
-        lemma (times row x v.spent) (times row x w.spent) (once_below x l) a b (omega arith) in omega arith
+        lemma (tally row x v.spent) (tally row x w.spent) (once_below x l) a b (omega arith) in omega arith
       where
         lemma : (s t o : ℕ) → s ≤ o → t ≤ o → s + t ≤ 1 → s + t ≤ o
         lemma s t o a b c = omega arith
@@ -179,7 +179,7 @@ module _ (views : List Numbers) (id other : ℕ) (v w : Numbers) (at : get_elem?
     pub row_met : 0 < v.shares → RowFits row n l met
     row_met alive =
         record {
-          once = λ x. let t = met_total (λ u. times row x u.drawn) refl in let e = times-append row x v.drawn w.drawn in
+          once = λ x. let t = met_total (λ u. tally row x u.drawn) refl in let e = times-append row x v.drawn w.drawn in
               let o = fits.once x in omega arith;
           room = let t = met_total (λ u. is_armed row u.armed) refl in let o = fits.room in omega arith;
           grown = let t = met_total (λ u. amount row u.added) refl in let e = amount-append row v.added w.added in

@@ -4,7 +4,7 @@ use Rattle.std.proofs.Common.{sym, refl, ap, subst, ⊎_elim, arith, eq-eqb, if�
 use mathlib.Core.Option.{some, some-injective, some-ne-none}
 use lib.ListN.{get_elem?}
 use Rattle.atomic_table.proofs.Lists.{at_set, at_snoc}
-use Rattle.sdls_base.specs.Numbers.{times, total}
+use Rattle.sdls_base.specs.Numbers.{tally, total}
 use Rattle.counter_table.specs.Numbers.{count_of, amount, top}
 use Rattle.counter_table.specs.Rule.{greatest}
 
@@ -68,7 +68,7 @@ module _ {V : Type 0} (f g : V → ℕ) where
   total_less [] h = omega arith
   total_less (x ∷ xs) h = let a = h 0 x refl in let b = total_less xs (λ i. h (suc i)) in omega arith
 
-pub times-append : (row x : ℕ) (ps qs : List (ℕ × ℕ)) → times row x (ps ++ qs) ≡ times row x ps + times row x qs
+pub times-append : (row x : ℕ) (ps qs : List (ℕ × ℕ)) → tally row x (ps ++ qs) ≡ tally row x ps + tally row x qs
 times-append row x [] qs = omega arith
 times-append row x (p ∷ ps) qs = let h = times-append row x ps qs in omega arith
 
@@ -86,7 +86,7 @@ top-append row (p ∷ ps) qs = let h = top-append row ps qs in omega arith
 
 -- one more pair, of this row
 module _ (row n : ℕ) (ps : List (ℕ × ℕ)) where
-  pub times_here : (x : ℕ) → times row x (ps ++ (row, n) ∷ []) ≡ times row x ps + (if n == x then 1 else 0)
+  pub times_here : (x : ℕ) → tally row x (ps ++ (row, n) ∷ []) ≡ tally row x ps + (if n == x then 1 else 0)
   times_here x = rw (times-append row x ps ((row, n) ∷ []), eq-eqb row row refl) (omega arith)
 
   pub count_of_here : count_of row (ps ++ (row, n) ∷ []) ≡ count_of row ps + 1
@@ -100,7 +100,7 @@ module _ (row n : ℕ) (ps : List (ℕ × ℕ)) where
 
 -- one more pair, of another row
 module _ (row r n : ℕ) (apart : eqb r row ≡ false) (ps : List (ℕ × ℕ)) where
-  pub times_else : (x : ℕ) → times row x (ps ++ (r, n) ∷ []) ≡ times row x ps
+  pub times_else : (x : ℕ) → tally row x (ps ++ (r, n) ∷ []) ≡ tally row x ps
   times_else x = rw (times-append row x ps ((r, n) ∷ []), apart) (omega arith)
 
   pub count_of_else : count_of row (ps ++ (r, n) ∷ []) ≡ count_of row ps

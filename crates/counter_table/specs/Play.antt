@@ -7,7 +7,7 @@ use Rattle.counter_table.specs.declared.view.Numbers.{Numbers}
 use Rattle.counter_table.specs.declared.view.Turn.{Turn}
 use Rattle.counter_table.specs.declared.view.View.{View}
 use Rattle.counter_table.specs.Known.{Earlier, IsSparing, known_mark}
-use Rattle.sdls_base.specs.Numbers.{times, once_below}
+use Rattle.sdls_base.specs.Numbers.{tally, once_below}
 use Rattle.counter_table.specs.Numbers.{top, arming, drawing, peeking, raising, lifting, first_numbers, no_numbers}
 use Rattle.counter_table.specs.Numbers.{ALL_SHARES}
 use Rattle.counter_table.specs.Whole.{IsWhole, Look}
@@ -54,7 +54,7 @@ module _ {S : Type 0} where
   -- no number of a row below the count was drawn twice, and a worker that has all shares did all
   abbrev pub looks : ℕ → Me S View → ℕ → Me S View → Type 0
   looks count m n w =
-      (w ≡ m) × ((row x : ℕ) → row < count → times row x m.0.numbers.drawn ≤ 1)
+      (w ≡ m) × ((row x : ℕ) → row < count → tally row x m.0.numbers.drawn ≤ 1)
       × (m.0.numbers.shares ≡ ALL_SHARES → IsWhole count m.0)
       × Look m.0.turn
 
@@ -75,7 +75,7 @@ pub record IsAsKnown (v : Turn) (book : Known) : Type 0 where
 
 -- the numbers spent are below the book's marks
 abbrev pub IsCovered : ℕ → Numbers → Known → Type 0
-IsCovered count v book = (row x : ℕ) → row < count → times row x v.spent ≤ once_below x (known_mark book row)
+IsCovered count v book = (row x : ℕ) → row < count → tally row x v.spent ≤ once_below x (known_mark book row)
 
 module _ {B : Type 0} (told : B → Known) where
   abbrev pub Took : ℕ → Me (Option B) View → Me (Option B) View → Type 0

@@ -14,7 +14,7 @@ use Rattle.counter_table.specs.declared.view.Numbers.{Numbers}
 use Rattle.counter_table.specs.declared.view.Turn.{Turn}
 use Rattle.counter_table.specs.declared.view.View.{View}
 use Rattle.counter_table.specs.Known.{known_mark, Earlier, IsSparing, unknown}
-use Rattle.sdls_base.specs.Numbers.{one_if, times, total, once_below}
+use Rattle.sdls_base.specs.Numbers.{one_if, tally, total, once_below}
 use Rattle.counter_table.specs.Numbers.{ALL_SHARES, count_of, amount, top, is_armed, is_last, no_numbers}
 use Rattle.counter_table.specs.Turn.{stands, no_turn}
 
@@ -43,11 +43,11 @@ pub record SeatFits (row next limit : ℕ) (v : Numbers) : Type 0 where
   pub nexts : top row v.nexts ≤ next
   pub limits : top row v.limits ≤ limit
   -- each number spent is below the limit, and was spent once
-  pub spent : (x : ℕ) → times row x v.spent ≤ once_below x limit
+  pub spent : (x : ℕ) → tally row x v.spent ≤ once_below x limit
 
 pub record RowFits (row next limit : ℕ) (views : List Numbers) : Type 0 where
   -- the numbers drawn differ, and are below `next`
-  pub once : (x : ℕ) → total (λ v. times row x v.drawn) views ≤ once_below x next
+  pub once : (x : ℕ) → total (λ v. tally row x v.drawn) views ≤ once_below x next
   -- there is room for each worker that is armed
   pub room : next + total (λ v. is_armed row v.armed) views ≤ most
   -- what draws and raises added
@@ -62,7 +62,7 @@ pub record RowFits (row next limit : ℕ) (views : List Numbers) : Type 0 where
 -- what a worker knows of its own numbers
 pub record IsSane (v : Numbers) : Type 0 where
   -- what is spent was drawn here, and so was the last number, which is not spent
-  pub drawn : (row x : ℕ) → times row x v.spent + is_last row x v.last ≤ times row x v.drawn
+  pub drawn : (row x : ℕ) → tally row x v.spent + is_last row x v.last ≤ tally row x v.drawn
   pub alive : (v ≡ no_numbers) ⊎ (0 < v.shares)
 
 pub record NumbersFit (count : ℕ) (words : List ℕ) (views : List Numbers) : Type 0 where

@@ -2,7 +2,7 @@
 use Rattle.std.specs.Prelude.{◌≡◌, ◌⊎◌, ℕ, ◌+◌, ◌<◌, ◌≤◌, max, length}
 use Rattle.counter_table.specs.declared.view.Numbers.{Numbers}
 use Rattle.counter_table.specs.declared.view.View.{View}
-use Rattle.sdls_base.specs.Numbers.{times, once_below}
+use Rattle.sdls_base.specs.Numbers.{tally, once_below}
 use Rattle.counter_table.specs.Numbers.{count_of, amount, top}
 use Rattle.counter_table.specs.Turn.{stands}
 use Rattle.counter_table.specs.declared.view.Known.{Known}
@@ -17,7 +17,7 @@ pub record RowStands (row next : ℕ) (v : Numbers) : Type 0 where
   pub grown : next ≡ 1 + amount row v.added
   pub bound : next ≤ max 1 (top row v.raised) + count_of row v.drawn
   -- the numbers drawn differ and are below it
-  pub drawn : (x : ℕ) → times row x v.drawn ≤ once_below x next
+  pub drawn : (x : ℕ) → tally row x v.drawn ≤ once_below x next
   -- it is the last one that was seen
   pub seen : top row v.nexts ≤ next
   pub last : (next ≡ 1) ⊎ (top row v.nexts ≡ next)

@@ -4,7 +4,7 @@ ghost use Rattle.std.specs.Prelude.{slice_index, length, vec_capacity, []};
 ghost use mathlib.Core.Option.{some};
 ghost use lib.ListN.{get_elem?};
 ghost use Rattle.std.specs.Mem.Slots.{slots_items, slots_len, IsFull};
-ghost use Rattle.sdls_base.specs.Numbers.{times};
+ghost use Rattle.sdls_base.specs.Numbers.{tally};
 ghost use Rattle.counter_table.specs.declared.drawing.TheConstants.{ROW_WORDS};
 ghost use Rattle.counter_table.specs.declared.turns.TheConstants.{EPOCH};
 ghost use Rattle.counter_table.specs.Numbers.{ALL_SHARES, joined, keeper, newcomer};
@@ -82,7 +82,7 @@ impl<B: Counted> Counters<B> {
 
         // No number of a row was drawn twice, be it by one of the two or by both.
         ensures apart { (row x : ℕ) → row < rows_of self.now
-            → times row x (view worker.old).numbers.drawn + times row x (view other).numbers.drawn ≤ 1 }
+            → tally row x (view worker.old).numbers.drawn + tally row x (view other).numbers.drawn ≤ 1 }
 
         // What both knew is of an earlier time, and no place was made twice.
         ensures meet { (view worker.old).turn.holds ≡ false → (view worker.old).turn.filled ≡ true
@@ -121,7 +121,7 @@ impl<B: Counted> Counters<B> {
         requires rows { (rows ≡ rows_of self.now) × (rows ≡ T.number) }
         ensures same { IsSame worker.old worker.new }
         ensures view { view worker.new ≡ view worker.old }
-        ensures apart { (row x : ℕ) → row < rows → times row x (view worker.old).numbers.drawn ≤ 1 }
+        ensures apart { (row x : ℕ) → row < rows → tally row x (view worker.old).numbers.drawn ≤ 1 }
         ensures whole { (view worker.old).numbers.shares ≡ ALL_SHARES → IsWhole rows (view worker.old) }
         ensures look { Look (view worker.old).turn }
     {

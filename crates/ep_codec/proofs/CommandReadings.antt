@@ -8,7 +8,7 @@ use Rattle.ep_codec.specs.declared.pdu_error.PduError.TheVariants.{Fault, NoMemo
 use Rattle.ep_codec.specs.declared.procedure.PduType.TheVariants as types
 use Rattle.ep_codec.specs.declared.procedure.Procedure.{Procedure}
 use Rattle.sdls_base.specs.FirstFailing.{first_failing}
-use Rattle.ep_codec.specs.Check.{IsFirst, Judges, IsReadUnlessNoMemory, Carries, HasFault}
+use Rattle.ep_codec.specs.Check.{IsFirst, JudgesMessage, IsReadUnlessNoMemory, Carries, HasFault}
 use Rattle.ep_codec.specs.Command.{IsCommandPdu}
 use Rattle.ep_codec.specs.CommandReading.{command_at, command_procedure}
 use Rattle.ep_codec.specs.MessageFault.{procedure_in, header_checks, command_checks, field_checks, message_fault}
@@ -38,7 +38,7 @@ header_fault octets NoMemory first = tt
 
 -- what reading the fields answers
 abbrev pub JudgesCommand : Result Command PduError → Procedure → List ℕ → Type 0
-JudgesCommand r p octets = Judges r (command_checks p octets) (λ command. command ≡ command_at p octets)
+JudgesCommand r p octets = JudgesMessage r (command_checks p octets) (λ command. command ≡ command_at p octets)
 
 pub fields_found : (octets : List ℕ) (p : Procedure) (r : Result Command PduError) → AreOctets octets
     → first_failing (header_checks types.Command octets) ≡ None

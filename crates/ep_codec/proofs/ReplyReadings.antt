@@ -8,7 +8,7 @@ use Rattle.ep_codec.specs.declared.pdu_error.PduError.TheVariants.{Fault, NoMemo
 use Rattle.ep_codec.specs.declared.procedure.PduType.TheVariants as types
 use Rattle.ep_codec.specs.declared.procedure.Procedure.{Procedure}
 use Rattle.sdls_base.specs.FirstFailing.{first_failing}
-use Rattle.ep_codec.specs.Check.{IsFirst, Judges, IsReadUnlessNoMemory, Carries, HasFault}
+use Rattle.ep_codec.specs.Check.{IsFirst, JudgesMessage, IsReadUnlessNoMemory, Carries, HasFault}
 use Rattle.ep_codec.specs.ReplyPdu.{IsReplyPdu}
 use Rattle.ep_codec.specs.ReplyReading.{reply_at, reply_procedure}
 use Rattle.ep_codec.specs.MessageFault.{procedure_in, header_checks, reply_checks, field_checks, message_fault}
@@ -38,7 +38,7 @@ header_fault octets NoMemory first = tt
 
 -- what reading the fields answers
 abbrev pub JudgesReply : Result ReplyPdu PduError → Procedure → List ℕ → Type 0
-JudgesReply r p octets = Judges r (reply_checks p octets) (λ reply. reply ≡ reply_at p octets)
+JudgesReply r p octets = JudgesMessage r (reply_checks p octets) (λ reply. reply ≡ reply_at p octets)
 
 pub fields_found : (octets : List ℕ) (p : Procedure) (r : Result ReplyPdu PduError) → AreOctets octets
     → first_failing (header_checks types.Reply octets) ≡ None

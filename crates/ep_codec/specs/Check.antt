@@ -1,4 +1,4 @@
--- The tests of a procedure message, in an order (profile): each tells the offset of its fault.
+-- The tests of a procedure message, in an order (profile): each has the offset of its fault.
 use Rattle.std.specs.Prelude.{◌≡◌, ⊤, ℕ, List, Option, Some, None, Result, Ok, Err}
 use Rattle.sdls_base.specs.FirstFailing.{Check, first_failing}
 use Rattle.ep_codec.specs.declared.pdu_error.PduError.{PduError}
@@ -10,9 +10,9 @@ IsFirst (Fault offset) checks = first_failing checks ≡ Some offset
 IsFirst NoMemory checks = ⊤
 
 -- What a reader answers: where no test finds a fault, a value that is as P says, and else the first fault.
-abbrev pub Judges : {X : Type 0} → Result X PduError → List (Check ℕ) → (X → Type 0) → Type 0
-Judges (Ok x) checks P = (first_failing checks ≡ None) × P x
-Judges (Err e) checks P = IsFirst e checks
+abbrev pub JudgesMessage : {X : Type 0} → Result X PduError → List (Check ℕ) → (X → Type 0) → Type 0
+JudgesMessage (Ok x) checks P = (first_failing checks ≡ None) × P x
+JudgesMessage (Err e) checks P = IsFirst e checks
 
 -- The value is read, unless memory ran out.
 abbrev pub IsReadUnlessNoMemory : {X : Type 0} → Result X PduError → X → Type 0

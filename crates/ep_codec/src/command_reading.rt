@@ -4,7 +4,7 @@
 ghost use Rattle.std.specs.Prelude.{◌≡◌, ◌-◌, ◌+◌, ◌^◌, ◌<◌, ◌≤◌, IsTrue, length, slice_range, [], ◌∷◌};
 ghost use Rattle.ep_codec.specs.declared.procedure.Procedure.TheVariants.{Rekeying, Verify, Inventory, Compose, Create};
 ghost use Rattle.ep_codec.specs.declared.procedure.Procedure.TheVariants.{SetWindow, Rekey, SetNumber};
-ghost use Rattle.ep_codec.specs.Check.{Judges};
+ghost use Rattle.ep_codec.specs.Check.{JudgesMessage};
 ghost use Rattle.ep_codec.specs.MessageFault.{command_checks};
 ghost use Rattle.ep_codec.specs.CommandReading.{command_at};
 ghost use Rattle.ep_codec.specs.Procedure.{has_command_length};
@@ -20,7 +20,7 @@ use std::alloc::Global;
 
 fn rekeying(alloc: Global, octets: &[u8]) -> Result<Command, PduError>
     requires { IsTrue (has_command_length Rekeying (length octets.now - 3)) }
-    ensures { Judges result (command_checks Rekeying octets.now)
+    ensures { JudgesMessage result (command_checks Rekeying octets.now)
         (λ command. command ≡ command_at Rekeying octets.now) }
 {
     let end = octets.len() - TAG;
@@ -34,7 +34,7 @@ fn rekeying(alloc: Global, octets: &[u8]) -> Result<Command, PduError>
 
 fn verify(octets: &[u8]) -> Result<Command, PduError>
     requires { length octets.now ≡ 21 }
-    ensures { Judges result (command_checks Verify octets.now)
+    ensures { JudgesMessage result (command_checks Verify octets.now)
         (λ command. command ≡ command_at Verify octets.now) }
 {
     Ok(Command::Verify {
@@ -45,7 +45,7 @@ fn verify(octets: &[u8]) -> Result<Command, PduError>
 
 fn inventory(octets: &[u8]) -> Result<Command, PduError>
     requires { length octets.now ≡ 7 }
-    ensures { Judges result (command_checks Inventory octets.now)
+    ensures { JudgesMessage result (command_checks Inventory octets.now)
         (λ command. command ≡ command_at Inventory octets.now) }
 {
     let first = word_at(octets, 3);
@@ -58,7 +58,7 @@ fn inventory(octets: &[u8]) -> Result<Command, PduError>
 
 fn compose(alloc: Global, octets: &[u8]) -> Result<Command, PduError>
     requires { IsTrue (has_command_length Compose (length octets.now - 3)) }
-    ensures { Judges result (command_checks Compose octets.now)
+    ensures { JudgesMessage result (command_checks Compose octets.now)
         (λ command. command ≡ command_at Compose octets.now) }
 {
     let master = key(octets, 3)?;
@@ -70,7 +70,7 @@ fn compose(alloc: Global, octets: &[u8]) -> Result<Command, PduError>
 fn count(octets: &[u8], at: usize) -> Result<(), PduError>
     requires room { at < length octets.now }
     requires offset { at < 2 ^ 32 }
-    ensures { Judges result (count_check at octets.now ∷ []) (λ _. Unit {0}) }
+    ensures { JudgesMessage result (count_check at octets.now ∷ []) (λ _. Unit {0}) }
 {
     if usize::from(octets[at]) == octets.len() - (at + 1) {
         Ok(())
@@ -81,7 +81,7 @@ fn count(octets: &[u8], at: usize) -> Result<(), PduError>
 
 fn create(alloc: Global, octets: &[u8]) -> Result<Command, PduError>
     requires { IsTrue (has_command_length Create (length octets.now - 3)) }
-    ensures { Judges result (command_checks Create octets.now)
+    ensures { JudgesMessage result (command_checks Create octets.now)
         (λ command. command ≡ command_at Create octets.now) }
 {
     let spi = spi(octets, 3)?;
@@ -101,7 +101,7 @@ fn create(alloc: Global, octets: &[u8]) -> Result<Command, PduError>
 
 fn set_window(octets: &[u8]) -> Result<Command, PduError>
     requires { length octets.now ≡ 13 }
-    ensures { Judges result (command_checks SetWindow octets.now)
+    ensures { JudgesMessage result (command_checks SetWindow octets.now)
         (λ command. command ≡ command_at SetWindow octets.now) }
 {
     let spi = spi(octets, 3)?;
@@ -111,7 +111,7 @@ fn set_window(octets: &[u8]) -> Result<Command, PduError>
 
 fn rekey(octets: &[u8]) -> Result<Command, PduError>
     requires { length octets.now ≡ 15 }
-    ensures { Judges result (command_checks Rekey octets.now)
+    ensures { JudgesMessage result (command_checks Rekey octets.now)
         (λ command. command ≡ command_at Rekey octets.now) }
 {
     let spi = spi(octets, 3)?;
@@ -125,7 +125,7 @@ fn rekey(octets: &[u8]) -> Result<Command, PduError>
 
 fn set_number(octets: &[u8]) -> Result<Command, PduError>
     requires { length octets.now ≡ 13 }
-    ensures { Judges result (command_checks SetNumber octets.now)
+    ensures { JudgesMessage result (command_checks SetNumber octets.now)
         (λ command. command ≡ command_at SetNumber octets.now) }
 {
     Ok(Command::SetNumber {
@@ -142,7 +142,7 @@ pub(crate) fn command(
 ) -> Result<Command, PduError>
     requires whole { 3 ≤ length octets.now }
     requires fits { IsTrue (has_command_length procedure (length octets.now - 3)) }
-    ensures { Judges result (command_checks procedure octets.now)
+    ensures { JudgesMessage result (command_checks procedure octets.now)
         (λ command. command ≡ command_at procedure octets.now) }
 {
     match procedure {

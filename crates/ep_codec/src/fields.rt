@@ -1,6 +1,6 @@
 //! The fields of a message, read at their places.
 ghost use Rattle.std.specs.Prelude.{◌≡◌, ◌+◌, ◌^◌, ◌<◌, ◌≤◌, not, length, slice_range, [], ◌∷◌};
-ghost use Rattle.ep_codec.specs.Check.{Judges};
+ghost use Rattle.ep_codec.specs.Check.{JudgesMessage};
 ghost use Rattle.sdls_base.specs.Code.{sa_state_of, direction_of, suite_of};
 ghost use Rattle.sdls_base.specs.Places.{octet_at, word_at, number_at};
 ghost use Rattle.ep_codec.specs.Field.{is_key, key_check, spi_check};
@@ -35,7 +35,7 @@ pub(crate) fn array<const N: usize>(octets: &[u8], at: usize) -> [u8; N]
 /// The key that a number names, which stands at a place.
 pub(crate) fn key_of(number: u16, at: usize) -> Result<KeyId, PduError>
     requires { at < 2 ^ 32 }
-    ensures { Judges result ((not (is_key number), at) ∷ []) (λ key. key ≡ number) }
+    ensures { JudgesMessage result ((not (is_key number), at) ∷ []) (λ key. key ≡ number) }
 {
     KeyId::new(number).ok_or(PduError::Fault(at as u32))
 }
@@ -43,7 +43,7 @@ pub(crate) fn key_of(number: u16, at: usize) -> Result<KeyId, PduError>
 pub(crate) fn key(octets: &[u8], at: usize) -> Result<KeyId, PduError>
     requires room { at + 2 ≤ length octets.now }
     requires offset { at < 2 ^ 32 }
-    ensures { Judges result (key_check at octets.now ∷ []) (λ key. key ≡ word_at at octets.now) }
+    ensures { JudgesMessage result (key_check at octets.now ∷ []) (λ key. key ≡ word_at at octets.now) }
 {
     key_of(word_at(octets, at), at)
 }
@@ -51,7 +51,7 @@ pub(crate) fn key(octets: &[u8], at: usize) -> Result<KeyId, PduError>
 pub(crate) fn spi(octets: &[u8], at: usize) -> Result<Spi, PduError>
     requires room { at + 2 ≤ length octets.now }
     requires offset { at < 2 ^ 32 }
-    ensures { Judges result (spi_check at octets.now ∷ []) (λ spi. spi ≡ word_at at octets.now) }
+    ensures { JudgesMessage result (spi_check at octets.now ∷ []) (λ spi. spi ≡ word_at at octets.now) }
 {
     Spi::new(word_at(octets, at)).ok_or(PduError::Fault(at as u32))
 }
@@ -59,7 +59,7 @@ pub(crate) fn spi(octets: &[u8], at: usize) -> Result<Spi, PduError>
 pub(crate) fn window(octets: &[u8], at: usize) -> Result<u64, PduError>
     requires room { at + 8 ≤ length octets.now }
     requires offset { at < 2 ^ 32 }
-    ensures { Judges result (window_check at octets.now ∷ [])
+    ensures { JudgesMessage result (window_check at octets.now ∷ [])
         (λ window. window ≡ number_at at octets.now) }
 {
     let window = number_at(octets, at);
@@ -73,7 +73,7 @@ pub(crate) fn window(octets: &[u8], at: usize) -> Result<u64, PduError>
 pub(crate) fn sa_state(octets: &[u8], at: usize) -> Result<SaState, PduError>
     requires room { at < length octets.now }
     requires offset { at < 2 ^ 32 }
-    ensures { Judges result (code_check 3 at octets.now ∷ [])
+    ensures { JudgesMessage result (code_check 3 at octets.now ∷ [])
         (λ state. state ≡ sa_state_of (octet_at at octets.now)) }
 {
     SaState::from_code(octets[at]).ok_or(PduError::Fault(at as u32))
@@ -82,7 +82,7 @@ pub(crate) fn sa_state(octets: &[u8], at: usize) -> Result<SaState, PduError>
 pub(crate) fn direction(octets: &[u8], at: usize) -> Result<Direction, PduError>
     requires room { at < length octets.now }
     requires offset { at < 2 ^ 32 }
-    ensures { Judges result (code_check 2 at octets.now ∷ [])
+    ensures { JudgesMessage result (code_check 2 at octets.now ∷ [])
         (λ direction. direction ≡ direction_of (octet_at at octets.now)) }
 {
     Direction::from_code(octets[at]).ok_or(PduError::Fault(at as u32))
@@ -91,7 +91,7 @@ pub(crate) fn direction(octets: &[u8], at: usize) -> Result<Direction, PduError>
 pub(crate) fn suite(octets: &[u8], at: usize) -> Result<Suite, PduError>
     requires room { at < length octets.now }
     requires offset { at < 2 ^ 32 }
-    ensures { Judges result (code_check 2 at octets.now ∷ [])
+    ensures { JudgesMessage result (code_check 2 at octets.now ∷ [])
         (λ suite. suite ≡ suite_of (octet_at at octets.now)) }
 {
     Suite::from_code(octets[at]).ok_or(PduError::Fault(at as u32))

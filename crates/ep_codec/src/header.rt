@@ -1,6 +1,6 @@
 //! What stands before the fields of a message.
 ghost use Rattle.std.specs.Prelude.{◌≡◌, ◌-◌, ◌≤◌, ◌<◌, ◌^◌, IsTrue, length, IfOk};
-ghost use Rattle.ep_codec.specs.Check.{Judges};
+ghost use Rattle.ep_codec.specs.Check.{JudgesMessage};
 ghost use Rattle.ep_codec.specs.MessageFault.{header_checks, procedure_in};
 ghost use Rattle.ep_codec.specs.Procedure.{has_length};
 
@@ -12,7 +12,7 @@ use sdls_base::word_at;
 /// have, and that of the octets.
 #[tactic(auto, unfolding(crate::specs::MessageFault::header_checks, crate::specs::MessageFault::procedure_in))]
 pub(crate) fn procedure(octets: &[u8], pdu_type: PduType) -> Result<Procedure, PduError>
-    ensures judged { Judges result (header_checks pdu_type octets.now)
+    ensures judged { JudgesMessage result (header_checks pdu_type octets.now)
         (λ procedure. procedure_in pdu_type octets.now ≡ Some procedure) }
     ensures framed { IfOk result (λ procedure. IsTrue (has_length pdu_type procedure (length octets.now - 3))
         × (3 ≤ length octets.now) × (length octets.now < 2 ^ 16)) }

@@ -4,7 +4,7 @@
 ghost use Rattle.std.specs.Prelude.{◌≡◌, ◌-◌, ◌+◌, ◌*◌, ◌^◌, ◌<◌, ◌≤◌, IsTrue, length, [], ◌∷◌};
 ghost use Rattle.ep_codec.specs.declared.procedure.Procedure.TheVariants.{Verify, Inventory, Compose, ReadNumber};
 ghost use Rattle.ep_codec.specs.declared.procedure.Procedure.TheVariants.{Status};
-ghost use Rattle.ep_codec.specs.Check.{Judges};
+ghost use Rattle.ep_codec.specs.Check.{JudgesMessage};
 ghost use Rattle.ep_codec.specs.MessageFault.{reply_checks};
 ghost use Rattle.ep_codec.specs.ReplyReading.{reply_at};
 ghost use Rattle.ep_codec.specs.Procedure.{has_reply_length};
@@ -23,7 +23,7 @@ use std::alloc::Global;
 fn sealing_key(octets: &[u8], at: usize) -> Result<KeyId, PduError>
     requires room { at + 2 ≤ length octets.now }
     requires offset { at < 2 ^ 32 }
-    ensures { Judges result (sealing_key_check at octets.now ∷ [])
+    ensures { JudgesMessage result (sealing_key_check at octets.now ∷ [])
         (λ key. key ≡ word_at at octets.now) }
 {
     let key = key(octets, at)?;
@@ -37,7 +37,7 @@ fn sealing_key(octets: &[u8], at: usize) -> Result<KeyId, PduError>
 fn mac_key(octets: &[u8], at: usize) -> Result<KeyId, PduError>
     requires room { at + 2 ≤ length octets.now }
     requires offset { at < 2 ^ 32 }
-    ensures { Judges result (mac_key_check at octets.now ∷ [])
+    ensures { JudgesMessage result (mac_key_check at octets.now ∷ [])
         (λ key. key ≡ word_at at octets.now) }
 {
     let key = key(octets, at)?;
@@ -49,7 +49,7 @@ fn mac_key(octets: &[u8], at: usize) -> Result<KeyId, PduError>
 
 fn verify_gcm(octets: &[u8]) -> Result<ReplyPdu, PduError>
     requires { length octets.now ≡ 49 }
-    ensures { Judges result (reply_checks Verify octets.now)
+    ensures { JudgesMessage result (reply_checks Verify octets.now)
         (λ reply. reply ≡ reply_at Verify octets.now) }
 {
     Ok(ReplyPdu::VerifyGcm {
@@ -62,7 +62,7 @@ fn verify_gcm(octets: &[u8]) -> Result<ReplyPdu, PduError>
 
 fn verify_cmac(octets: &[u8]) -> Result<ReplyPdu, PduError>
     requires { length octets.now ≡ 25 }
-    ensures { Judges result (reply_checks Verify octets.now)
+    ensures { JudgesMessage result (reply_checks Verify octets.now)
         (λ reply. reply ≡ reply_at Verify octets.now) }
 {
     Ok(ReplyPdu::VerifyCmac {
@@ -74,7 +74,7 @@ fn verify_cmac(octets: &[u8]) -> Result<ReplyPdu, PduError>
 
 fn verify(octets: &[u8]) -> Result<ReplyPdu, PduError>
     requires { IsTrue (has_reply_length Verify (length octets.now - 3)) }
-    ensures { Judges result (reply_checks Verify octets.now)
+    ensures { JudgesMessage result (reply_checks Verify octets.now)
         (λ reply. reply ≡ reply_at Verify octets.now) }
 {
     if octets.len() == 49 {
@@ -86,7 +86,7 @@ fn verify(octets: &[u8]) -> Result<ReplyPdu, PduError>
 
 fn inventory(alloc: Global, octets: &[u8]) -> Result<ReplyPdu, PduError>
     requires { IsTrue (has_reply_length Inventory (length octets.now - 3)) }
-    ensures { Judges result (reply_checks Inventory octets.now)
+    ensures { JudgesMessage result (reply_checks Inventory octets.now)
         (λ reply. reply ≡ reply_at Inventory octets.now) }
 {
     Ok(ReplyPdu::Inventory {
@@ -99,7 +99,7 @@ fn inventory(alloc: Global, octets: &[u8]) -> Result<ReplyPdu, PduError>
 fn inner_header(octets: &[u8]) -> Result<(), PduError>
     requires room { 6 ≤ length octets.now }
     requires few { length octets.now < 2 ^ 16 }
-    ensures { Judges result (inner_tag_check 3 octets.now ∷ inner_length_check 4 octets.now ∷ [])
+    ensures { JudgesMessage result (inner_tag_check 3 octets.now ∷ inner_length_check 4 octets.now ∷ [])
         (λ _. Unit {0}) }
 {
     if octets[3] != 1 {
@@ -113,7 +113,7 @@ fn inner_header(octets: &[u8]) -> Result<(), PduError>
 
 fn compose(alloc: Global, octets: &[u8]) -> Result<ReplyPdu, PduError>
     requires { IsTrue (has_reply_length Compose (length octets.now - 3)) }
-    ensures { Judges result (reply_checks Compose octets.now)
+    ensures { JudgesMessage result (reply_checks Compose octets.now)
         (λ reply. reply ≡ reply_at Compose octets.now) }
 {
     inner_header(octets)?;
@@ -128,7 +128,7 @@ fn compose(alloc: Global, octets: &[u8]) -> Result<ReplyPdu, PduError>
 
 fn read_number(octets: &[u8]) -> Result<ReplyPdu, PduError>
     requires { length octets.now ≡ 13 }
-    ensures { Judges result (reply_checks ReadNumber octets.now)
+    ensures { JudgesMessage result (reply_checks ReadNumber octets.now)
         (λ reply. reply ≡ reply_at ReadNumber octets.now) }
 {
     Ok(ReplyPdu::ReadNumber {
@@ -139,7 +139,7 @@ fn read_number(octets: &[u8]) -> Result<ReplyPdu, PduError>
 
 fn status(octets: &[u8]) -> Result<ReplyPdu, PduError>
     requires { length octets.now ≡ 18 }
-    ensures { Judges result (reply_checks Status octets.now)
+    ensures { JudgesMessage result (reply_checks Status octets.now)
         (λ reply. reply ≡ reply_at Status octets.now) }
 {
     Ok(ReplyPdu::Status {
@@ -160,7 +160,7 @@ pub(crate) fn reply(
 ) -> Result<ReplyPdu, PduError>
     requires whole { 3 ≤ length octets.now }
     requires fits { IsTrue (has_reply_length procedure (length octets.now - 3)) }
-    ensures { Judges result (reply_checks procedure octets.now)
+    ensures { JudgesMessage result (reply_checks procedure octets.now)
         (λ reply. reply ≡ reply_at procedure octets.now) }
 {
     match procedure {

@@ -1,4 +1,4 @@
-//! The octets of a message, put one field after the other.
+//! The octets of a message, written one field after the other.
 ghost use Rattle.std.specs.Prelude.{◌≡◌, ◌*◌, ◌^◌, ◌<◌, [], ◌∷◌, ◌++◌, OnOk, IfOk};
 ghost use Rattle.std.specs.Int.{w16, w32, w64, to_be_bytes};
 

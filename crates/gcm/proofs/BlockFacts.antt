@@ -9,7 +9,7 @@ use Rattle.std.proofs.lemmas.List.{drop-drop, drop_at, ext_get_or, get_or_append
 use Rattle.std.proofs.lemmas.List.{nil_from_length}
 use Rattle.std.proofs.lemmas.List.FromFn.{length-map-range_with_len, get_or-map-range_with_len, map-range_with_len_more}
 use Rattle.std.proofs.lemmas.Bool.{cases_lt}
-use Rattle.gcm.specs.Field.{times, ghash}
+use Rattle.gcm.specs.Field.{block_product, ghash}
 use Rattle.gcm.specs.Folded.{folded}
 use Rattle.gcm.specs.Gcm.{padded, block_at, blocks, lengths, hashed}
 use Rattle.gcm.proofs.FoldFacts.{folded-append, folded_push, ghash_is}
@@ -60,10 +60,12 @@ one_block octets long =
 -- one more block of the loop
 pub fold_more : (h start y : ℕ) (octets : List ℕ) (i x : ℕ)
     → y ≡ folded h start (map (block_at octets) (range_with_len 0 i))
-    → x ≡ block_at octets i → times (bit_xor y x) h ≡ folded h start (map (block_at octets) (range_with_len 0 (i + 1)))
+    → x ≡ block_at octets i → block_product (bit_xor y x) h
+    ≡ folded h start (map (block_at octets) (range_with_len 0 (i + 1)))
 fold_more h start y octets i x so_far is =
     let done : List ℕ = map (block_at octets) (range_with_len 0 i) in
-    ap (λ (z : ℕ). times (bit_xor z x) h) so_far ∙ ap (λ (z : ℕ). times (bit_xor (folded h start done) z) h) is
+    ap (λ (z : ℕ). block_product (bit_xor z x) h) so_far
+    ∙ ap (λ (z : ℕ). block_product (bit_xor (folded h start done) z) h) is
     ∙ sym (folded_push h start done (block_at octets i))
     ∙ sym (ap (folded h start) (map-range_with_len_more (block_at octets) 0 i i (omega arith)))
 
@@ -80,7 +82,7 @@ length-padded octets =
     length-append octets (replicate n 0) ∙ ap (λ (k : ℕ). length octets + k) (length-replicate n 0) ∙ whole
 
 pub fold_rest : (h start : ℕ) (octets : List ℕ) (w : ℕ) → w ≡ length octets / 16 * 16 → w < length octets
-    → times (bit_xor (folded h start (blocks octets))
+    → block_product (bit_xor (folded h start (blocks octets))
     (from_be_bytes w128 (drop w octets ++ replicate (16 - length (drop w octets)) 0))) h
     ≡ folded h start (blocks (padded octets))
 fold_rest h start octets w is some =
@@ -108,12 +110,13 @@ fold_rest h start octets w is some =
     let all : blocks (padded octets) ≡ blocks front ++ from_be_bytes w128 block ∷ [] =
     ap blocks filled ∙ blocks-append front block n long_front
     ∙ ap (λ (l : List ℕ). blocks front ++ l) (one_block block long_block) in
-    ap (λ (l : List ℕ). times (bit_xor (folded h start l) (from_be_bytes w128 block)) h) whole
+    ap (λ (l : List ℕ). block_product (bit_xor (folded h start l) (from_be_bytes w128 block)) h) whole
     ∙ sym (folded_push h start (blocks front) (from_be_bytes w128 block)) ∙ sym (ap (folded h start) all)
 
 pub hash_is : (h y : ℕ) (aad text : List ℕ) → h < 2 ^ 128
     → y ≡ folded h (folded h 0 (blocks (padded aad))) (blocks (padded text))
-    → times (bit_xor y (from_be_bytes w128 (lengths (length aad) (length text)))) h ≡ ghash h (blocks (hashed aad text))
+    → block_product (bit_xor y (from_be_bytes w128 (lengths (length aad) (length text)))) h
+    ≡ ghash h (blocks (hashed aad text))
 hash_is h y aad text lh is =
     let pa : List ℕ = padded aad in
     let pt : List ℕ = padded text in
@@ -128,6 +131,7 @@ hash_is h y aad text lh is =
     blocks-append (pa ++ pt) last (na + nt) lat
     ∙ ap (λ (l : List ℕ). l ++ blocks last) (blocks-append pa pt na la)
     ∙ ap (λ (l : List ℕ). (blocks pa ++ blocks pt) ++ l) (one_block last refl) in
-    ap (λ (z : ℕ). times (bit_xor z (from_be_bytes w128 last)) h) (is ∙ sym (folded-append h 0 (blocks pa) (blocks pt)))
+    ap (λ (z : ℕ). block_product (bit_xor z (from_be_bytes w128 last)) h)
+    (is ∙ sym (folded-append h 0 (blocks pa) (blocks pt)))
     ∙ sym (folded_push h 0 (blocks pa ++ blocks pt) (from_be_bytes w128 last))
     ∙ sym (ap (folded h 0) all) ∙ ghash_is h (blocks (hashed aad text)) lh

@@ -6,7 +6,7 @@ use Rattle.std.proofs.Math.Nat.{zero-mul, one-mul, pow-suc, mod-eq_of_lt}
 use Rattle.std.proofs.lemmas.Nat.{mod-pow-add, mod_below, pow_pos}
 use Rattle.std.proofs.lemmas.Nat.Bits.{bit_at-lt, bit_at_lowest, bit_at-zero, bit_at_xor}
 use Rattle.aes_block.proofs.XorFacts.{xor_four, sum_scale}
-use Rattle.gcm.specs.Field.{reduced, by_x, times_low, times, one, power}
+use Rattle.gcm.specs.Field.{reduced, by_x, times_low, block_product, one, power}
 
 -- ---- sums and bits
 
@@ -136,15 +136,18 @@ bits_of (suc n) a =
     ∙ xor_shifted high (suc n) low (mod_below a (2 ^ suc n) (pow_pos (suc n)))
     ∙ sym (mod-pow-add a 1 (suc n)) ∙ ap (λ (k : ℕ). a % 2 ^ k) width
 
-pub times_one : (a : ℕ) → a < 2 ^ 128 → times a one ≡ a
+pub times_one : (a : ℕ) → a < 2 ^ 128 → block_product a one ≡ a
 times_one a lt = bits_of 127 a ∙ mod-eq_of_lt lt
 
-pub times_comm : (a b : ℕ) → a < 2 ^ 128 → b < 2 ^ 128 → times a b ≡ times b a
-times_comm a b la lb = ap (times a) (sym (times_one b lb)) ∙ products 128 128 b a one ∙ ap (times b) (times_one a la)
+pub times_comm : (a b : ℕ) → a < 2 ^ 128 → b < 2 ^ 128 → block_product a b ≡ block_product b a
+times_comm a b la lb = ap (block_product a) (sym (times_one b lb)) ∙ products 128 128 b a one
+    ∙ ap (block_product b) (times_one a la)
 
-pub times_assoc : (a b c : ℕ) → b < 2 ^ 128 → c < 2 ^ 128 → times (times a b) c ≡ times a (times b c)
+pub times_assoc : (a b c : ℕ) → b < 2 ^ 128 → c < 2 ^ 128 → block_product (block_product a b) c
+    ≡ block_product a (block_product b c)
 times_assoc a b c lb lc =
-    times_comm (times a b) c (times_low_lt 128 a b lb) lc ∙ products 128 128 a c b ∙ ap (times a) (times_comm c b lc lb)
+    times_comm (block_product a b) c (times_low_lt 128 a b lb) lc ∙ products 128 128 a c b
+    ∙ ap (block_product a) (times_comm c b lc lb)
 
 pub power_lt : (h n : ℕ) → h < 2 ^ 128 → power h n < 2 ^ 128
 unfolding power

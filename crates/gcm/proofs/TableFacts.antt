@@ -6,7 +6,7 @@ use Rattle.std.specs.Int.Bits.{xor_zero_l, xor_zero_r, xor_assoc, xor_mod}
 use Rattle.std.proofs.Math.Nat.{pow-suc}
 use Rattle.std.proofs.lemmas.Nat.{pow-add, shr-shr, shr_split}
 use Rattle.std.proofs.lemmas.Nat.Bits.{bit_at_cat_low}
-use Rattle.gcm.specs.Field.{reduced, by_x, one, times, times_low}
+use Rattle.gcm.specs.Field.{reduced, by_x, one, block_product, times_low}
 use Rattle.gcm.specs.Rows.{by_powers, octet_at, xor_sum}
 use Rattle.gcm.proofs.FieldFacts.{by_x_sum, times_by_x, times_low_lt, times_one, times_sum_right}
 use Rattle.gcm.proofs.SumFacts.{octets_whole, xor_sum_same, xor_sum_shl, xor_sum_swap}
@@ -146,7 +146,7 @@ one_product a h p lh =
     (i + 1))) 16
     (λ i lt. turned (octet_at t i) i p)
 
-pub product_is : (a h : ℕ) → h < 2 ^ 128 → by_powers 128 (xor_sum (shifted_rows a h) 16) ≡ times a h
+pub product_is : (a h : ℕ) → h < 2 ^ 128 → by_powers 128 (xor_sum (shifted_rows a h) 16) ≡ block_product a h
 product_is a h lh =
     let t : ℕ → ℕ = λ p. times_low 8 (octet_at a p) h in
     let rows : xor_sum (shifted_rows a h) 16 ≡ xor_sum (shifted_products a h) 16 =
@@ -166,13 +166,14 @@ reduced_128 = refl
 times_128 : (w : ℕ) → w < 2 ^ 128 → by_powers 128 w
     ≡ bit_xor (bit_xor w (by_powers 1 w)) (bit_xor (by_powers 2 w) (by_powers 7 w))
 times_128 w lt =
-    let at : (m : ℕ) → times w (by_powers m one) ≡ by_powers m w = λ m. times_powers 128 w m one
+    let at : (m : ℕ) → block_product w (by_powers m one) ≡ by_powers m w = λ m. times_powers 128 w m one
     ∙ ap (by_powers m) (times_one w lt) in
-    sym (at 128) ∙ ap (times w) reduced_128
+    sym (at 128) ∙ ap (block_product w) reduced_128
     ∙ times_sum_right 128 w (bit_xor one (by_powers 1 one)) (bit_xor (by_powers 2 one) (by_powers 7 one))
-    ∙ ap (λ z. bit_xor z (times w (bit_xor (by_powers 2 one) (by_powers 7 one)))) (times_sum_right 128 w one
+    ∙ ap (λ z. bit_xor z (block_product w (bit_xor (by_powers 2 one) (by_powers 7 one)))) (times_sum_right 128 w one
     (by_powers 1 one))
-    ∙ ap (bit_xor (bit_xor (times w one) (times w (by_powers 1 one)))) (times_sum_right 128 w (by_powers 2 one)
+    ∙ ap (bit_xor (bit_xor (block_product w one) (block_product w (by_powers 1 one))))
+    (times_sum_right 128 w (by_powers 2 one)
     (by_powers 7 one))
     ∙ rw (times_one w lt, at 1, at 2, at 7) refl
 

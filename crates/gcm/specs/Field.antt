@@ -18,8 +18,8 @@ times_low zero a v = 0
 times_low (suc n) a v = bit_xor (bit_at a n * v) (times_low n a (by_x v))
 
 -- the product (6.3)
-abbrev pub times : ℕ → ℕ → ℕ
-times a b = times_low 128 a b
+abbrev pub block_product : ℕ → ℕ → ℕ
+block_product a b = times_low 128 a b
 
 -- 1: the coefficient of x^0 alone
 abbrev pub one : ℕ
@@ -27,9 +27,9 @@ one = 2 ^ 127
 
 unfoldable pub power : ℕ → ℕ → ℕ
 power h zero = one
-power h (suc n) = times h (power h n)
+power h (suc n) = block_product h (power h n)
 
 -- GHASH of the blocks X1 to Xm: the sum of Xi * H^(m + 1 - i) (6.4)
 unfoldable pub ghash : ℕ → List ℕ → ℕ
 ghash h [] = 0
-ghash h (x ∷ xs) = bit_xor (times x (power h (length (x ∷ xs)))) (ghash h xs)
+ghash h (x ∷ xs) = bit_xor (block_product x (power h (length (x ∷ xs)))) (ghash h xs)

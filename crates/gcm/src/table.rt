@@ -1,6 +1,6 @@
 ghost use Rattle.std.specs.Prelude.{◌≡◌, ◌*◌, ◌<◌, ◌^◌, slice_index};
 ghost use Rattle.std.specs.Int.{w128, from_be_bytes, to_be_bytes};
-ghost use Rattle.gcm.specs.Field.{times, times_low};
+ghost use Rattle.gcm.specs.Field.{block_product, times_low};
 ghost use Rattle.gcm.specs.Rows.{octet_at, pair, xor_sum};
 
 use crate::field::{by_x, octets_of};
@@ -62,7 +62,7 @@ impl Table {
     }
 
     pub(crate) fn product(&self, a: u128) -> u128
-        ensures { result ≡ times a self.now }
+        ensures { result ≡ block_product a self.now }
     {
         let octets = octets_of(a);
         let mut high = self.row_by(15, octets);
@@ -79,7 +79,7 @@ impl Table {
 
     /// The product of a block and the hash subkey.
     pub fn times(&self, block: [u8; 16]) -> [u8; 16]
-        ensures { result ≡ to_be_bytes w128 (times (from_be_bytes w128 block) self.now) }
+        ensures { result ≡ to_be_bytes w128 (block_product (from_be_bytes w128 block) self.now) }
     {
         self.product(u128::from_be_bytes(block)).to_be_bytes()
     }

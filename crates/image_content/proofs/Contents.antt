@@ -19,7 +19,7 @@ use Rattle.unit_state.specs.declared.state.State.{State}
 use Rattle.unit_state.specs.State.{KeepsRules}
 use Rattle.unit_state.specs.Restart.{restarted, restarted_row}
 use Rattle.book_record.specs.Padded.{padded}
-use Rattle.book_record.specs.KeyParts.{key_row_octets, IsKeyRow}
+use Rattle.book_record.specs.KeyParts.{key_row_octets, AreKeyRowOctets}
 use Rattle.book_record.specs.SaParts.{sa_parts}
 use Rattle.sdls_base.specs.Places.{word_at}
 use Rattle.book_record.proofs.Rows.{one_key_row, padded_front, padded_length, sa_row_length}
@@ -342,7 +342,7 @@ content_from version state content size octets room keys sas key_counted sa_coun
 pub same_keys : (rows others : List KeyRow) (octets : List ℕ) → AreKeyRows rows octets → AreKeyRows others octets
     → rows ≡ others
 same_keys rows others octets are also =
-    same_rows key_row_octets IsKeyRow 96 (omega arith) key_sized one_key_row rows others are.each also.each
+    same_rows key_row_octets AreKeyRowOctets 96 (omega arith) key_sized one_key_row rows others are.each also.each
     (sym are.spelled ∙ also.spelled)
 
 pub keys_are : (version : Version) (state : State) (content : List ℕ) → IsContent version state content

@@ -5,8 +5,8 @@ use Rattle.sdls_base.specs.declared.version.Version.{Version}
 use Rattle.sdls_base.specs.declared.version.Version.TheVariants.{One, Two}
 use Rattle.book_record.specs.declared.layout.TheConstants.{KEY_ROW_LENGTH, SA_ROW_LENGTH}
 use Rattle.sdls_base.specs.Places.{octet_at, word_at}
-use Rattle.book_record.specs.KeyParts.{key_row_octets, IsKeyRow}
-use Rattle.book_record.specs.SaParts.{sa_parts, sa_row_octets, BeginsAt, IsSaRow}
+use Rattle.book_record.specs.KeyParts.{key_row_octets, AreKeyRowOctets}
+use Rattle.book_record.specs.SaParts.{sa_parts, sa_row_octets, BeginsAt, AreSaRowOctets}
 use Rattle.key_book.specs.declared.key_row.KeyRow.{KeyRow}
 use Rattle.sa_book.specs.declared.sa_row.SaRow.{SaRow}
 use Rattle.unit_state.specs.declared.state.State.{State}
@@ -17,14 +17,14 @@ use Rattle.image_content.specs.Content.{key_rows, sa_rows, associations_at, cont
 
 -- a row is a value of its types, so that its octets are those of a row
 abbrev pub IsTypedKey : KeyRow → Type 0
-IsTypedKey row = IsKeyRow row (key_row_octets row)
+IsTypedKey row = AreKeyRowOctets row (key_row_octets row)
 
 abbrev pub IsTypedSa : SaRow → Type 0
-IsTypedSa row = IsSaRow (sa_parts row) (sa_row_octets (sa_parts row))
+IsTypedSa row = AreSaRowOctets (sa_parts row) (sa_row_octets (sa_parts row))
 
 -- the row of an association as a restart leaves it, under these keys
 pub record IsRestartedRow (keys : List KeyRow) (row : SaRow) (octets : List ℕ) : Type 0 where
-  pub is_row : IsSaRow (sa_parts row) octets
+  pub is_row : AreSaRowOctets (sa_parts row) octets
   pub window : BeginsAt (restarted_high keys row.direction row.key 0) row
 
 -- rows of keys, one behind the other

@@ -1,12 +1,10 @@
 //! The rows of a content, read.
 
 ghost use Rattle.std.specs.Prelude.{◌≡◌, ◌*◌, ℕ, List, [], length, IfOk, IfErr};
-ghost use Rattle.std.specs.Option.{option_map_or};
 ghost use Rattle.key_book.specs.declared.key_row.KeyRow.{KeyRow};
-ghost use Rattle.key_book.specs.KeyBook.{IsKeyBook, row_of};
+ghost use Rattle.key_book.specs.KeyBook.{IsKeyBook};
 ghost use Rattle.sa_book.specs.declared.sa_row.SaRow.{SaRow};
-ghost use Rattle.unit_state.specs.Restart.{restarted_high};
-ghost use Rattle.book_record.specs.KeyParts.{IsKeyRow};
+ghost use Rattle.book_record.specs.KeyParts.{AreKeyRowOctets};
 ghost use Rattle.image_content.specs.Rows.{HasRowsCause};
 ghost use Rattle.image_content.specs.Reading.{IsRestartedRow, AreKeyRows, AreSaRows};
 
@@ -15,15 +13,16 @@ use crate::rows_fault::RowsFault;
 use book_record::{KEY_ROW_LENGTH, RecordError, SA_ROW_LENGTH, read_association, read_key_row};
 use key_book::{KeyBook, KeyRow};
 use sa_book::SaRow;
-use sdls_base::{Direction, KeyId, NoMemory};
+use sdls_base::NoMemory;
 use std::alloc::Global;
+use unit_state::restarted_high;
 
 /// The row of a key that these octets are.
 fn key_row(octets: &[u8]) -> Result<KeyRow, RowsFault>
     requires { length octets.now ≡ KEY_ROW_LENGTH }
-    ensures found { IfOk result (λ row. IsKeyRow row octets.now) }
+    ensures found { IfOk result (λ row. AreKeyRowOctets row octets.now) }
     ensures fault { IfErr result (λ fault. HasRowsCause fault
-        ((row : KeyRow) → ¬ IsKeyRow row octets.now)) }
+        ((row : KeyRow) → ¬ AreKeyRowOctets row octets.now)) }
 {
     let mut row = [0; KEY_ROW_LENGTH];
     row.copy_from_slice(octets);
@@ -31,25 +30,6 @@ fn key_row(octets: &[u8]) -> Result<KeyRow, RowsFault>
         Ok(row) => Ok(row),
         Err(RecordError::Malformed) => Err(RowsFault::Unfit),
         Err(RecordError::NoMemory) => Err(RowsFault::NoMemory),
-    }
-}
-
-fn floor_of(keys: &KeyBook, id: KeyId) -> u64
-    ensures { result ≡ option_map_or (λ row. row.floor) (row_of keys.now id) 0 }
-{
-    match keys.receive_floor(id) {
-        Some(floor) => floor,
-        None => 0,
-    }
-}
-
-/// The highest number that a restart gives an association.
-fn high_of(keys: &KeyBook, row: &SaRow) -> u64
-    ensures { result ≡ restarted_high keys.now row.now.direction row.now.key 0 }
-{
-    match (row.direction, row.key) {
-        (Direction::Receive, Some(key)) => floor_of(keys, key),
-        (Direction::Receive, None) | (Direction::Send, _) => 0,
     }
 }
 
@@ -64,7 +44,7 @@ fn sa_row(alloc: Global, keys: &KeyBook, octets: &[u8]) -> Result<SaRow, RowsFau
     row.copy_from_slice(octets);
     match read_association(alloc, &row) {
         Ok(mut row) => {
-            let high = high_of(keys, &row);
+            let high = restarted_high(keys, &row);
             row.window.begin_at(high);
             Ok(row)
         }

@@ -8,7 +8,7 @@ use Rattle.input_text.specs.declared.line.Line.{Line}
 use Rattle.input_text.specs.declared.line.Line.TheVariants.{Fence, Protect, Open, Command, Message, Monitor}
 use Rattle.input_text.proofs.AskedWords.{some_line}
 use Rattle.input_text.specs.Plain.{is_skipped, line_said, said_words}
-use Rattle.input_text.specs.Line.{Says, line_words}
+use Rattle.input_text.specs.Line.{SaysLine, line_words}
 
 begun : (words : List (List ℕ)) → said_words (onto_first 35 words) ≡ []
 begun [] = refl
@@ -39,5 +39,5 @@ some_words (Command lane command) none = absurd cc
 some_words (Message lane octets) none = absurd cc
 some_words (Monitor lane link asked) none = some_line lane link asked none
 
-pub skipped_says_nothing : (text : List ℕ) (line : Line) → is_skipped text ≡ true → Says text line → ⊥
+pub skipped_says_nothing : (text : List ℕ) (line : Line) → is_skipped text ≡ true → SaysLine text line → ⊥
 skipped_says_nothing text line is says = some_words line (sym says.words ∙ skipped_none text is)

@@ -50,7 +50,7 @@ IsLine (Message lane octets) = IsLane lane × AreRecorded octets
 IsLine (Monitor lane link asked) = (lane < 2 ^ 8) × (link < 2 ^ 8) × IsAsked asked
 
 -- The text says this line: its words are those of the line.
-pub record Says (text : List ℕ) (line : Line) : Type 0 where
+pub record SaysLine (text : List ℕ) (line : Line) : Type 0 where
   pub bounds : IsLine line
   pub words : line_said text ≡ line_words line
 

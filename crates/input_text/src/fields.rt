@@ -24,7 +24,7 @@ use unit_plan::Words;
 
 /// Where a part of a line stands, for messages.
 #[derive(Clone, Copy, Drop)]
-struct Place {
+struct PartPlace {
     /// How many octets stand before it, and how many it has.
     at: usize,
     len: usize,
@@ -32,7 +32,7 @@ struct Place {
     next: usize,
 }
 
-impl Place {
+impl PartPlace {
     /// Passes to the next part, which has so many octets.
     fn pass(&mut self, len: usize) {
         self.at = self.next;
@@ -48,7 +48,7 @@ impl Place {
 }
 
 /// Takes the next word from these, if there is one, and passes to it.
-fn take_word<'a>(words: &mut Words<'a>, place: &mut Place) -> Option<&'a [u8]>
+fn take_word<'a>(words: &mut Words<'a>, place: &mut PartPlace) -> Option<&'a [u8]>
     ensures { MatchOption result ((said_words words.old ≡ []) × (said_words words.new ≡ []))
         (λ word. said_words words.old ≡ word.now ∷ said_words words.new) }
 {
@@ -73,7 +73,7 @@ fn take_word<'a>(words: &mut Words<'a>, place: &mut Place) -> Option<&'a [u8]>
 fn take_next<'a>(
     ahead: &mut Option<&'a [u8]>,
     words: &mut Words<'a>,
-    place: &mut Place,
+    place: &mut PartPlace,
 ) -> Option<&'a [u8]>
     ensures empty { ahead.new ≡ None }
     ensures taken { let later = said_words words.old in
@@ -97,7 +97,7 @@ pub(crate) struct Fields<'a> {
     /// A word that was taken, and given back.
     ahead: Option<&'a [u8]>,
     taken: usize,
-    place: Place,
+    place: PartPlace,
 }
 
 impl<'a> Model for Fields<'a> {
@@ -163,7 +163,7 @@ impl<'a> Fields<'a> {
             words: Words::of(plain),
             ahead: None,
             taken: 0,
-            place: Place {
+            place: PartPlace {
                 at: 0,
                 len: 0,
                 next: 0,

@@ -13,7 +13,7 @@ ghost use Rattle.input_text.specs.Fields.{AnswersField, AreRecorded};
 ghost use Rattle.input_text.specs.Command.{command_words, IsCommand};
 ghost use Rattle.input_text.specs.Plain.{is_skipped};
 ghost use Rattle.input_text.specs.Monitor.{IsAsked, asked_words};
-ghost use Rattle.input_text.specs.Line.{IsElsewhere, IsLane, IsLine, Says, line_words};
+ghost use Rattle.input_text.specs.Line.{IsElsewhere, IsLane, IsLine, SaysLine, line_words};
 
 use crate::asked::{Asked, read_asked};
 use crate::commands::command_named;
@@ -237,10 +237,10 @@ fn name_mark(text: &[u8], fault: LineFault) -> LineFault {
 /// A `Fault` names the first word with which the line says nothing any more, and what was expected there.
 pub fn read_line(alloc: Global, text: &[u8]) -> Result<Option<Line>, LineError>
     // What is read is what the line says, and nothing is read if it is skipped.
-    ensures read { IfOk result (λ read. MatchOption read (IsTrue (is_skipped text.now)) (Says text.now)) }
+    ensures read { IfOk result (λ read. MatchOption read (IsTrue (is_skipped text.now)) (SaysLine text.now)) }
     // What a line says is read, unless memory runs out: so it says one thing at most, and a fault comes only if it says
     // nothing.
-    ensures only { (line : Line) → Says text.now line → AnswersField result (Some line) }
+    ensures only { (line : Line) → SaysLine text.now line → AnswersField result (Some line) }
     ensures skipped { IsTrue (is_skipped text.now) → result ≡ Ok None }
 {
     if is_skipped(text) {

@@ -15,7 +15,7 @@ use Rattle.record_io.specs.declared.records.Record.{Record}
 use Rattle.unit_plan.specs.PlanLines.{PlanLines}
 use Rattle.unit_state.specs.declared.state.State.{State}
 use Rattle.unit_state.specs.Applied.{applied}
-use Rattle.unit_state.specs.History.{after}
+use Rattle.unit_state.specs.History.{after_all}
 use Rattle.counter_table.specs.Turn.{places, stands}
 use Rattle.run_promise.specs.Log.{entries_of}
 use Rattle.run_promise.specs.History.{IsLegal}
@@ -92,7 +92,8 @@ pub no_pieces : (es : List Entry) → tested is_piece es ≡ 0
 no_pieces [] = refl
 no_pieces (e ∷ es) = let h = no_pieces es in omega arith
 
-pub after_both : (state : State) (es more : List Entry) → after state (es ++ more) ≡ after (after state es) more
+pub after_both : (state : State) (es more : List Entry) → after_all state (es ++ more)
+    ≡ after_all (after_all state es) more
 after_both state [] more = refl
 after_both state (e ∷ es) more = after_both (applied state e.change) es more
 
@@ -103,11 +104,11 @@ module _ (near : ℕ → ℕ → Type 0) (plan : PlanLines) (start : State) (tas
   LegalInTurn state (entry ∷ entries) = IsLegal near plan state tasks entry
       × LegalInTurn (applied state entry.change) entries
 
-  after_last : (log : List Logged) (e : Entry) → after start (entries_of (log ++ lines.Entry e ∷ []))
-      ≡ applied (after start (entries_of log)) e.change
-  after_last log e = ap (after start) (lines_entries log (e ∷ [])) ∙ after_both start (entries_of log) (e ∷ [])
+  after_last : (log : List Logged) (e : Entry) → after_all start (entries_of (log ++ lines.Entry e ∷ []))
+      ≡ applied (after_all start (entries_of log)) e.change
+  after_last log e = ap (after_all start) (lines_entries log (e ∷ [])) ∙ after_both start (entries_of log) (e ∷ [])
 
-  pub legal_behind : (log : List Logged) (es : List Entry) → LegalInTurn (after start (entries_of log)) es → (x : ℕ)
+  pub legal_behind : (log : List Logged) (es : List Entry) → LegalInTurn (after_all start (entries_of log)) es → (x : ℕ)
       → 0 < stands x (places (length log) (length es)) → IsLegalAt near plan start tasks (log ++ lines_of es) x
   legal_behind log [] legal x in' = absurd (omega arith)
   legal_behind log (e ∷ es) legal x in' = elim (cases_eq (length log) x) [
@@ -116,7 +117,7 @@ module _ (near : ℕ → ℕ → Type 0) (plan : PlanLines) (start : State) (tas
         sym (here log (lines_of es) (lines.Entry e)) ∙ at in
         let entry_is : e ≡ entry = cc in
         rw (front log (lines.Entry e ∷ lines_of es))
-        (subst (λ (z : Entry). IsLegal near plan (after start (entries_of log)) tasks z) entry_is legal.0))
+        (subst (λ (z : Entry). IsLegal near plan (after_all start (entries_of log)) tasks z) entry_is legal.0))
     | inr off ↦
         let f : eqb (length log) x ≡ false = grind (arith, nat_tests) in
         let rest : 0 < stands x (places (suc (length log)) (length es)) =
@@ -149,7 +150,7 @@ tested_few test (e ∷ es) = let h = tested_few test es in let one = at_most_one
 
 pub legal_then : (near : ℕ → ℕ → Type 0) (plan : PlanLines) (start state : State) (tasks : List Record)
     (es : List Entry) (e : Entry)
-    → LegalInTurn near plan start tasks state es → IsLegal near plan (after state es) tasks e
+    → LegalInTurn near plan start tasks state es → IsLegal near plan (after_all state es) tasks e
     → LegalInTurn near plan start tasks state (es ++ e ∷ [])
 legal_then near plan start state tasks [] e legal own = (own, tt)
 legal_then near plan start state tasks (x ∷ es) e legal own =

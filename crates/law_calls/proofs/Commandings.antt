@@ -4,7 +4,7 @@ use Rattle.std.proofs.Common.{Option, Some, None, Result, Ok, Err, refl, sym, �
 use Rattle.std.proofs.Common.{false, eqb, eq-eqb, true, ◌-◌}
 use Rattle.std.specs.Option.{option_map_or}
 use Rattle.sdls_base.specs.KeyId.{end_of}
-use Rattle.sdls_base.specs.Numbers.{times}
+use Rattle.sdls_base.specs.Numbers.{tally}
 use Rattle.sdls_base.specs.declared.change.Change.{Change}
 use Rattle.sdls_base.specs.declared.entry.Entry.{Entry}
 use Rattle.sdls_base.specs.declared.entry.Seen.{Seen}
@@ -22,7 +22,7 @@ use Rattle.record_io.specs.declared.records.Record.{Record}
 use Rattle.record_io.specs.declared.code.TheConstants.{SITE_FAULT}
 use Rattle.unit_state.specs.declared.state.State.{State}
 use Rattle.unit_state.specs.State.{key_row}
-use Rattle.unit_state.specs.History.{after}
+use Rattle.unit_state.specs.History.{after_all}
 use Rattle.unit_state.specs.Restart.{still}
 use Rattle.counter_table.specs.declared.view.View.{View}
 use Rattle.run_promise.specs.Answers.{replied_told, Uses}
@@ -112,7 +112,7 @@ module _ (told : Bool) (c : Call told) (commands : c.task.kind ≡ Command) wher
     pub fits : MeetsNeed middle.state need seen
     pub is_near : (key : ℕ) → needed_key need ≡ Some key → SeenNear (IsBetween c.begin c.old_view c.new_view) key seen
     pub spent : (key number : ℕ) → need ≡ needs.Number key → seen ≡ sights.Number number
-        → (row : ℕ) × (row < c.begin.rows) × IsRow c.begin c.new_view key row × (0 < times row number numbers.spent)
+        → (row : ℕ) × (row < c.begin.rows) × IsRow c.begin c.new_view key row × (0 < tally row number numbers.spent)
 
   satisfied_found : (need : Need) (seen : Seen) (middle : BookView) (numbers : Added told c) → middle ≡ c.found
       → MeetsNeed middle.state need seen
@@ -200,7 +200,7 @@ module _ (told : Bool) (c : Call told) (commands : c.task.kind ≡ Command) wher
               d.row,
               row_below told c.begin c.found c.given c.taken c.new_view.turn c.began c.free c.visits key d.row d.place,
               subst (λ (k : ℕ). IsRow c.begin c.new_view k d.row) key_is is_near.row_is,
-              subst (λ (x : ℕ). 0 < times d.row x ((d.row, n) ∷ [])) number_is (once d.row n),
+              subst (λ (x : ℕ). 0 < tally d.row x ((d.row, n) ∷ [])) number_is (once d.row n),
             );
       } where
         same_number : (one other : ℕ) → needs.Number one ≡ needs.Number other → one ≡ other
@@ -209,7 +209,7 @@ module _ (told : Bool) (c : Call told) (commands : c.task.kind ≡ Command) wher
         same_sight : (one other : ℕ) → sights.Number one ≡ sights.Number other → one ≡ other
         same_sight one other is = cc
 
-        once : (row x : ℕ) → 0 < times row x ((row, x) ∷ [])
+        once : (row x : ℕ) → 0 < tally row x ((row, x) ∷ [])
         once row x = let t : eqb row row ≡ true = eq-eqb row row refl in let u : eqb x x ≡ true = eq-eqb x x refl in
             rw (t, u) (omega arith)
   satisfied (needs.Number key) (sights.Exhausted n) middle need (same, f) =
@@ -237,7 +237,8 @@ module _ (told : Bool) (c : Call told) (commands : c.task.kind ≡ Command) wher
 
     legal : CanEnter middle → (change : Change) (reply : Reply)
         → IsStepOf middle.state c.task.octets seen (change, reply)
-        → IsLegal (IsBetween c.begin c.old_view c.new_view) c.begin.plan (after c.begin.start (entries_of middle.log))
+        → IsLegal (IsBetween c.begin c.old_view c.new_view) c.begin.plan
+        (after_all c.begin.start (entries_of middle.log))
         (c.task ∷ [])
         (record_entry c.task.index seen change)
     legal can change reply step =
@@ -275,7 +276,7 @@ module _ (told : Bool) (c : Call told) (commands : c.task.kind ≡ Command) wher
     used_here : (change : Change) (reply : Reply) (position : ℕ)
         → IsStepOf middle.state c.task.octets seen (change, reply) → (key number : ℕ)
         → Uses (answer_of (replied_told reply) position) key number
-        → (row : ℕ) × (row < c.begin.rows) × IsRow c.begin c.new_view key row × (0 < times row number s.numbers.spent)
+        → (row : ℕ) × (row < c.begin.rows) × IsRow c.begin c.new_view key row × (0 < tally row number s.numbers.spent)
     used_here change (replies.Done None n pdu) position step key number (inl is, of_key, of_number) =
         absurd (omega arith)
     used_here change (replies.Done None n pdu) position step key number (inr (is, some), of_key, of_number) =

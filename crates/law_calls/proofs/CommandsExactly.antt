@@ -22,7 +22,7 @@ use Rattle.record_io.specs.declared.kinds.RecordKind.TheVariants.{Command, Prote
 use Rattle.record_io.specs.declared.records.Record.{Record}
 use Rattle.unit_plan.specs.PlanLines.{PlanLines}
 use Rattle.unit_state.specs.declared.state.State.{State}
-use Rattle.unit_state.specs.History.{after, after_first}
+use Rattle.unit_state.specs.History.{after_all, after_first}
 use Rattle.counter_table.specs.declared.view.Turn.{Turn}
 use Rattle.counter_table.specs.declared.view.View.{View}
 use Rattle.counter_table.specs.Known.{Earlier}
@@ -199,7 +199,7 @@ module _ (told : Bool) (c : Call told) (commands : c.task.kind ≡ Command)
       ∙ length-append (entries_of c.found.log) (entry ∷ []) in omega arith
 
   has_row : (key row : ℕ) → place_of c.found.state.keys key ≡ Some row
-      → place_of (after c.begin.start (entries_in c.new_view)).keys key ≡ Some row
+      → place_of (after_all c.begin.start (entries_in c.new_view)).keys key ≡ Some row
   has_row key row place = row_known told c.begin c.found c.given c.taken c.new_view.turn c.began c.free c.visits key row
       place
 
@@ -361,7 +361,7 @@ module _ (told : Bool) (c : Call told) (commands : c.task.kind ≡ Command)
       change = change;
       reply = reply;
       step = subst (λ (st : State). IsStepOf st c.task.octets seen (change, reply))
-          (m.stands clean ∙ ap (after c.begin.start) entries_middle) step;
+          (m.stands clean ∙ ap (after_all c.begin.start) entries_middle) step;
     }
 
     own : Change → Entry
@@ -391,7 +391,7 @@ module _ (told : Bool) (c : Call told) (commands : c.task.kind ≡ Command)
         ap entries_of added ∙ lines_entries middle.log (e ∷ []) in
         let at : position ≡ length (entries_of middle.log) + 1 =
         h.made.1.position_is ∙ ap length given_is ∙ length-append (entries_of middle.log) (e ∷ []) in
-        let state : middle.state ≡ after c.begin.start (entries_of middle.log) = s.stage.state h.made.0.0 in
+        let state : middle.state ≡ after_all c.begin.start (entries_of middle.log) = s.stage.state h.made.0.0 in
         told_exactly c.begin c.segment c.task c.old_view c.new_view m.move m.moves c.found.log
         (s.es ++ record_entry c.task.index seen h.change ∷ [])
         (by_lines (s.es ++ record_entry c.task.index seen h.change ∷ []) (with_own h.change added)) (own_drawn h.change)

@@ -3,7 +3,7 @@ use Rattle.std.proofs.Common.{◌≡◌, ◌⊎◌, ℕ, ◌+◌, ◌-◌, ◌<�
 use Rattle.std.proofs.Common.{sym, ◌∙◌, ap, subst, arith, inl, inr, append-nil, eqb}
 use Rattle.std.proofs.lemmas.Bool.{cases_eq}
 use Rattle.std.proofs.lemmas.Bool.Decides.{nat_tests}
-use Rattle.sdls_base.specs.Numbers.{one_if, times}
+use Rattle.sdls_base.specs.Numbers.{one_if, tally}
 use Rattle.record_io.specs.declared.records.Record.{Record}
 use Rattle.counter_table.specs.declared.view.Numbers.{Numbers}
 use Rattle.counter_table.specs.declared.view.View.{View}
@@ -17,7 +17,7 @@ use Rattle.law_workers.specs.Work.{IsAsked}
 use Rattle.law_calls.proofs.OneRecord.{Counted, one_all, none_all}
 
 -- the pair is the only one of a list
-one_time : (row n r x : ℕ) → 0 < times r x ((row, n) ∷ []) → (row ≡ r) × (n ≡ x)
+one_time : (row n r x : ℕ) → 0 < tally r x ((row, n) ∷ []) → (row ≡ r) × (n ≡ x)
 one_time row n r x h = elim (cases_eq row r) [
   | inl same ↦ elim (cases_eq n x) [
     | inl is ↦ (same, is)

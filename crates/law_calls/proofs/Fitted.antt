@@ -8,7 +8,7 @@ use Rattle.sdls_base.specs.declared.entry.Entry.{Entry}
 use Rattle.sdls_base.specs.declared.entry.Seen.{Seen}
 use Rattle.sdls_outside.specs.Faults.{Rose}
 use Rattle.unit_state.specs.declared.state.State.{State}
-use Rattle.unit_state.specs.History.{after, after_first}
+use Rattle.unit_state.specs.History.{after_all, after_first}
 use Rattle.frame_checks.specs.declared.open_reply.OpenReply.{OpenReply}
 use Rattle.frame_checks.specs.OpeningFrames.{IsOpenReply}
 use Rattle.ep_core.specs.declared.reply.Reply.{Reply}
@@ -23,9 +23,10 @@ use Rattle.run_promise.specs.Fits.{Course, Fits, FitsAny, FitsKind, MayAppendOnc
 use Rattle.run_promise.specs.Fits.{state_after}
 use Rattle.law_calls.specs.Answering.{answer_of, unserved_answer}
 
-pub after_front : (start : State) (es rest : List Entry) → after_first start (es ++ rest) (length es) ≡ after start es
+pub after_front : (start : State) (es rest : List Entry) → after_first start (es ++ rest) (length es)
+    ≡ after_all start es
 after_front start es rest =
-    ap (after start) (take-append-le (length es) es rest (omega arith) ∙ take_all (length es) es (omega arith))
+    ap (after_all start) (take-append-le (length es) es rest (omega arith) ∙ take_all (length es) es (omega arith))
 
 behind : (es : List Entry) (e : Entry) → slice_get (es ++ e ∷ []) (length es) ≡ Some e
 behind [] e = refl
@@ -53,7 +54,7 @@ module _ (near : ℕ → ℕ → Type 0) (course : Course) (task : Record) where
   -- the entry that the answer tells is the last
   module _ (front : List Entry) (state : State) (entry : Entry) (position : ℕ)
       (entries : course.entries ≡ front ++ entry ∷ [])
-      (state_is : state ≡ after course.begin.start front) (position_is : position ≡ length front + 1) where
+      (state_is : state ≡ after_all course.begin.start front) (position_is : position ≡ length front + 1) where
     before : position - 1 ≡ length front
     before = omega arith
 

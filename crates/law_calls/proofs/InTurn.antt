@@ -13,7 +13,7 @@ use Rattle.record_io.specs.declared.code.TheConstants.{MONITOR_FAULT, SITE_FAULT
 use Rattle.record_io.specs.declared.records.Record.{Record}
 use Rattle.unit_state.specs.declared.state.State.{State}
 use Rattle.unit_state.specs.Applied.{applied}
-use Rattle.unit_state.specs.History.{after, epoch_after}
+use Rattle.unit_state.specs.History.{after_all, epoch_after}
 use Rattle.counter_table.specs.declared.view.Known.{Known}
 use Rattle.counter_table.specs.declared.view.Numbers.{Numbers}
 use Rattle.counter_table.specs.declared.view.Opening.{Opening}
@@ -225,7 +225,7 @@ looks_pass begin v w spent turned is =
       level = level_on v w turned.earlier turned.opening same turned.epochs;
       backed = λ all level numbers of h.
           backed_on begin v w numbers (λ key row there.
-          ap (λ (l : List Entry). place_of (after begin.start l).keys key) same ∙ there)
+          ap (λ (l : List Entry). place_of (after_all begin.start l).keys key) same ∙ there)
           (stood_on v w turned.earlier turned.opening same level) turned.epochs h;
     }
 
@@ -345,8 +345,8 @@ module _ (told : Bool) (begin : Begin) (found given : BookView) (u : Turn) (v w 
         → IsBacked begin v numbers
     taken_backed covered known later same level numbers of =
         let stood = stood_found known same level in
-        let state : found.state ≡ after begin.start (stood_in v) =
-        led told begin found given u w.turn began free visits ∙ ap (after begin.start) stood in
+        let state : found.state ≡ after_all begin.start (stood_in v) =
+        led told begin found given u w.turn began free visits ∙ ap (after_all begin.start) stood in
         record {
           marks = λ key row number low there in'.
               let rows = began.rows in
@@ -355,14 +355,14 @@ module _ (told : Bool) (begin : Begin) (found given : BookView) (u : Turn) (v w 
               let below : number < mark_at found.state row =
               below_mark number (mark_at found.state row) (omega arith) in
               let left : List Entry = drop v.turn.known.standing (entries_in v) in
-              let whole : after found.state left ≡ after begin.start (entries_in v) =
-              ap (λ (s : State). after s left) state ∙ sym (after_both begin.start (stood_in v) left)
-              ∙ ap (after begin.start) (take-append-drop v.turn.known.standing (entries_in v)) in
-              let place : place_of (after found.state left).keys key ≡ Some row =
+              let whole : after_all found.state left ≡ after_all begin.start (entries_in v) =
+              ap (λ (s : State). after_all s left) state ∙ sym (after_both begin.start (stood_in v) left)
+              ∙ ap (after_all begin.start) (take-append-drop v.turn.known.standing (entries_in v)) in
+              let place : place_of (after_all found.state left).keys key ≡ Some row =
               ap (λ (s : State). place_of s.keys key) whole ∙ there in
               let mark : mark_at found.state row ≡ mark_of found.state key =
               mark_known found.state left key row visits.found_kept.rules place in
-              let known_mark : mark_of found.state key ≡ mark_of (after begin.start (stood_in v)) key =
+              let known_mark : mark_of found.state key ≡ mark_of (after_all begin.start (stood_in v)) key =
               ap (λ (s : State). mark_of s key) state in omega arith;
           epoch =
               let low = epoch_low told begin found given u w.turn began free visits in
@@ -415,10 +415,10 @@ covers told begin v x w began free known later same numbers earlier h made made_
 
 -- The state of a book is that after its entries: so it is at a stage of a call, if the site had not failed.
 abbrev pub Stands : Begin → BookView → Type 0
-Stands begin book = book.state ≡ after begin.start (entries_of book.log)
+Stands begin book = book.state ≡ after_all begin.start (entries_of book.log)
 
 after_one : (start : State) (es : List Entry) (e : Entry)
-    → after start (es ++ e ∷ []) ≡ applied (after start es) e.change
+    → after_all start (es ++ e ∷ []) ≡ applied (after_all start es) e.change
 after_one start [] e = refl
 after_one start (x ∷ es) e = after_one (applied start x.change) es e
 
@@ -431,7 +431,7 @@ stands_entered begin old stands new entry position enters =
     ap (λ (b : BookView). entries_of b.log) enters.is ∙ lines_entries old.log (entry ∷ []) in
     let state : new.state ≡ applied old.state entry.change = ap (λ (b : BookView). b.state) enters.is in
     state ∙ ap (λ (s : State). applied s entry.change) stands ∙ sym (after_one begin.start (entries_of old.log) entry)
-    ∙ ap (after begin.start) (sym log)
+    ∙ ap (after_all begin.start) (sym log)
 
 -- the book that was found
 pub stands_found : (told : Bool) (begin : Begin) (found given : BookView) (u : Turn) (v w : View)

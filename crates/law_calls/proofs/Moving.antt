@@ -3,7 +3,7 @@ use Rattle.std.proofs.Common.{◌≡◌, ℕ, ◌+◌, ◌-◌, ◌<◌, ◌≤�
 use Rattle.std.proofs.Common.{◌∙◌, ap, subst, arith, inl, inr, if◌then◌else◌, eqb, eq-eqb}
 use Rattle.std.proofs.lemmas.Bool.{cases_eq}
 use Rattle.std.proofs.lemmas.Bool.Decides.{nat_tests}
-use Rattle.sdls_base.specs.Numbers.{times}
+use Rattle.sdls_base.specs.Numbers.{tally}
 use Rattle.counter_table.specs.declared.view.Numbers.{Numbers}
 use Rattle.counter_table.specs.declared.view.View.{View}
 use Rattle.counter_table.specs.Numbers.{amount, top, raising}
@@ -73,14 +73,14 @@ module _ (begin : Begin) (v w : View) where
           let g = s.counted.nexts r in
           subst (λ (b : Bool). words_in v r + (if b then 1 else 0) ≤ words_in w r) (sym none) (omega arith)
     ] where
-      once : (own x : ℕ) → 0 < times own x ((own, x) ∷ [])
+      once : (own x : ℕ) → 0 < tally own x ((own, x) ∷ [])
       once own x = let t : eqb own own ≡ true = eq-eqb own own refl in let u : eqb x x ≡ true = eq-eqb x x refl in
           rw (t, u) (omega arith)
 
     above : (n : ℕ) (spent : List (ℕ × ℕ)) → Shows begin task v w row n ((row, n) ∷ []) spent [] ((row, 1) ∷ [])
         → n < words_in w row
     above n spent s = (s.counted.between row n (once row n)).1 where
-      once : (own x : ℕ) → 0 < times own x ((own, x) ∷ [])
+      once : (own x : ℕ) → 0 < tally own x ((own, x) ∷ [])
       once own x = let t : eqb own own ≡ true = eq-eqb own own refl in let u : eqb x x ≡ true = eq-eqb x x refl in
           rw (t, u) (omega arith)
 

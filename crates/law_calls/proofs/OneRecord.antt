@@ -5,13 +5,13 @@ use Rattle.std.proofs.Common.{eqb, eq-eqb, true}
 use Rattle.std.specs.List.{All}
 use Rattle.std.proofs.lemmas.Bool.{cases_eq}
 use Rattle.std.proofs.lemmas.Bool.Decides.{nat_tests}
-use Rattle.sdls_base.specs.Numbers.{times}
+use Rattle.sdls_base.specs.Numbers.{tally}
 use Rattle.sdls_base.specs.declared.entry.Entry.{Entry}
 use Rattle.sdls_base.specs.declared.entry.Logged.{Logged}
 use Rattle.record_io.specs.declared.records.Record.{Record}
 use Rattle.record_io.specs.declared.answers.Answer.{Answer}
 use Rattle.record_io.specs.declared.code.TheConstants.{SITE_FAULT, NO_MEMORY}
-use Rattle.unit_state.specs.History.{after}
+use Rattle.unit_state.specs.History.{after_all}
 use Rattle.counter_table.specs.declared.view.Turn.{Turn}
 use Rattle.counter_table.specs.declared.view.View.{View}
 use Rattle.counter_table.specs.Known.{Earlier, IsSparing}
@@ -72,15 +72,16 @@ module _ (begin : Begin) (task : Record) (v w : View) where
     pub shares : w.numbers.shares ≡ v.numbers.shares
     pub nexts : (row : ℕ) → top row v.numbers.nexts ≤ top row w.numbers.nexts
     pub few : (row : ℕ) → count_of row drawn ≤ drawers (task ∷ [])
-    pub between : (row number : ℕ) → 0 < times row number drawn → (top row v.numbers.nexts ≤ number)
+    pub between : (row number : ℕ) → 0 < tally row number drawn → (top row v.numbers.nexts ≤ number)
         × (number < top row w.numbers.nexts)
-    pub of_drawn : (row number : ℕ) → times row number spent ≤ times row number drawn
+    pub of_drawn : (row number : ℕ) → tally row number spent ≤ tally row number drawn
     pub raised_by : All (λ pair. (pair.1 ≤ 1) ⊎ IsAsked begin (entries_in w) (task ∷ []) pair.0 pair.1) raised
 
   module _ (layout : Layout) (segment : ℕ) (log : List Logged) (es : List Entry)
       (drawn spent raised added : List (ℕ × ℕ))
       (turned : Turned log es v.turn w.turn) (counted : Counted drawn spent raised added)
-      (legal : LegalInTurn (IsBetween begin v w) begin.plan begin.start (task ∷ []) (after begin.start (entries_of log))
+      (legal : LegalInTurn (IsBetween begin v w) begin.plan begin.start (task ∷ [])
+      (after_all begin.start (entries_of log))
       es)
       (one : (index : ℕ) → tested (is_of_record index) es ≤ indexed index (task ∷ []))
       (reserve : tested is_of_none es ≤ drawers (task ∷ []))

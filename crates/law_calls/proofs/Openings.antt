@@ -12,7 +12,7 @@ use Rattle.record_io.specs.declared.records.Record.{Record}
 use Rattle.record_io.specs.declared.code.TheConstants.{PROTECTED, DONE, SITE_FAULT}
 use Rattle.unit_plan.specs.PlanLines.{PlanLines}
 use Rattle.unit_state.specs.declared.state.State.{State}
-use Rattle.unit_state.specs.History.{after}
+use Rattle.unit_state.specs.History.{after_all}
 use Rattle.counter_table.specs.declared.view.View.{View}
 use Rattle.run_promise.specs.Answers.{opened_told, Uses}
 use Rattle.law_workers.specs.Counts.{is_of_record}
@@ -123,24 +123,26 @@ module _ (told : Bool) (begin : Begin) (layout : Layout) (segment : ℕ) (task :
       entry : Entry
       entry = frame_entry found.plan found.state task.index reply
 
-      state_is : found.state ≡ after begin.start (entries_of found.log)
+      state_is : found.state ≡ after_all begin.start (entries_of found.log)
       state_is = (whole told begin found given v.turn w.turn began free visits can.0).0
 
       plan_same : found.plan ≡ begin.plan
       plan_same = plan_is told begin found given v.turn w.turn began free visits
 
-      replies_then : IsOpenReply begin.plan (after begin.start (entries_of found.log)) task.link task.octets reply field
+      replies_then : IsOpenReply begin.plan
+          (after_all begin.start (entries_of found.log)) task.link task.octets reply field
       replies_then =
-          subst (λ (p : PlanLines). IsOpenReply p (after begin.start (entries_of found.log)) task.link task.octets reply
+          subst (λ (p : PlanLines). IsOpenReply p
+          (after_all begin.start (entries_of found.log)) task.link task.octets reply
           field) plan_same
           (subst (λ (s : State). IsOpenReply found.plan s task.link task.octets reply field) state_is replies)
 
       entry_then : frame_entry found.plan found.state task.index reply
-          ≡ frame_entry begin.plan (after begin.start (entries_of found.log)) task.index reply
+          ≡ frame_entry begin.plan (after_all begin.start (entries_of found.log)) task.index reply
       entry_then = ap (λ (p : PlanLines). frame_entry p found.state task.index reply) plan_same
           ∙ ap (λ (s : State). frame_entry begin.plan s task.index reply) state_is
 
-      legal : IsLegal (IsBetween begin v w) begin.plan (after begin.start (entries_of found.log)) (task ∷ [])
+      legal : IsLegal (IsBetween begin v w) begin.plan (after_all begin.start (entries_of found.log)) (task ∷ [])
           (frame_entry found.plan found.state task.index reply)
       legal = inl (record {
         task = task;
@@ -200,7 +202,7 @@ module _ (told : Bool) (begin : Begin) (layout : Layout) (segment : ℕ) (task :
         (legal reply field opened.reply_is can) (one reply field opened.reply_is can) (omega arith)
         (opened_told reply field) position opened.made.1 (not_protect task.kind opens_it)
         (not_monitor task.kind opens_it)
-        (λ known at. opened_fits (IsBetween begin v w) (course_in begin w) task front (after begin.start front)
+        (λ known at. opened_fits (IsBetween begin v w) (course_in begin w) task front (after_all begin.start front)
         (frame_entry found.plan found.state task.index reply) position known refl at opens_it reply field
         (replies_then reply field opened.reply_is can) (entry_then reply field opened.reply_is can))
         (λ key number uses. absurd (unused reply field position key number uses)) (opened_plain reply field).2

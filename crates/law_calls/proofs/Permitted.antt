@@ -14,7 +14,7 @@ use Rattle.sa_book.specs.declared.sa_row.SaRow.{SaRow}
 use Rattle.sa_book.specs.SaBook.{sender_on}
 use Rattle.unit_plan.specs.PlanLines.{PlanLines, link_of}
 use Rattle.unit_state.specs.declared.state.State.{State}
-use Rattle.unit_state.specs.History.{after, after_first, at_epoch, epoch_after}
+use Rattle.unit_state.specs.History.{after_all, after_first, at_epoch, epoch_after}
 use Rattle.unit_state.proofs.Histories.{at_epoch_more}
 use Rattle.frame_shield.specs.declared.binding.Binding.{Binding}
 use Rattle.frame_shield.specs.declared.protecting_frames.ShieldFault.{ShieldFault}
@@ -119,7 +119,7 @@ began_before start all n epoch reached =
       place = place;
       low = low;
       within = omega arith;
-      state = same ∙ at.state ∙ ap (after start) (take-take place n all low);
+      state = same ∙ at.state ∙ ap (after_all start) (take-take place n all low);
     }
 
 -- a key has its row after the first n entries, where it had it at such an epoch
@@ -135,7 +135,7 @@ row_before start all n epoch key row reached there =
 
 pub row_last : (start : State) (all : List Entry) (epoch key row : ℕ) → epoch ≤ epoch_after all
     → place_of (at_epoch start all epoch).keys key ≡ Some row
-    → place_of (after start all).keys key ≡ Some row
+    → place_of (after_all start all).keys key ≡ Some row
 row_last start all epoch key row reached there =
     let (place, at) = begins start all epoch reached in
     row_kept_first start all place key row (ap (λ (s : State). place_of s.keys key) (sym at.state) ∙ there)

@@ -3,7 +3,7 @@ use Rattle.std.proofs.Common.{◌≡◌, ◌≢◌, ◌⊎◌, ℕ, ◌<◌, ◌
 use Rattle.std.proofs.Common.{take, Option, Some, None, Ok, Err, refl, sym, ◌∙◌, ap, subst, arith, inl, inr, append-nil}
 use Rattle.std.proofs.Common.{if◌then◌else◌, eqb, eq-eqb}
 use Rattle.sdls_base.specs.KeyId.{end_of}
-use Rattle.sdls_base.specs.Numbers.{times}
+use Rattle.sdls_base.specs.Numbers.{tally}
 use Rattle.sdls_base.specs.declared.entry.Entry.{Entry}
 use Rattle.key_book.specs.KeyBook.{place_of}
 use Rattle.record_io.specs.declared.answers.Answer.{Answer}
@@ -14,7 +14,7 @@ use Rattle.record_io.specs.declared.code.TheConstants.{PROTECTED, CLEAR, EXHAUST
 use Rattle.record_io.specs.declared.code.TheConstants.{NO_MEMORY}
 use Rattle.unit_plan.specs.PlanLines.{PlanLines, link_of}
 use Rattle.unit_state.specs.declared.state.State.{State}
-use Rattle.unit_state.specs.History.{after, at_epoch, epoch_after}
+use Rattle.unit_state.specs.History.{after_all, at_epoch, epoch_after}
 use Rattle.frame_shield.specs.declared.protecting_frames.ShieldFault.{ShieldFault}
 use Rattle.frame_shield.specs.declared.protecting_frames.ShieldFault.TheVariants as shield_faults
 use Rattle.frame_shield.specs.Binding.{clear_fault}
@@ -89,7 +89,7 @@ module _ (told : Bool) (begin : Begin) (layout : Layout) (segment : ℕ) (task :
   Finishes spent = (answer : Answer) → Fits (IsBetween begin v w) (course_in begin w) task answer
       → StandsWithin begin v w (deed_of segment task answer)
       → ((key number : ℕ) → Uses answer key number → (row : ℕ) × (row < begin.rows) × IsRow begin w key row
-      × (0 < times row number spent))
+      × (0 < tally row number spent))
       → answer.code ≢ SITE_FAULT → Handled layout begin v w (task ∷ []) (deed_of segment task answer ∷ [])
 
   pub looked : Looks v.turn w.turn → Turned v.turn.known.log [] v.turn w.turn
@@ -157,7 +157,7 @@ module _ (told : Bool) (begin : Begin) (layout : Layout) (segment : ℕ) (task :
       answered told (call_of done t) t.given es stage [] (sym (append-nil t.given.log))
       (record { drawn = drawn; spent = spent; raised = raised; added = added; counted = counted })
       (subst (λ (l : List Entry). LegalInTurn (IsBetween begin v w) begin.plan begin.start (task ∷ [])
-      (after begin.start (entries_of t.found.log)) l)
+      (after_all begin.start (entries_of t.found.log)) l)
       (sym (append-nil es)) stage.legal)
       (λ index. omega arith) (let f = stage.few in omega arith) (omega arith) answer fits within used
       (λ is. absurd (plain is)) (λ _. refl)
@@ -446,9 +446,9 @@ module _ (told : Bool) (begin : Begin) (layout : Layout) (segment : ℕ) (task :
           p.row,
           row_below p used opening,
           subst (λ (k : ℕ). IsRow begin w k p.row) uses.1 own_row,
-          subst (λ (x : ℕ). 0 < times p.row x ((p.row, d.number) ∷ [])) uses.2 (once p.row d.number),
+          subst (λ (x : ℕ). 0 < tally p.row x ((p.row, d.number) ∷ [])) uses.2 (once p.row d.number),
         )) (λ code. absurd (omega arith)) where
-          once : (row x : ℕ) → 0 < times row x ((row, x) ∷ [])
+          once : (row x : ℕ) → 0 < tally row x ((row, x) ∷ [])
           once row x = let t : eqb row row ≡ true = eq-eqb row row refl in let u : eqb x x ≡ true = eq-eqb x x refl in
               rw (t, u) (omega arith)
 

@@ -3,7 +3,7 @@ use Rattle.std.proofs.Common.{◌≡◌, ◌≢◌, ◌⊎◌, ℕ, ◌<◌, ◌
 use Rattle.std.proofs.Common.{append_assoc, Option, Some, Err, refl, sym, ◌∙◌, ap, subst, arith, inl, inr, append-nil}
 use Rattle.std.proofs.Common.{length, Ok, Result, true, eqb, eq-eqb, ◌+◌, None}
 use Rattle.std.proofs.lemmas.List.{take-append-drop}
-use Rattle.sdls_base.specs.Numbers.{times}
+use Rattle.sdls_base.specs.Numbers.{tally}
 use Rattle.sdls_base.specs.KeyId.{end_of}
 use Rattle.sdls_base.specs.declared.entry.Entry.{Entry}
 use Rattle.sdls_base.specs.declared.entry.Logged.{Logged}
@@ -16,7 +16,7 @@ use Rattle.record_io.specs.declared.kinds.RecordKind.TheVariants.{Protect}
 use Rattle.record_io.specs.declared.records.Record.{Record}
 use Rattle.unit_plan.specs.PlanLines.{PlanLines}
 use Rattle.unit_state.specs.declared.state.State.{State}
-use Rattle.unit_state.specs.History.{after, at_epoch, epoch_after}
+use Rattle.unit_state.specs.History.{after_all, at_epoch, epoch_after}
 use Rattle.unit_state.proofs.Histories.{at_epoch_more, epochs_more}
 use Rattle.frame_shield.specs.declared.protecting_frames.ShieldFault.{ShieldFault}
 use Rattle.frame_shield.specs.declared.protecting_frames.ShieldFault.TheVariants as shield_faults
@@ -270,7 +270,7 @@ module _ (told : Bool) (begin : Begin) (layout : Layout) (segment : ℕ) (task :
           → t.found.log ≡ log_of v
           → IsLevel v → t.found.state ≡ machine.now begin (stood_in v)
       state_here done t clean same level =
-          stands done t clean ∙ ap (after begin.start) (stood_v done t clean same level)
+          stands done t clean ∙ ap (after_all begin.start) (stood_v done t clean same level)
 
       reserve_here : (done : BookView → BookView → Type 0) (t : TakesTurn told done v.turn w.turn) (n : ℕ)
           → FoundClean done t
@@ -295,7 +295,8 @@ module _ (told : Bool) (begin : Begin) (layout : Layout) (segment : ℕ) (task :
           (Drew p.row d.number) (record {
             protected = λ _. (
               p.row,
-              subst (λ (k : ℕ). place_of (after begin.start (entries_in w)).keys k ≡ Some p.row) (sym is.protected.key)
+              subst (λ (k : ℕ). place_of (after_all begin.start (entries_in w)).keys k ≡ Some p.row)
+                  (sym is.protected.key)
                   (row_is told begin layout segment task v w began free protects p used opening),
               refl,
             );
@@ -340,13 +341,13 @@ module _ (told : Bool) (begin : Begin) (layout : Layout) (segment : ℕ) (task :
                 ((p.row, d.number) ∷ []) (Drew p.row d.number)
             by_mark opening = by_funds [] refl opening (λ level backed all. inl (
               refl,
-              subst (λ (l : List Entry). d.number < mark_of (after begin.start l) p.binding.key)
+              subst (λ (l : List Entry). d.number < mark_of (after_all begin.start l) p.binding.key)
                   (all ∙ append-nil (stood_in v))
                   (backed.marks p.binding.key p.row d.number
                   (row_below told begin layout segment task v w began free protects p used opening)
                   (row_is told begin layout segment task v w began free protects p used opening) (once p.row d.number)),
             )) where
-              once : (row x : ℕ) → 0 < times row x ((row, x) ∷ [])
+              once : (row x : ℕ) → 0 < tally row x ((row, x) ∷ [])
               once row x = let t : eqb row row ≡ true = eq-eqb row row refl in let u : eqb x x ≡ true =
                   eq-eqb x x refl in
                   rw (t, u) (omega arith)
@@ -414,8 +415,8 @@ module _ (told : Bool) (begin : Begin) (layout : Layout) (segment : ℕ) (task :
         low : p.row < begin.rows
         low = row_below told begin layout segment task v w began free protects p used opening
 
-        has_row : place_of (after begin.start (entries_in w)).keys key ≡ Some p.row
-        has_row = subst (λ (k : ℕ). place_of (after begin.start (entries_in w)).keys k ≡ Some p.row) (sym key_is)
+        has_row : place_of (after_all begin.start (entries_in w)).keys key ≡ Some p.row
+        has_row = subst (λ (k : ℕ). place_of (after_all begin.start (entries_in w)).keys k ≡ Some p.row) (sym key_is)
             (row_is told begin layout segment task v w began free protects p used opening)
 
         tells : (move : Move) → (move ≡ Found p.row n) ⊎ (move ≡ Overdrew p.row n)

@@ -13,7 +13,7 @@ use Rattle.sdls_outside.specs.Faults.{Rose}
 use Rattle.key_book.specs.KeyBook.{place_of}
 use Rattle.record_io.specs.declared.records.Record.{Record}
 use Rattle.unit_state.specs.declared.state.State.{State}
-use Rattle.unit_state.specs.History.{after, after_first, epoch_after}
+use Rattle.unit_state.specs.History.{after_all, after_first, epoch_after}
 use Rattle.counter_table.specs.declared.view.Numbers.{Numbers}
 use Rattle.counter_table.specs.declared.view.Opening.{Opening}
 use Rattle.counter_table.specs.declared.view.Turn.{Turn}
@@ -182,12 +182,12 @@ module _ (told : Bool) (begin : Begin) (found given : BookView) (v w : View)
               let once = covered row number (omega arith) in
               let below : number < mark_at found.state row =
               below_mark number (mark_at found.state row) (omega arith) in
-              let whole : after begin.start (entries_in w)
-              ≡ after (after_first begin.start (entries_in w) found.standing) (drop found.standing (entries_in w)) =
-              ap (after begin.start) (sym (take-append-drop found.standing (entries_in w)))
+              let whole : after_all begin.start (entries_in w)
+              ≡ after_all (after_first begin.start (entries_in w) found.standing) (drop found.standing (entries_in w)) =
+              ap (after_all begin.start) (sym (take-append-drop found.standing (entries_in w)))
               ∙ after_both begin.start (take found.standing (entries_in w)) (drop found.standing (entries_in w)) in
-              let later : place_of (after found.state (drop found.standing (entries_in w))).keys key ≡ Some row =
-              ap (λ (s : State). place_of (after s (drop found.standing (entries_in w))).keys key) led
+              let later : place_of (after_all found.state (drop found.standing (entries_in w))).keys key ≡ Some row =
+              ap (λ (s : State). place_of (after_all s (drop found.standing (entries_in w))).keys key) led
               ∙ ap (λ (s : State). place_of s.keys key) (sym whole) ∙ row_is in
               let mark : mark_at found.state row ≡ mark_of found.state key =
               mark_known found.state (drop found.standing (entries_in w)) key row kept.rules later in

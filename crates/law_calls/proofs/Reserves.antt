@@ -7,7 +7,7 @@ use Rattle.key_book.specs.KeyBook.{place_of}
 use Rattle.unit_plan.specs.PlanLines.{PlanLines}
 use Rattle.unit_state.specs.declared.state.State.{State}
 use Rattle.unit_state.specs.Applied.{applied}
-use Rattle.unit_state.specs.History.{after}
+use Rattle.unit_state.specs.History.{after_all}
 use Rattle.unit_state.specs.Restart.{still}
 use Rattle.unit_state.proofs.StateLaws.{light_still}
 use Rattle.record_io.specs.declared.kinds.RecordKind.TheVariants.{Monitor}
@@ -34,14 +34,15 @@ module _ (told : Bool) (c : Call told)
   abbrev entry : Entry
   entry = reserve_of c.found.plan c.found.state key n
 
-  state_is : CanEnter c.found → c.found.state ≡ after c.begin.start (entries_of c.found.log)
+  state_is : CanEnter c.found → c.found.state ≡ after_all c.begin.start (entries_of c.found.log)
   state_is can = (whole told c.begin c.found c.given c.taken c.new_view.turn c.began c.free c.visits can.0).0
 
   plan_same : c.found.plan ≡ c.begin.plan
   plan_same = plan_is told c.begin c.found c.given c.taken c.new_view.turn c.began c.free c.visits
 
   legal : CanEnter c.found → mark_of c.found.state key ≤ n
-      → IsLegal (IsBetween c.begin c.old_view c.new_view) c.begin.plan (after c.begin.start (entries_of c.found.log))
+      → IsLegal (IsBetween c.begin c.old_view c.new_view) c.begin.plan
+      (after_all c.begin.start (entries_of c.found.log))
       (c.task ∷ [])
       (reserve_of c.found.plan c.found.state key n)
   legal can unmarked =
@@ -72,7 +73,8 @@ module _ (told : Bool) (c : Call told)
       record {
         log = ap (λ (b : BookView). b.log) is;
         state = λ _. ap (λ (b : BookView). b.state) is ∙ ap (λ (s : State). applied s e.change) (state_is m.0)
-            ∙ sym (after_both c.begin.start (entries_of c.found.log) (e ∷ [])) ∙ ap (after c.begin.start) (sym entries);
+            ∙ sym (after_both c.begin.start (entries_of c.found.log) (e ∷ []))
+            ∙ ap (after_all c.begin.start) (sym entries);
         opened = ap (λ (b : BookView). b.opened) is;
         clean = λ _. m.0.0;
         standing = omega arith;

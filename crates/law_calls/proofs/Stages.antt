@@ -5,7 +5,7 @@ use Rattle.std.proofs.Common.{inl, inr, ⊎_elim, nat_le, ◌^◌, append-nil, l
 use Rattle.std.proofs.lemmas.Bool.Decides.{nat_tests}
 use Rattle.std.proofs.lemmas.Bool.{cases_lt}
 use Rattle.std.proofs.lemmas.List.{take_all, take_at}
-use Rattle.sdls_base.specs.Numbers.{times}
+use Rattle.sdls_base.specs.Numbers.{tally}
 use Rattle.sdls_base.specs.declared.entry.Entry.{Entry}
 use Rattle.sdls_base.specs.declared.entry.Logged.{Logged}
 use Rattle.sdls_base.specs.declared.entry.Logged.TheVariants as lines
@@ -17,7 +17,7 @@ use Rattle.record_io.specs.declared.kinds.RecordKind.{RecordKind}
 use Rattle.record_io.specs.declared.kinds.RecordKind.TheVariants.{Protect, Open, Command, Monitor}
 use Rattle.record_io.specs.declared.records.Record.{Record}
 use Rattle.unit_state.specs.declared.state.State.{State}
-use Rattle.unit_state.specs.History.{after, after_first, epoch_after}
+use Rattle.unit_state.specs.History.{after_all, after_first, epoch_after}
 use Rattle.unit_state.proofs.Histories.{epochs_more}
 use Rattle.counter_table.specs.declared.view.Known.{Known}
 use Rattle.counter_table.specs.declared.view.Opening.{Opening}
@@ -213,12 +213,12 @@ module _ (told : Bool) (c : Call told) where
   -- A stage of the call: behind the log that was found stand these entries, of no record.
   pub record Stage (old : BookView) (es : List Entry) : Type 0 where
     pub log : old.log ≡ found.log ++ lines_of es
-    pub state : ¬ Rose old.opened.faults old.site.faults → old.state ≡ after begin.start (entries_of old.log)
+    pub state : ¬ Rose old.opened.faults old.site.faults → old.state ≡ after_all begin.start (entries_of old.log)
     pub opened : old.opened ≡ found.opened
     pub clean : ¬ Rose old.opened.faults old.site.faults → ¬ Rose found.opened.faults found.site.faults
     pub standing : old.standing ≤ length (entries_of old.log)
     pub all_stand : ¬ Rose old.opened.faults old.site.faults → old.standing ≡ length (entries_of old.log)
-    pub legal : LegalInTurn near begin.plan begin.start (task ∷ []) (after begin.start (entries_of found.log)) es
+    pub legal : LegalInTurn near begin.plan begin.start (task ∷ []) (after_all begin.start (entries_of found.log)) es
     pub none : (index : ℕ) → tested (is_of_record index) es ≡ 0
     pub few : length es ≤ drawers (task ∷ [])
 
@@ -238,7 +238,7 @@ module _ (told : Bool) (c : Call told) where
   -- the call ended behind a stage with these entries more: none, or one
   module _ (old : BookView) (es : List Entry) (stage : Stage old es) (own : List Entry)
       (added : given.log ≡ old.log ++ lines_of own) (numbers : Added)
-      (legal : LegalInTurn near begin.plan begin.start (task ∷ []) (after begin.start (entries_of found.log))
+      (legal : LegalInTurn near begin.plan begin.start (task ∷ []) (after_all begin.start (entries_of found.log))
       (es ++ own))
       (one : (index : ℕ) → tested (is_of_record index) own ≤ indexed index (task ∷ []))
       (reserves : tested is_of_none own + length es ≤ drawers (task ∷ [])) (few : length own ≤ 1) where
@@ -314,9 +314,10 @@ module _ (told : Bool) (c : Call told) where
     left : given.log ≡ old.log ++ lines_of []
     left = ap (λ (b : BookView). b.log) same ∙ sym (append-nil old.log)
 
-    legal_left : LegalInTurn near begin.plan begin.start (task ∷ []) (after begin.start (entries_of found.log))
+    legal_left : LegalInTurn near begin.plan begin.start (task ∷ []) (after_all begin.start (entries_of found.log))
         (es ++ [])
-    legal_left = subst (LegalInTurn near begin.plan begin.start (task ∷ []) (after begin.start (entries_of found.log)))
+    legal_left = subst (LegalInTurn near begin.plan begin.start (task ∷ [])
+        (after_all begin.start (entries_of found.log)))
         (sym (append-nil es)) stage.legal
 
     reserves_left : 0 + length es ≤ drawers (task ∷ [])
@@ -398,18 +399,19 @@ module _ (told : Bool) (c : Call told) where
   -- an entry more was refused
   module _ (old : BookView) (es : List Entry) (stage : Stage old es) (entry : Entry) (numbers : Added)
       (can : CanEnter old)
-      (legal : IsLegal near begin.plan (after begin.start (entries_of old.log)) (task ∷ []) entry)
+      (legal : IsLegal near begin.plan (after_all begin.start (entries_of old.log)) (task ∷ []) entry)
       (one : (index : ℕ) → tested (is_of_record index) (entry ∷ []) ≤ indexed index (task ∷ []))
       (reserves : tested is_of_none (entry ∷ []) + length es ≤ drawers (task ∷ [])) where
     entries_old : entries_of old.log ≡ entries_of found.log ++ es
     entries_old = ap entries_of stage.log ∙ lines_entries found.log es
 
-    after_old : after begin.start (entries_of old.log) ≡ after (after begin.start (entries_of found.log)) es
-    after_old = ap (after begin.start) entries_old ∙ after_both begin.start (entries_of found.log) es
+    after_old : after_all begin.start (entries_of old.log) ≡ after_all (after_all begin.start (entries_of found.log)) es
+    after_old = ap (after_all begin.start) entries_old ∙ after_both begin.start (entries_of found.log) es
 
-    pub legal_more : LegalInTurn near begin.plan begin.start (task ∷ []) (after begin.start (entries_of found.log))
+    pub legal_more : LegalInTurn near begin.plan begin.start (task ∷ []) (after_all begin.start (entries_of found.log))
         (es ++ entry ∷ [])
-    legal_more = legal_then near begin.plan begin.start (after begin.start (entries_of found.log)) (task ∷ []) es entry
+    legal_more = legal_then near begin.plan begin.start (after_all begin.start (entries_of found.log))
+        (task ∷ []) es entry
         stage.legal
         (subst (λ (s : State). IsLegal near begin.plan s (task ∷ []) entry) after_old legal)
 
@@ -492,7 +494,7 @@ module _ (told : Bool) (c : Call told) where
         → (entries_in w ≡ entries_of old.log ++ entry ∷ [] → position ≡ length (entries_of old.log) + 1
         → Fits near course task (answer_of fields position))
         → ((key number : ℕ) → Uses (answer_of fields position) key number
-        → (row : ℕ) × (row < begin.rows) × IsRow begin w key row × (0 < times row number numbers.spent))
+        → (row : ℕ) × (row < begin.rows) × IsRow begin w key row × (0 < tally row number numbers.spent))
         → fields.code ≢ SITE_FAULT → (IsUnmade fields.code → ⊥)
         → Handled layout begin v w (task ∷ []) (deed_of segment task (answer_of fields position) ∷ [])
     made fields position enters kind recorded fits used plain makes =

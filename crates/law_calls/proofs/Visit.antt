@@ -11,7 +11,7 @@ use Rattle.sdls_base.specs.declared.entry.Logged.{Logged}
 use Rattle.sdls_outside.specs.Faults.{Rose}
 use Rattle.key_book.specs.KeyBook.{place_of}
 use Rattle.unit_state.specs.declared.state.State.{State}
-use Rattle.unit_state.specs.History.{after, after_first, epoch_after}
+use Rattle.unit_state.specs.History.{after_all, after_first, epoch_after}
 use Rattle.counter_table.specs.declared.view.Opening.{Opening}
 use Rattle.counter_table.specs.declared.view.Turn.{Turn}
 use Rattle.counter_table.specs.Known.{Earlier, IsSparing}
@@ -112,10 +112,11 @@ module _ (told : Bool) (begin : Begin) (found given : BookView) (v w : Turn)
   led = visits.found_kept.led ∙ ap (λ (s : State). after_first s (entries_of found.log) found.standing) start_is
 
   pub whole : ¬ Rose found.opened.faults found.site.faults
-      → (found.state ≡ after begin.start (entries_of found.log)) × (found.changes ≡ epoch_after (entries_of found.log))
+      → (found.state ≡ after_all begin.start (entries_of found.log))
+      × (found.changes ≡ epoch_after (entries_of found.log))
   whole not =
       let k = kept_whole told found visits.found_kept not in
-      (k.0 ∙ ap (λ (s : State). after s (entries_of found.log)) start_is, k.1)
+      (k.0 ∙ ap (λ (s : State). after_all s (entries_of found.log)) start_is, k.1)
 
   pub row_below : (key row : ℕ) → place_of found.state.keys key ≡ Some row → row < begin.rows
   row_below key row place =
@@ -130,7 +131,7 @@ module _ (told : Bool) (begin : Begin) (found given : BookView) (v w : Turn)
   pub first_found : (p : ℕ) → p ≤ length (entries_of found.log)
       → after_first begin.start (entries_of w.known.log) p ≡ after_first begin.start (entries_of found.log) p
   first_found p low = ap (λ (l : List Entry). after_first begin.start l p) known_rest
-      ∙ ap (after begin.start) (take-append-le p (entries_of found.log) (entries_of visits.takes.earlier.log.0) low)
+      ∙ ap (after_all begin.start) (take-append-le p (entries_of found.log) (entries_of visits.takes.earlier.log.0) low)
 
   -- the entries that stood, as they were found
   pub standing_found : take found.standing (entries_of w.known.log) ≡ take found.standing (entries_of found.log)
@@ -149,7 +150,7 @@ module _ (told : Bool) (begin : Begin) (found given : BookView) (v w : Turn)
   led_known = led ∙ sym (first_found found.standing visits.found_kept.stands)
 
   pub row_known : (key row : ℕ) → place_of found.state.keys key ≡ Some row
-      → place_of (after begin.start (entries_of w.known.log)).keys key ≡ Some row
+      → place_of (after_all begin.start (entries_of w.known.log)).keys key ≡ Some row
   row_known key row place = row_kept_first begin.start (entries_of w.known.log) found.standing key row
       (ap (λ (s : State). place_of s.keys key) (sym led_known) ∙ place)
 

@@ -17,7 +17,7 @@ use Rattle.sdls_world.specs.declared.key.Key.{Key}
 use Rattle.sdls_world.specs.declared.step.Step.TheVariants.{Arm, Draw, Peek, Spend, See, Take, Give, Write, Sync, Lift}
 use Rattle.sdls_world.specs.declared.step.Step.TheVariants.{RaiseNext, Turn}
 use Rattle.sdls_world.specs.Core as core
-use Rattle.sdls_world.specs.Core.{Doer, Core, after, after_all, on_found, key_of, doer_of, holds_turn}
+use Rattle.sdls_world.specs.Core.{Doer, Core, world_after, world_after_all, on_found, key_of, doer_of, holds_turn}
 use Rattle.sdls_world.proofs.Places.{place_below}
 use Rattle.law_counters.specs.Scene.{Scene, IsRuled, doer, doers, key_at, keys_from, holder_from, world_of, limit_of}
 use Rattle.law_counters.specs.Scene.{next_of, turn_of, epoch_of}
@@ -175,10 +175,10 @@ module _ {B : Type 0} (told : B → Known) (count : ℕ) (s : Scene) (ruled : Is
       may = ap (holds_turn id) holder_is ∙ eq-eqb id id refl
 
     arm_ties : (row key end : ℕ) → MayMove v (arms row key end) s
-        → world_of (moved id v (arms row key end) s) ≡ after world (Arm id key)
+        → world_of (moved id v (arms row key end) s) ≡ world_after world (Arm id key)
     arm_ties row key end ok =
         let n = next_of s row in
-        subst (λ (e : ℕ). world_of (moved id v (arms row key e) s) ≡ after world (Arm id key)) (sym ok.1)
+        subst (λ (e : ℕ). world_of (moved id v (arms row key e) s) ≡ world_after world (Arm id key)) (sym ok.1)
         (by_test row key ok.0 (nat_lt n (end_of key)) refl) where
           armed : ℕ → Bool → View
           armed row b =
@@ -190,7 +190,7 @@ module _ {B : Type 0} (told : B → Known) (count : ℕ) (s : Scene) (ruled : Is
               }
 
           reached : (row key : ℕ) → slice_get s.ids row ≡ Some key
-              → after world (Arm id key)
+              → world_after world (Arm id key)
               ≡ (if nat_lt (next_of s row) (end_of key)
               then record world { actors = set world.actors id (record mine { armed = Some row }) } else world)
           reached row key known =
@@ -200,7 +200,8 @@ module _ {B : Type 0} (told : B → Known) (count : ℕ) (s : Scene) (ruled : Is
 
           by_test : (row key : ℕ) → slice_get s.ids row ≡ Some key → (b : Bool)
               → nat_lt (next_of s row) (end_of key) ≡ b
-              → world_of (knowing id (armed row (nat_lt (next_of s row) (end_of key))) s) ≡ after world (Arm id key)
+              → world_of (knowing id (armed row (nat_lt (next_of s row) (end_of key))) s)
+              ≡ world_after world (Arm id key)
           by_test row key known true e =
               let a = actors_set (armed row true) in
               let h = holder_stays (armed row true) refl in
@@ -217,7 +218,7 @@ module _ {B : Type 0} (told : B → Known) (count : ℕ) (s : Scene) (ruled : Is
               then record world { actors = set world.actors id (record mine { armed = Some row }) } else world) e)
 
     draw_ties : (row key : ℕ) → MayMove v (draws row key) s → world_of (moved id v (draws row key) s)
-        ≡ after world (Draw id)
+        ≡ world_after world (Draw id)
     draw_ties row key ok =
         let n = next_of s row in
         let w : View = record v { numbers = numbers.drawing row n v.numbers } in
@@ -230,13 +231,13 @@ module _ {B : Type 0} (told : B → Known) (count : ℕ) (s : Scene) (ruled : Is
         found_here
         ∙ ap (core.draw_step world (id, mine)) ok.1 ∙ ap (core.draw_at world (id, mine) row) (there row key ok.0))
 
-    see_ties : world_of (moved id v sees s) ≡ after world (See id)
+    see_ties : world_of (moved id v sees s) ≡ world_after world (See id)
     see_ties =
         let w : View = record v { turn = turning.seeing (epoch_of s) v.turn } in
         let a = actors_same w refl in let h = holder_stays w refl in λ j. record world { actors = a j; holder = h j }
 
     module _ (row key x : ℕ) (known : slice_get s.ids row ≡ Some key) (last : v.numbers.last ≡ Some (row, x)) where
-      peeked : after world (Peek id) ≡ (if nat_lt x (limit_of s row)
+      peeked : world_after world (Peek id) ≡ (if nat_lt x (limit_of s row)
           then record world { actors = set world.actors id (core.funding (row, x) mine) } else world)
       peeked =
           ap (λ (o : Option (ℕ × Doer)).
@@ -258,11 +259,12 @@ module _ {B : Type 0} (told : B → Known) (count : ℕ) (s : Scene) (ruled : Is
 
       by_limit : (b : Bool) → nat_lt x (limit_of s row) ≡ b
           → world_of (knowing id (looked b) (record s { used = using b }))
-          ≡ after_all world (if b then Peek id ∷ Spend id ∷ [] else Peek id ∷ [])
+          ≡ world_after_all world (if b then Peek id ∷ Spend id ∷ [] else Peek id ∷ [])
       by_limit true e =
           let d = core.funding (row, x) mine in
-          let looks : after world (Peek id) ≡ funded = peeked ∙ ap (λ (t : Bool). if t then funded else world) e in
-          let spends : after funded (Spend id) ≡ record funded {
+          let looks : world_after world (Peek id) ≡ funded = peeked
+          ∙ ap (λ (t : Bool). if t then funded else world) e in
+          let spends : world_after funded (Spend id) ≡ record funded {
             actors =
                 set funded.actors id (core.spending (row, x) d);
             used = s.used ++ (row, x) ∷ [];
@@ -273,7 +275,7 @@ module _ {B : Type 0} (told : B → Known) (count : ℕ) (s : Scene) (ruled : Is
           let a = actors_set (looked true) ∙ sym (set_twice world.actors id d (core.spending (row, x) d)) in
           let h = holder_stays (looked true) refl in
           (λ j. record world { actors = a j; holder = h j; used = s.used ++ (row, x) ∷ [] })
-          ∙ sym (ap (λ (k : Core). after k (Spend id)) looks ∙ spends)
+          ∙ sym (ap (λ (k : Core). world_after k (Spend id)) looks ∙ spends)
       by_limit false e =
           let a = actors_same (looked false) refl in
           let h = holder_stays (looked false) refl in
@@ -281,16 +283,16 @@ module _ {B : Type 0} (told : B → Known) (count : ℕ) (s : Scene) (ruled : Is
           ∙ sym (peeked ∙ ap (λ (t : Bool). if t then funded else world) e)
 
     peek_ties : (row key x : ℕ) → MayMove v (peeks row key x) s → world_of (moved id v (peeks row key x) s)
-        ≡ after_all world (steps_of id (peeks row key x) s)
+        ≡ world_after_all world (steps_of id (peeks row key x) s)
     peek_ties row key x ok = by_limit row key x ok.0 ok.1 (nat_lt x (limit_of s row)) refl
 
     abbrev took : Bool → View
     took b = record v { turn = if b then turning.taking s.book v.turn else v.turn }
 
-    take_ties : world_of (moved id v takes s) ≡ after world (Take id)
+    take_ties : world_of (moved id v takes s) ≡ world_after world (Take id)
     take_ties = by_test (turn_of s == 0) refl where
       by_test : (b : Bool) → (turn_of s == 0) ≡ b → world_of (knowing id (took b) (writing 0 2 s))
-          ≡ after world (Take id)
+          ≡ world_after world (Take id)
       by_test true e =
           let none = none_where_free (eqb-eq (turn_of s) 0 e) in
           let k = keys_apart 0 2 (omega arith) in
@@ -309,7 +311,7 @@ module _ {B : Type 0} (told : B → Known) (count : ℕ) (s : Scene) (ruled : Is
           (λ j. record { keys = k j; actors = a j; holder = h j; epoch = p j; used = s.used })
           ∙ sym (ap (core.take_step world id) other.1)
 
-    give_ties : v.turn.holds ≡ true → world_of (moved id v gives s) ≡ after world (Give id)
+    give_ties : v.turn.holds ≡ true → world_of (moved id v gives s) ≡ world_after world (Give id)
     give_ties holds =
         let w : View = record v { turn = turning.giving s.book v.turn } in
         let k = keys_apart 0 0 (omega arith) in
@@ -320,7 +322,7 @@ module _ {B : Type 0} (told : B → Known) (count : ℕ) (s : Scene) (ruled : Is
         ∙ sym (ap (λ (t : Bool). if t then record world { holder = None } else world) (may holds))
 
     lift_ties : (row key : ℕ) → MayMove v (lifts row key) s → world_of (moved id v (lifts row key) s)
-        ≡ after world (Lift id key)
+        ≡ world_after world (Lift id key)
     lift_ties row key ok =
         let n = max (limit_of s row) (known_mark s.book row) in
         let w : View = record {
@@ -337,7 +339,7 @@ module _ {B : Type 0} (told : B → Known) (count : ℕ) (s : Scene) (ruled : Is
         ∙ ap (λ (o : Option (ℕ × Key)). on_found world o (core.lift_step world)) (found row key ok.0))
 
     raise_ties : (row key number : ℕ) → MayMove v (raises row key number) s
-        → world_of (moved id v (raises row key number) s) ≡ after world (RaiseNext id key number)
+        → world_of (moved id v (raises row key number) s) ≡ world_after world (RaiseNext id key number)
     raise_ties row key number ok =
         let n = max (next_of s row) number in
         let w : View = record v { numbers = numbers.raising row number (next_of s row) v.numbers } in
@@ -353,7 +355,7 @@ module _ {B : Type 0} (told : B → Known) (count : ℕ) (s : Scene) (ruled : Is
         then record world { keys = set world.keys row (record (here row key ok.0) { next = n }) } else world)
         (le_true number (end_of key) ok.2))
 
-    turn_ties : MayMove v turns s → world_of (moved id v turns s) ≡ after world (Turn id)
+    turn_ties : MayMove v turns s → world_of (moved id v turns s) ≡ world_after world (Turn id)
     turn_ties ok =
         let n = epoch_of s in
         let w : View = record v { turn = turning.turning v.turn } in
@@ -399,7 +401,7 @@ stores_tie told count s ruled id v at holds row key mark later known low one =
     let new : Key = record k { mark = mark; durable = mark } in
     let marked : Key = record k { mark = mark } in
     let written : Core = record w { keys = set w.keys row marked } in
-    let writes : after w (Write id key mark) ≡ written =
+    let writes : world_after w (Write id key mark) ≡ written =
     ap (λ (t : Bool). if t then on_found w (key_of key w.keys) (core.write_step w mark) else w)
     (may told count s ruled id v at holds)
     ∙ ap (λ (o : Option (ℕ × Key)). on_found w o (core.write_step w mark)) (found told count s ruled row key known)
@@ -407,7 +409,7 @@ stores_tie told count s ruled id v at holds row key mark later known low one =
     (le_true (known_mark s.book row) mark one.above)
     ∙ ap (λ (t : Bool). if t then written else w) (le_true mark (end_of key) low) in
     let synced : Core = record w { keys = map core.synced written.keys } in
-    let syncs : after written (Sync id) ≡ synced =
+    let syncs : world_after written (Sync id) ≡ synced =
     ap (λ (t : Bool). if t then synced else written) (may told count s ruled id v at holds) in
     let all : map core.synced written.keys ≡ set w.keys row new =
     map_set core.synced w.keys row marked ∙ ap (λ (ks : List Key). set ks row new)
@@ -420,7 +422,7 @@ stores_tie told count s ruled id v at holds row key mark later known low one =
     (subst (λ (q : ℕ). key_at s.words later q key ≡ new) (sym z) same)
     (λ q id apart. key_same s.words s.words s.book later q id refl refl (one.others q (λ e. apart (omega arith)))) in
     ap (λ (ks : List Key). record w { keys = ks }) (keys ∙ sym all)
-    ∙ sym (ap (λ (c : Core). after c (Sync id)) writes ∙ syncs)
+    ∙ sym (ap (λ (c : Core). world_after c (Sync id)) writes ∙ syncs)
 
 pub told_after : {B : Type 0} (told : B → Known) → ToldAfter told
 told_after told count s (arms row key end) m w tells book = tells.0.1

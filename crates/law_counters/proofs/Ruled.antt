@@ -7,7 +7,7 @@ use Rattle.counter_table.specs.declared.view.View.{View}
 use Rattle.counter_table.specs.Known.{known_mark}
 use Rattle.counter_table.specs.Numbers as numbers
 use Rattle.counter_table.specs.Rule.{RowFits, SeatFits, IsSane}
-use Rattle.sdls_base.specs.Numbers.{times, total, once_below}
+use Rattle.sdls_base.specs.Numbers.{tally, total, once_below}
 use Rattle.sdls_world.specs.declared.key.Key.{Key}
 use Rattle.sdls_world.specs.Core.{Doer}
 use Rattle.sdls_world.specs.Kept.{KeyKept, DoerKept, is_last}
@@ -26,7 +26,7 @@ module _ {B : Type 0} (told : B → Known) (count : ℕ) (s : Scene) (ruled : Is
   sane id v at = ruled.rule.numbers.sane id v.numbers (at_map (λ (u : View). u.numbers) s.views id v at)
 
   spent_drawn : (row x id : ℕ) (v : View) → slice_get s.views id ≡ Some v
-      → times row x v.numbers.spent ≤ times row x v.numbers.drawn
+      → tally row x v.numbers.spent ≤ tally row x v.numbers.drawn
   spent_drawn row x id v at = let h = (sane id v at).drawn row x in omega arith
 
   doer_kept : (n id : ℕ) (v : View) → slice_get s.views id ≡ Some v → DoerKept (doer n v.numbers)
@@ -42,10 +42,10 @@ module _ {B : Type 0} (told : B → Known) (count : ℕ) (s : Scene) (ruled : Is
     seat : (id : ℕ) (v : View) → slice_get s.views id ≡ Some v → SeatFits row (next_of s row) (limit_of s row) v.numbers
     seat id v at = fits.each id v.numbers (at_map (λ (u : View). u.numbers) s.views id v at)
 
-    drawn_once : (x : ℕ) → total (λ (v : View). times row x v.numbers.drawn) s.views ≤ once_below x (next_of s row)
+    drawn_once : (x : ℕ) → total (λ (v : View). tally row x v.numbers.drawn) s.views ≤ once_below x (next_of s row)
     drawn_once x =
         let h = fits.once x in
-        let e = total-map (λ (n : Numbers). times row x n.drawn) (λ (v : View). v.numbers) s.views in omega arith
+        let e = total-map (λ (n : Numbers). tally row x n.drawn) (λ (v : View). v.numbers) s.views in omega arith
 
     below_mark : limit_of s row ≤ known_mark s.book row
     below_mark = le_trans (ruled.rule.turn.limits row below) (ruled.marks row)
@@ -62,8 +62,8 @@ module _ {B : Type 0} (told : B → Known) (count : ℕ) (s : Scene) (ruled : Is
       funded = λ i a at x some.
           let there = doer_there 0 i s.views a at in
           let h = (seat i there.0 there.1).spent x in
-          let e : times row x a.funded ≡ times row x there.0.numbers.spent =
-          ap (λ (d : Doer). times row x d.funded) there.2 in
+          let e : tally row x a.funded ≡ tally row x there.0.numbers.spent =
+          ap (λ (d : Doer). tally row x d.funded) there.2 in
           below_where x (limit_of s row) (omega arith);
       lifted = below_mark;
       stored = omega arith;

@@ -5,7 +5,7 @@ use Rattle.counter_table.specs.declared.view.View.{View}
 use Rattle.counter_table.specs.Numbers as numbers
 use Rattle.counter_table.specs.Turn as turning
 use Rattle.counter_table.specs.Play.{no_view}
-use Rattle.sdls_base.specs.Numbers.{times}
+use Rattle.sdls_base.specs.Numbers.{tally}
 use Rattle.sdls_world.specs.Core.{Doer, idle}
 use Rattle.sdls_world.proofs.Places.{total_set, total-snoc, times-append}
 use Rattle.law_counters.specs.Scene.{AreSpent, doer, doers, holder_from, world_of, limit_of}
@@ -19,16 +19,16 @@ still : (views : List View) (used : List (ℕ × ℕ)) (id : ℕ) (v w : View) �
     → w.numbers.spent ≡ v.numbers.spent
     → AreSpent views used → AreSpent (set views id w) used
 still views used id v w at same spent row x =
-    let t = total_set (λ (u : View). times row x u.numbers.spent) views id v w at in
-    let e : times row x w.numbers.spent ≡ times row x v.numbers.spent = ap (times row x) same in
+    let t = total_set (λ (u : View). tally row x u.numbers.spent) views id v w at in
+    let e : tally row x w.numbers.spent ≡ tally row x v.numbers.spent = ap (tally row x) same in
     let h = spent row x in omega arith
 
 -- a step that spends one pair
 one_more : (views : List View) (used : List (ℕ × ℕ)) (id : ℕ) (v w : View) (p : ℕ × ℕ) → slice_get views id ≡ Some v
     → w.numbers.spent ≡ v.numbers.spent ++ p ∷ [] → AreSpent views used → AreSpent (set views id w) (used ++ p ∷ [])
 one_more views used id v w p at same spent row x =
-    let t = total_set (λ (u : View). times row x u.numbers.spent) views id v w at in
-    let e : times row x w.numbers.spent ≡ times row x (v.numbers.spent ++ p ∷ []) = ap (times row x) same in
+    let t = total_set (λ (u : View). tally row x u.numbers.spent) views id v w at in
+    let e : tally row x w.numbers.spent ≡ tally row x (v.numbers.spent ++ p ∷ []) = ap (tally row x) same in
     let a = times-append row x v.numbers.spent (p ∷ []) in
     let b = times-append row x used (p ∷ []) in
     let h = spent row x in omega arith
@@ -67,7 +67,7 @@ split_ties s id v at =
       (λ j. record (world_of s) { actors = a j; holder = h j }),
       (λ spent row x.
           let t = still s.views s.used id v keeps at refl spent row x in
-          let m = total-snoc (λ (u : View). times row x u.numbers.spent) left new in omega arith),
+          let m = total-snoc (λ (u : View). tally row x u.numbers.spent) left new in omega arith),
     )
 
 get_apart : {A : Type 0} (xs : List A) (i j : ℕ) (w u : A) → j ≢ i → slice_get xs j ≡ Some u
@@ -94,7 +94,7 @@ join_ties s id other v u at there apart free =
     holder_same 0 other left u no_view still_there (sym free) ∙ holder_same 0 id s.views v one at refl in (
       (λ j. record (world_of s) { actors = a j; holder = h j }),
       (λ spent row x.
-          let f : View → ℕ = λ w. times row x w.numbers.spent in
+          let f : View → ℕ = λ w. tally row x w.numbers.spent in
           let t = total_set f s.views id v one at in
           let m = total_set f left other u no_view still_there in
           let b = times-append row x v.numbers.spent u.numbers.spent in

@@ -5,7 +5,7 @@ use Rattle.std.proofs.lemmas.Bool.Decides.{nat_tests}
 use mathlib.Core.Option.{some}
 use lib.ListN.{get_elem?}
 use Rattle.counter_table.specs.declared.view.View.{View}
-use Rattle.sdls_base.specs.Numbers.{times, total, once_below}
+use Rattle.sdls_base.specs.Numbers.{tally, total, once_below}
 use Rattle.sdls_world.specs.Kept.{unused}
 use Rattle.sdls_world.proofs.Places.{some_same, once_below_one}
 use Rattle.law_counters.specs.Scene.{doers}
@@ -39,9 +39,9 @@ total_none f (v ∷ vs) each = let h = total_none f vs (λ id. each (suc id)) in
 
 -- what was spent, and what was drawn and not spent, is what was drawn
 pub unused_sum : (row x n : ℕ) (vs : List View)
-    → ((id : ℕ) (v : View) → slice_get vs id ≡ Some v → times row x v.numbers.spent ≤ times row x v.numbers.drawn)
-    → total (λ v. times row x v.numbers.spent) vs + total (unused row x) (doers n vs)
-    ≡ total (λ v. times row x v.numbers.drawn) vs
+    → ((id : ℕ) (v : View) → slice_get vs id ≡ Some v → tally row x v.numbers.spent ≤ tally row x v.numbers.drawn)
+    → total (λ v. tally row x v.numbers.spent) vs + total (unused row x) (doers n vs)
+    ≡ total (λ v. tally row x v.numbers.drawn) vs
 unused_sum row x n [] each = refl
 unused_sum row x n (v ∷ vs) each =
     let h = unused_sum row x (suc n) vs (λ id. each (suc id)) in
@@ -63,18 +63,18 @@ below_where x n h = ⊎_elim (λ b. b) (λ a. absurd (let z = none_there x n a i
 -- a number that was drawn once, and is spent below the limit alone, is spent once below the mark
 pub spent_below : (row x next limit mark : ℕ) (vs : List View)
     → ((id : ℕ) (v : View) → slice_get vs id ≡ Some v
-    → (times row x v.numbers.spent ≤ times row x v.numbers.drawn) × (times row x v.numbers.spent ≤ once_below x limit))
-    → total (λ v. times row x v.numbers.drawn) vs ≤ once_below x next → limit ≤ mark
-    → total (λ v. times row x v.numbers.spent) vs ≤ once_below x mark
+    → (tally row x v.numbers.spent ≤ tally row x v.numbers.drawn) × (tally row x v.numbers.spent ≤ once_below x limit))
+    → total (λ v. tally row x v.numbers.drawn) vs ≤ once_below x next → limit ≤ mark
+    → total (λ v. tally row x v.numbers.spent) vs ≤ once_below x mark
 spent_below row x next limit mark vs each once low = ⊎_elim below above (below_or_not x limit) where
-  below : x < limit → total (λ (v : View). times row x v.numbers.spent) vs ≤ once_below x mark
+  below : x < limit → total (λ (v : View). tally row x v.numbers.spent) vs ≤ once_below x mark
   below h =
-      let a = total_less (λ v. times row x v.numbers.spent) (λ v. times row x v.numbers.drawn) vs
+      let a = total_less (λ v. tally row x v.numbers.spent) (λ v. tally row x v.numbers.drawn) vs
       (λ id v at. (each id v at).0) in
       let b = once_below_one x next in let c = once_there x mark (omega arith) in omega arith
 
-  above : limit ≤ x → total (λ (v : View). times row x v.numbers.spent) vs ≤ once_below x mark
+  above : limit ≤ x → total (λ (v : View). tally row x v.numbers.spent) vs ≤ once_below x mark
   above h =
       let z = none_there x limit h in
-      let a = total_none (λ v. times row x v.numbers.spent) vs (λ id v at. let e = (each id v at).1 in omega arith) in
+      let a = total_none (λ v. tally row x v.numbers.spent) vs (λ id v at. let e = (each id v at).1 in omega arith) in
       omega arith

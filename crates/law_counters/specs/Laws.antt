@@ -9,7 +9,7 @@ use Rattle.counter_table.specs.Turn.{beginner, merged}
 use Rattle.counter_table.specs.Play.{no_view}
 use Rattle.sdls_base.specs.KeyId.{end_of}
 use Rattle.sdls_world.specs.declared.step.Step.TheVariants.{Write, Sync}
-use Rattle.sdls_world.specs.Core.{idle, after_all}
+use Rattle.sdls_world.specs.Core.{idle, world_after_all}
 use Rattle.sdls_world.specs.Kept.{IsWorldKept}
 use Rattle.law_counters.specs.Scene.{Scene, AreSpent, IsRuled, doer, doers, world_of}
 use Rattle.law_counters.specs.Move.{Move, moved, view_after, MayMove, steps_of, Tells, MovesBook}
@@ -23,7 +23,7 @@ module _ {B : Type 0} (told : B → Known) where
   abbrev pub MovesTie : Type 0
   MovesTie = (count : ℕ) (s : Scene) → IsRuled told count s → (id : ℕ) (v : View) → slice_get s.views id ≡ Some v
       → (move : Move) → MayMove v move s
-      → world_of (moved id v move s) ≡ after_all (world_of s) (steps_of id move s)
+      → world_of (moved id v move s) ≡ world_after_all (world_of s) (steps_of id move s)
 
   -- what the counters tell the worker that steps is what it then knows in the scene
   abbrev pub ToldAfter : Type 0
@@ -48,7 +48,7 @@ StoresTie told = (count : ℕ) (s : Scene) → IsRuled told count s → (id : �
     → v.turn.holds ≡ true
     → (row key mark : ℕ) (later : Known) → slice_get s.ids row ≡ Some key → mark ≤ end_of key
     → MarksOne row mark s.book later
-    → world_of (record s { book = later }) ≡ after_all (world_of s) (Write id key mark ∷ Sync id ∷ [])
+    → world_of (record s { book = later }) ≡ world_after_all (world_of s) (Write id key mark ∷ Sync id ∷ [])
 
 -- the worker at this place gave a share to a new one, which has the next place
 abbrev pub split_at : ℕ → View → Scene → Scene

@@ -5,7 +5,7 @@ use Rattle.counter_table.specs.declared.view.View.{View}
 use Rattle.sdls_base.specs.KeyId.{end_of}
 use Rattle.sdls_world.specs.declared.step.Step.{Step}
 use Rattle.sdls_world.specs.declared.step.Step.TheVariants.{Write, Sync}
-use Rattle.sdls_world.specs.Core.{after_all}
+use Rattle.sdls_world.specs.Core.{world_after_all}
 use Rattle.law_counters.specs.Scene.{Scene, IsRuled, world_of}
 use Rattle.law_counters.specs.Move.{Move, moved, MayMove, steps_of}
 use Rattle.law_counters.specs.Laws.{MarksOne}
@@ -48,4 +48,4 @@ module _ {B : Type 0} (told : B → Known) where
   -- whatever the workers do, one after the other, is a list of steps of the core
   abbrev pub RunsTie : Type 0
   RunsTie = (count : ℕ) (s : Scene) (events : List Event) → MayAllHappen count s events
-      → world_of (scene_at_end s events) ≡ after_all (world_of s) (all_core_steps s events)
+      → world_of (scene_at_end s events) ≡ world_after_all (world_of s) (all_core_steps s events)

@@ -8,7 +8,7 @@ use Rattle.counter_table.specs.declared.view.View.{View}
 use Rattle.counter_table.specs.Known.{known_mark, LowersNoMark}
 use Rattle.counter_table.specs.Rule.{epoch_at, next_at, limit_at}
 use Rattle.counter_table.specs.Rule as rules
-use Rattle.sdls_base.specs.Numbers.{times, total}
+use Rattle.sdls_base.specs.Numbers.{tally, total}
 use Rattle.sdls_world.specs.declared.key.Key.{Key}
 use Rattle.sdls_world.specs.Core.{Doer, Core}
 
@@ -82,7 +82,7 @@ world_of s = record {
 
 -- each pair stands among the used ones as often as the workers together spent it
 abbrev pub AreSpent : List View → List (ℕ × ℕ) → Type 0
-AreSpent views used = (row x : ℕ) → times row x used ≡ total (λ v. times row x v.numbers.spent) views
+AreSpent views used = (row x : ℕ) → tally row x used ≡ total (λ v. tally row x v.numbers.spent) views
 
 module _ {B : Type 0} (told : B → Known) where
   -- the rule of the counters holds, of so many rows

@@ -9,7 +9,7 @@ use Rattle.sdls_base.specs.declared.entry.Entry.{Entry}
 use Rattle.unit_plan.specs.PlanLines.{PlanLines}
 use Rattle.unit_state.specs.declared.state.State.{State}
 use Rattle.unit_state.specs.Applied.{applied}
-use Rattle.unit_state.specs.History.{after, after_first}
+use Rattle.unit_state.specs.History.{after_all, after_first}
 use Rattle.record_io.specs.declared.records.Record.{Record}
 use Rattle.run_promise.specs.History.{IsLegal, IsRelease, drawers, reserves_of, NearWord, LegalRun}
 use Rattle.law_history.proofs.Legal.{legal_wider, release_wider}
@@ -26,13 +26,13 @@ get_back {X} (x ∷ xs) ys (suc k) high =
     get_back xs ys k (omega arith) ∙ ap (λ (n : ℕ). slice_get ys n) same
 
 first_behind : (start : State) (entries more : List Entry) (p : ℕ) → length entries ≤ p
-    → after_first start (entries ++ more) p ≡ after_first (after start entries) more (p - length entries)
+    → after_first start (entries ++ more) p ≡ after_first (after_all start entries) more (p - length entries)
 first_behind start [] more p high = let same : p ≡ p - 0 = omega arith in ap (λ (n : ℕ). after_first start more n) same
 first_behind start (entry ∷ entries) more zero high = absurd (omega arith)
 first_behind start (entry ∷ entries) more (suc p) high =
     let same : p - length entries ≡ suc p - length (entry ∷ entries) = omega arith in
     first_behind (applied start entry.change) entries more p (omega arith)
-    ∙ ap (λ (n : ℕ). after_first (after start (entry ∷ entries)) more n) same
+    ∙ ap (λ (n : ℕ). after_first (after_all start (entry ∷ entries)) more n) same
 
 pub near_later : (start : State) (entries more : List Entry) (records : List Record) (key word : ℕ)
     → NearWord start entries records key word
@@ -47,7 +47,7 @@ module _ (plan : PlanLines) (start : State) (records : List Record) (in_turn : �
     (entries more : List Entry)
     (run : LegalRun plan start records in_turn entries) (all : run.ends ≡ length entries)
     (released : (p : ℕ) (entry : Entry) → slice_get more p ≡ Some entry
-    → IsRelease (NearWord start entries records) (after_first (after start entries) more p) entry) where
+    → IsRelease (NearWord start entries records) (after_first (after_all start entries) more p) entry) where
   front_legal : (p : ℕ) (entry : Entry) → p < length entries → slice_get (entries ++ more) p ≡ Some entry
       → IsLegal (NearWord start (entries ++ more) records) plan (after_first start (entries ++ more) p) records entry
   front_legal p entry low there =
@@ -67,7 +67,7 @@ module _ (plan : PlanLines) (start : State) (records : List Record) (in_turn : �
       (sym (first_behind start entries more p high))
       (release_wider (NearWord start entries records) (NearWord start (entries ++ more) records)
       (near_later start entries more records)
-      (after_first (after start entries) more (p - length entries)) entry
+      (after_first (after_all start entries) more (p - length entries)) entry
       (released (p - length entries) entry (sym (get_back entries more p high) ∙ there)))
 
   -- an entry of a record is none of the releases

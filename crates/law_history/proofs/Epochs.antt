@@ -6,7 +6,7 @@ use Rattle.sdls_base.specs.declared.entry.Entry.{Entry}
 use Rattle.unit_state.specs.declared.state.State.{State}
 use Rattle.unit_state.specs.Applied.{applied}
 use Rattle.unit_state.specs.Restart.{counts}
-use Rattle.unit_state.specs.History.{after, after_first, at_epoch, epoch_after}
+use Rattle.unit_state.specs.History.{after_all, after_first, at_epoch, epoch_after}
 use Rattle.unit_state.proofs.Histories.{at_epoch_more}
 use Rattle.law_history.specs.Taken.{IsLoadedWith}
 use Rattle.law_history.specs.Laws.{BeginsAt}
@@ -59,5 +59,5 @@ loaded_since_epoch start entries epoch p key octets within reached is =
     ap (λ (es : List Entry). at_epoch start es epoch) (sym (take-append-drop p entries))
     ∙ at_epoch_more start (take p entries) (drop p entries) epoch reached in
     let state : at_epoch start entries epoch ≡ after_first start entries place =
-    same ∙ at.state ∙ ap (after start) (take-take place p entries low) in
+    same ∙ at.state ∙ ap (after_all start) (take-take place p entries low) in
     loaded_since start entries place p key octets low within (subst (λ (s : State). IsLoadedWith s key octets) state is)

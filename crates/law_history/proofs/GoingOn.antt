@@ -11,7 +11,7 @@ use Rattle.sdls_base.specs.declared.entry.Logged.TheVariants as logged
 use Rattle.sdls_outside.specs.Faults.{Rose}
 use Rattle.unit_plan.specs.PlanLines.{PlanLines}
 use Rattle.unit_state.specs.declared.state.State.{State}
-use Rattle.unit_state.specs.History.{after, after_first, at_epoch, epoch_after}
+use Rattle.unit_state.specs.History.{after_all, after_first, at_epoch, epoch_after}
 use Rattle.unit_state.proofs.Histories.{epochs_more, at_epoch_more}
 use Rattle.frame_checks.specs.declared.open_reply.OpenReply.TheVariants.{Accepted}
 use Rattle.frame_checks.specs.OpeningFrames.{IsOpenReply}
@@ -45,7 +45,7 @@ drawers-append (task ∷ tasks) others = let rest = drawers-append tasks others 
 
 pub first_stays : (start : State) (entries more : List Entry) (p : ℕ) → p ≤ length entries
     → after_first start (entries ++ more) p ≡ after_first start entries p
-first_stays start entries more p low = ap (after start) (take-append-le p entries more low)
+first_stays start entries more p low = ap (after_all start) (take-append-le p entries more low)
 
 -- ---- legal places of a log
 
@@ -57,10 +57,10 @@ pub legal_more : (near wider : ℕ → ℕ → Type 0) → ((key number : ℕ) �
     → IsLegalAt wider plan start (tasks ++ others) (log ++ more) place
 legal_more near wider nearer plan start tasks others log more place low legal entry there =
     let before : take place (log ++ more) ≡ take place log = take-append-le place log more (omega arith) in
-    subst (λ (lines : List Logged). IsLegal wider plan (after start (entries_of lines)) (tasks ++ others) entry)
+    subst (λ (lines : List Logged). IsLegal wider plan (after_all start (entries_of lines)) (tasks ++ others) entry)
     (sym before)
-    (legal_among wider plan (after start (entries_of (take place log))) tasks others entry
-    (legal_wider near wider nearer plan (after start (entries_of (take place log))) tasks entry
+    (legal_among wider plan (after_all start (entries_of (take place log))) tasks others entry
+    (legal_wider near wider nearer plan (after_all start (entries_of (take place log))) tasks entry
     (legal entry (sym (get_front log more place low) ∙ there))))
   where
     legal_among : (near : ℕ → ℕ → Type 0) (plan : PlanLines) (state : State) (tasks others : List Record)
@@ -127,7 +127,7 @@ pub log_legal : (near : ℕ → ℕ → Type 0) (plan : PlanLines) (start : Stat
     → IsLegal near plan (after_first start (entries_of log) p) records entry
 log_legal near plan start records log legal p entry is =
     let at = stands_in log p entry is in
-    subst (λ (entries : List Entry). IsLegal near plan (after start entries) records entry) at.before
+    subst (λ (entries : List Entry). IsLegal near plan (after_all start entries) records entry) at.before
     (legal at.place at.within entry at.there)
 
 -- ---- near

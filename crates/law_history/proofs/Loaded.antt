@@ -23,7 +23,7 @@ use Rattle.key_book.proofs.Moved.{moved_row}
 use Rattle.unit_state.specs.declared.state.State.{State}
 use Rattle.unit_state.specs.State.{KeepsRules, key_row}
 use Rattle.unit_state.specs.Applied.{applied, numbered, direction_of, key_held}
-use Rattle.unit_state.specs.History.{after}
+use Rattle.unit_state.specs.History.{after_all}
 use Rattle.unit_state.proofs.Found.{held_rules}
 use Rattle.unit_state.proofs.Held.{row_of_changed}
 use Rattle.unit_state.proofs.KeyRules.{stands, row_of_moved}
@@ -109,7 +109,7 @@ loaded_step state change key octets is = digest_kept state change key (sha256 oc
 
 -- what a key was loaded with stays so through every history, and through a restart
 pub loaded_along : (start : State) (entries : List Entry) (key : ℕ) (octets : List ℕ) → IsLoadedWith start key octets
-    → IsLoadedWith (after start entries) key octets
+    → IsLoadedWith (after_all start entries) key octets
 loaded_along start [] key octets is = is
 loaded_along start (entry ∷ entries) key octets is =
     loaded_along (applied start entry.change) entries key octets (digest_kept start entry.change key (sha256 octets) is)

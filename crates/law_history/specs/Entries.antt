@@ -6,7 +6,7 @@ use Rattle.sdls_base.specs.declared.entry.Logged.TheVariants as logged
 use Rattle.unit_plan.specs.PlanLines.{PlanLines}
 use Rattle.key_book.specs.declared.key_row.KeyRow.{KeyRow}
 use Rattle.unit_state.specs.declared.state.State.{State}
-use Rattle.unit_state.specs.History.{after}
+use Rattle.unit_state.specs.History.{after_all}
 use Rattle.record_io.specs.declared.records.Record.{Record}
 use Rattle.record_io.specs.Places.{Place, records_of}
 use Rattle.run_promise.specs.Log.{entries_of}
@@ -29,7 +29,7 @@ IsEntry near plan state records entry = IsLegal near plan state records entry �
 -- the entry at this place of the log, if the line is one, is legal in the state before it
 abbrev pub IsLegalAt : (ℕ → ℕ → Type 0) → PlanLines → State → List Record → List Logged → ℕ → Type 0
 IsLegalAt near plan start records log place = (entry : Entry) → slice_get log place ≡ Some (logged.Entry entry)
-    → IsLegal near plan (after start (entries_of (take place log))) records entry
+    → IsLegal near plan (after_all start (entries_of (take place log))) records entry
 
 -- more entries are known, and a later count of faults
 abbrev pub grown : Course → List Entry → ℕ → Course

@@ -17,7 +17,7 @@ use Rattle.unit_state.proofs.StateLaws.{restarted_twice}
 use Rattle.book_record.specs.declared.sa_parts.SaParts.{SaParts}
 use Rattle.book_record.specs.KeyParts.{key_row_octets}
 use Rattle.book_record.specs.RowReading.{key_row_at, sa_row_at}
-use Rattle.book_record.specs.SaParts.{IsSaRow, sa_parts}
+use Rattle.book_record.specs.SaParts.{AreSaRowOctets, sa_parts}
 use Rattle.book_record.proofs.Rows.{key_row_says, sa_row_says}
 use Rattle.image_content.specs.Content.{key_room_of, key_rows}
 use Rattle.image_content.specs.Reading.{IsContent, IsRestartedRow, IsTypedKey, associations_in, key_count, keys_in}
@@ -67,7 +67,7 @@ sa_back keys row is =
     let high = restarted_high keys read.direction read.key 0 in
     let said = sym (sa_row_says (sa_parts row) (sa_octets row) is.is_row).value in
     same_sa keys (restarted_row keys read) row (sa_octets row) (record {
-      is_row = subst (λ (parts : SaParts). IsSaRow parts (sa_octets row)) said is.is_row;
+      is_row = subst (λ (parts : SaParts). AreSaRowOctets parts (sa_octets row)) said is.is_row;
       window = ap (new_window high) (sym (field_of-new_window 0 (number_at 16 (sa_octets row))));
     }) is
 

@@ -23,7 +23,7 @@ use Rattle.disk_journal.specs.declared.layout.TheConstants.{MIGRATED_AT, HEADER_
 use Rattle.disk_journal.specs.Header.{header_of, plan_length_in}
 use Rattle.unit_state.specs.declared.state.State.{State}
 use Rattle.unit_image.specs.OpeningImage.{IsMigration, LeftByOpening, IsMigrating}
-use Rattle.unit_image.specs.Shows.{Says, Shows}
+use Rattle.unit_image.specs.Shows.{SaysState, Shows}
 use Rattle.unit_image.proofs.Turned.{says_migrated}
 use Rattle.law_image.specs.Keeping.{HoldsNext, HoldsSame, IsShown, KeepsForms, ShowsThroughout}
 pub use Rattle.disk_journal.proofs.Moments.{only_syncs_moments}
@@ -264,15 +264,15 @@ same_shows : (image left : List ℕ) (state : State) → image_fault image ≡ N
 same_shows image left state opens same shows = record {
   what = held image;
   holds = record { opens = opens; is = refl };
-  says = subst (λ (what : Held). Says what state) (sym shows.holds.is ∙ same) shows.says;
+  says = subst (λ (what : Held). SaysState what state) (sym shows.holds.is ∙ same) shows.says;
 }
 
 -- the migration of an image shows the state that it was made of
 migration_shows : (image left : List ℕ) → image_fault left ≡ None → (moves : IsMigration image (held left))
     → Shows left moves.state
 migration_shows image left opens moves =
-    let said : Says (held image) moves.state =
-    subst (λ (what : Held). Says what moves.state) (sym moves.shows.holds.is) moves.shows.says in
+    let said : SaysState (held image) moves.state =
+    subst (λ (what : Held). SaysState what moves.state) (sym moves.shows.holds.is) moves.shows.says in
     record {
       what = migrated moves.content (held image);
       holds = record { opens = opens; is = moves.is };

@@ -11,7 +11,7 @@ use Rattle.unit_plan.specs.KeyLine.{key_said}
 use Rattle.unit_plan.specs.LineForm.{association_of, bounded, device_said, version_said}
 use Rattle.unit_plan.specs.Lines.{lines_of, words_of}
 use Rattle.unit_plan.specs.LinkLine.{link_said}
-use Rattle.unit_plan.specs.Plan.{accept_taken, admitted, after, association_added, association_taken, block_taken}
+use Rattle.unit_plan.specs.Plan.{accept_taken, admitted, plan_after, association_added, association_taken, block_taken}
 use Rattle.unit_plan.specs.Plan.{channel_admitted, channel_taken, device_taken, in_order, is_skipped, key_admitted}
 use Rattle.unit_plan.specs.Plan.{key_taken, line_taken, link_admitted, link_taken, number_in_order, plan_of}
 use Rattle.unit_plan.specs.Plan.{slots_taken, taken, version_taken}
@@ -188,7 +188,8 @@ line_ids line plan next text ok h = go (is_skipped text) h
 
 -- ---- all lines
 
-lines_ids : (line : ℕ) (plan next : PlanLines) (lines : List (List ℕ)) → HasIds plan → after line plan lines ≡ Ok next
+lines_ids : (line : ℕ) (plan next : PlanLines) (lines : List (List ℕ)) → HasIds plan → plan_after line plan lines
+    ≡ Ok next
     → HasIds next
 lines_ids line plan next [] ok h =
     let ended = behind (check line Order (plan.heads == 5)) _ next h in subst HasIds (same_ok plan next ended.2) ok
@@ -199,7 +200,7 @@ lines_ids line plan next (text ∷ lines) ok h =
 pub plan_ids : (text : List ℕ) (plan : PlanLines) → plan_of text ≡ Ok plan → HasIds plan
 plan_ids text plan h = go (nat_lt 65536 (length text)) h
   where
-    go : (b : Bool) → (if b then fault 1 Long else after 1 no_lines (lines_of text)) ≡ Ok plan → HasIds plan
+    go : (b : Bool) → (if b then fault 1 Long else plan_after 1 no_lines (lines_of text)) ≡ Ok plan → HasIds plan
     go true h = absurd (no_fault _ plan h)
     go false h =
         lines_ids 1 no_lines plan (lines_of text) (record { keys = All-nil NamesKey; associations = All-nil NamesRows })

@@ -18,7 +18,7 @@ use Rattle.unit_plan.specs.KeyLine.{key_said}
 use Rattle.unit_plan.specs.LineForm.{association_of, bounded, device_said, number_said, version_said}
 use Rattle.unit_plan.specs.Lines.{lines_of, words_of}
 use Rattle.unit_plan.specs.LinkLine.{is_layout, is_link, link_said}
-use Rattle.unit_plan.specs.Plan.{accept_taken, admitted, after, number_in_order, link_admitted, channel_admitted}
+use Rattle.unit_plan.specs.Plan.{accept_taken, admitted, plan_after, number_in_order, link_admitted, channel_admitted}
 use Rattle.unit_plan.specs.Plan.{key_admitted, association_added, association_taken, block_taken, channel_taken}
 use Rattle.unit_plan.specs.Plan.{device_taken, in_order, is_skipped, key_taken, line_taken, link_taken, plan_of}
 use Rattle.unit_plan.specs.Plan.{slots_taken, taken, version_taken}
@@ -273,7 +273,8 @@ line_kept line plan next text ok h = go (is_skipped text) h
 
 -- ---- all lines
 
-lines_kept : (line : ℕ) (plan next : PlanLines) (lines : List (List ℕ)) → IsPlan plan → after line plan lines ≡ Ok next
+lines_kept : (line : ℕ) (plan next : PlanLines) (lines : List (List ℕ)) → IsPlan plan → plan_after line plan lines
+    ≡ Ok next
     → IsPlan next
 lines_kept line plan next [] ok h =
     let ended = behind (check line Order (plan.heads == 5)) _ next h in subst IsPlan (same_ok plan next ended.2) ok
@@ -294,6 +295,6 @@ first_plan = record {
 pub plan_rules : (text : List ℕ) (plan : PlanLines) → plan_of text ≡ Ok plan → IsPlan plan
 plan_rules text plan h = go (nat_lt 65536 (length text)) h
   where
-    go : (b : Bool) → (if b then fault 1 Long else after 1 no_lines (lines_of text)) ≡ Ok plan → IsPlan plan
+    go : (b : Bool) → (if b then fault 1 Long else plan_after 1 no_lines (lines_of text)) ≡ Ok plan → IsPlan plan
     go true h = absurd (no_fault _ plan h)
     go false h = lines_kept 1 no_lines plan (lines_of text) first_plan h

@@ -8,7 +8,7 @@ use Rattle.unit_state.proofs.RulesKept.{rules_kept}
 use Rattle.unit_state.proofs.StateLaws.{restarted_twice}
 use Rattle.unit_image.specs.Shows.{LeadTo}
 use Rattle.disk_journal.specs.Image.{Held}
-use Rattle.unit_image.specs.Shows.{Says, Shows}
+use Rattle.unit_image.specs.Shows.{SaysState, Shows}
 use Rattle.unit_image.proofs.Restarted.{restarted_rules}
 
 led_rules : (state last : State) (bodies : List (List ℕ)) → KeepsRules state → LeadTo state bodies last
@@ -17,7 +17,7 @@ led_rules state last [] ok led = subst KeepsRules (sym led) ok
 led_rules state last (body ∷ bodies) ok (change, is_record, allowed, rest) =
     led_rules (applied state change) last bodies (rules_kept state change ok allowed) rest
 
-pub said_rules : (what : Held) (state : State) → Says what state → KeepsRules state
+pub said_rules : (what : Held) (state : State) → SaysState what state → KeepsRules state
 said_rules what state says =
     let first = says.begins.content.spelled.rules in
     subst KeepsRules (sym says.left)

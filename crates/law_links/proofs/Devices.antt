@@ -11,9 +11,9 @@ use Rattle.unit_plan.specs.Plan.{plan_of}
 use Rattle.unit_plan.specs.PlanLines.{PlanLines}
 use Rattle.unit_state.specs.declared.state.State.{State}
 use Rattle.unit_state.specs.Applied.{applied}
-use Rattle.unit_state.specs.History.{after, after_first}
+use Rattle.unit_state.specs.History.{after_all, after_first}
 use Rattle.unit_state.specs.Restart.{restarted}
-use Rattle.unit_image.specs.Shows.{LeadTo, Says, Shows}
+use Rattle.unit_image.specs.Shows.{LeadTo, SaysState, Shows}
 use Rattle.run_promise.specs.Life.{LifeRun, IsRun, FollowFrom, IsLife}
 use Rattle.law_runs.specs.Known.{IsShown}
 use Rattle.law_runs.proofs.Beginnings.{form_plan}
@@ -34,7 +34,7 @@ applied_device state (SetWindow spi window) = refl
 applied_device state (Accepted spi key number floor) = refl
 applied_device state Nothing = refl
 
-after_device : (state : State) (entries : List Entry) → (after state entries).device ≡ state.device
+after_device : (state : State) (entries : List Entry) → (after_all state entries).device ≡ state.device
 after_device state [] = refl
 after_device state (entry ∷ entries) =
     after_device (applied state entry.change) entries ∙ applied_device state entry.change
@@ -50,7 +50,7 @@ led_device state (body ∷ bodies) last (change, is, allows, led) =
 same_plan : (text : List ℕ) (one other : PlanLines) → plan_of text ≡ Ok one → plan_of text ≡ Ok other → one ≡ other
 same_plan text one other a b = let e : ◌≡◌ {A = Result PlanLines PlanFault} (Ok one) (Ok other) = sym a ∙ b in cc
 
-said_device : (what : Held) (state : State) (plan : PlanLines) → Says what state → plan_of what.plan ≡ Ok plan
+said_device : (what : Held) (state : State) (plan : PlanLines) → SaysState what state → plan_of what.plan ≡ Ok plan
     → state.device ≡ plan.device
 said_device what state plan says read =
     ap (λ (s : State). s.device) says.left ∙ led_device says.first what.records says.last says.led

@@ -22,7 +22,7 @@ use Rattle.record_io.specs.Places.{Place, records_of}
 use Rattle.unit_plan.specs.PlanLines.{PlanLines}
 use Rattle.unit_state.specs.declared.state.State.{State}
 use Rattle.unit_state.specs.State.{KeepsRules}
-use Rattle.unit_state.specs.History.{after, after_first}
+use Rattle.unit_state.specs.History.{after_all, after_first}
 use Rattle.run_promise.specs.Answers.{SaysSiteFailed, codes_of}
 use Rattle.run_promise.specs.Fits.{Course, Fits}
 use Rattle.run_promise.specs.Numbers.{releases, mark_at}
@@ -180,14 +180,15 @@ front_is xs front rest is =
 -- the states after the entries of the lane keep the rules
 pub rules_front : (state : State) (entries : List Entry) (ends : ℕ)
     → ((p : ℕ) → p ≤ length entries → KeepsRules (after_first state entries p))
-    → (front rest : List Entry) → take ends entries ≡ front ++ rest → KeepsRules (after state ([] ++ front))
+    → (front rest : List Entry) → take ends entries ≡ front ++ rest → KeepsRules (after_all state ([] ++ front))
 rules_front state entries ends rules front rest is =
     let whole : entries ≡ front ++ (rest ++ drop ends entries) =
     sym (take-append-drop ends entries) ∙ ap (λ (l : List Entry). l ++ drop ends entries) is
     ∙ append_assoc front rest (drop ends entries) in
     let size : length entries ≡ length front + length (rest ++ drop ends entries) =
     ap length whole ∙ length-append front (rest ++ drop ends entries) in
-    subst (λ (l : List Entry). KeepsRules (after state l)) (front_is entries front (rest ++ drop ends entries) whole)
+    subst (λ (l : List Entry). KeepsRules (after_all state l))
+    (front_is entries front (rest ++ drop ends entries) whole)
     (rules (length front) (omega arith))
 
 no_more_moves : (rows : ℕ) (words : ℕ → ℕ) (moves beyond : List Move) → beyond ≡ [] → Runs rows words (moves ++ beyond)
@@ -263,7 +264,7 @@ module _ (call other : CallSeen) (run : RunEnds call) (again : RunEnds other) (p
     (once : (begin : Begin) (rows : ℕ) (words : ℕ → ℕ) (before : List Noted) (history : List Entry)
     (deeds others : List Deed) (moves more : List Move)
     (own entries : List Entry) → AreReported before deeds → AreReported before others
-    → ((front rest : List Entry) → own ≡ front ++ rest → KeepsRules (after begin.start (history ++ front)))
+    → ((front rest : List Entry) → own ≡ front ++ rest → KeepsRules (after_all begin.start (history ++ front)))
     → SameTasks deeds others → AreServed deeds → AreServed others
     → ServesAll begin false history deeds moves own → ServesAll begin false history others more entries
     → Runs rows words moves → Runs rows words more
@@ -354,8 +355,8 @@ module _ (call other : CallSeen) (run : RunEnds call) (again : RunEnds other) (p
 
     same_due : due_releases other state t.run.history.run.ends q.words
         ≡ due_releases call state s.run.history.run.ends r.words
-    same_due = ap (λ (l : List Entry). releases (after state l) 0 q.words) (sym all_same.1)
-        ∙ ap (λ (ws : List ℕ). releases (after state (take s.run.history.run.ends call.entries)) 0 ws) same_words
+    same_due = ap (λ (l : List Entry). releases (after_all state l) 0 q.words) (sym all_same.1)
+        ∙ ap (λ (ws : List ℕ). releases (after_all state (take s.run.history.run.ends call.entries)) 0 ws) same_words
 
     entries_are : call.entries ≡ base ++ take r.count due
     entries_are = sym (take-append-drop s.run.history.run.ends call.entries) ∙ ap (λ (l : List Entry). base ++ l)

@@ -12,7 +12,7 @@ use Rattle.record_io.specs.Places.{Place, records_of}
 use Rattle.unit_plan.specs.PlanRules.{IsPlan}
 use Rattle.unit_state.specs.State.{KeepsRules}
 use Rattle.unit_state.specs.Restart.{restarted}
-use Rattle.unit_state.specs.History.{after, epoch_after}
+use Rattle.unit_state.specs.History.{after_all, epoch_after}
 use Rattle.run_promise.specs.History.{drawers, NearWord, IsLegalHistory, TurnIn}
 use Rattle.run_promise.specs.Fits.{Course, Fits}
 use Rattle.law_history.proofs.Along.{of_places}
@@ -74,7 +74,7 @@ module _ (begin : Begin) (first now : View) (places : List Place) (deeds : List 
   abbrev pub course : Course
   course = record (course_in begin now) { faults = faults; entries = entries_in now ++ releases }
 
-  abbrev kept : KeepsRules (after begin.start (entries_in now))
+  abbrev kept : KeepsRules (after_all begin.start (entries_in now))
   kept = rules_at_end begin first now places deeds is_opened d whole plan_is started
 
   abbrev pub history : IsLegalHistory begin.plan begin.start places (entries_in now ++ releases)

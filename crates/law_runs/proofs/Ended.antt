@@ -559,13 +559,14 @@ module _ (told : Bool) (site after : SiteSeen) (source source_after : SourceSeen
       empty_entries (take entries_added.count (releases book.state 0 words)) (omega arith)
 
   -- where it had not, the book's state is the one after all entries
-  state_is : ¬ Rose book.opened.faults book.site.faults → book.state ≡ histories.after book.start (entries_in now)
+  state_is : ¬ Rose book.opened.faults book.site.faults → book.state ≡ histories.after_all book.start (entries_in now)
   state_is well =
       let a : after_first book.start (entries_of book.log) book.standing
-      ≡ histories.after book.start (entries_of book.log) =
+      ≡ histories.after_all book.start (entries_of book.log) =
       ap (λ (n : ℕ). after_first book.start (entries_of book.log) n) (ran.kept.whole well)
-      ∙ ap (histories.after book.start) (take_all (length (entries_of book.log)) (entries_of book.log) (omega arith)) in
-      ran.kept.led ∙ a ∙ ap (λ (l : List Logged). histories.after book.start (entries_of l)) ran.log
+      ∙ ap (histories.after_all book.start)
+      (take_all (length (entries_of book.log)) (entries_of book.log) (omega arith)) in
+      ran.kept.led ∙ a ∙ ap (λ (l : List Logged). histories.after_all book.start (entries_of l)) ran.log
 
   rose_or : (Rose book.opened.faults book.site.faults) ⊎ (¬ Rose book.opened.faults book.site.faults)
   rose_or = elim (cases_lt book.site.faults (min (book.opened.faults + 1) 18446744073709551615)) [
@@ -815,8 +816,8 @@ module _ (told : Bool) (site after : SiteSeen) (source source_after : SourceSeen
   state_at_end : ¬ Rose book.opened.faults book.site.faults → after_first book.start entries (length (entries_in now))
       ≡ book.state
   state_at_end well =
-      ap (λ (l : List Entry). histories.after book.start (take (length (entries_in now)) l)) entries_split
-      ∙ ap (histories.after book.start)
+      ap (λ (l : List Entry). histories.after_all book.start (take (length (entries_in now)) l)) entries_split
+      ∙ ap (histories.after_all book.start)
       (take_at (entries_in now) (take entries_added.count (releases book.state 0 words)) (length (entries_in now))
       refl)
       ∙ sym (state_is well)
@@ -826,10 +827,10 @@ module _ (told : Bool) (site after : SiteSeen) (source source_after : SourceSeen
       let d = after_faults in omega arith
 
   -- the state behind the entries of the lanes
-  at_close : after_first book.start entries (length (entries_in now)) ≡ histories.after book.start (entries_in now)
+  at_close : after_first book.start entries (length (entries_in now)) ≡ histories.after_all book.start (entries_in now)
   at_close =
-      ap (λ (l : List Entry). histories.after book.start (take (length (entries_in now)) l)) entries_split
-      ∙ ap (histories.after book.start)
+      ap (λ (l : List Entry). histories.after_all book.start (take (length (entries_in now)) l)) entries_split
+      ∙ ap (histories.after_all book.start)
       (take_at (entries_in now) (take entries_added.count (releases book.state 0 words)) (length (entries_in now))
       refl)
 

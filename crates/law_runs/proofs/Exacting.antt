@@ -16,10 +16,10 @@ use Rattle.sdls_outside.specs.Faults.{Rose}
 use Rattle.counter_table.specs.Turn.{stands}
 use Rattle.key_book.specs.KeyBook.{place_of}
 use Rattle.unit_plan.specs.PlanLines.{PlanLines}
-use Rattle.unit_state.specs.History.{after, epoch_after}
+use Rattle.unit_state.specs.History.{after_all, epoch_after}
 use Rattle.run_promise.specs.Log.{entries_of}
 use Rattle.run_promise.specs.Numbers.{mark_of, mark_at}
-use Rattle.sdls_base.specs.Numbers.{times}
+use Rattle.sdls_base.specs.Numbers.{tally}
 use Rattle.counter_table.specs.Whole.{IsWhole, RowStands}
 use Rattle.record_io.specs.declared.answers.Answer.{Answer}
 use Rattle.std.proofs.Common.{◌≢◌}
@@ -194,13 +194,13 @@ module _ (begin : Begin) (first v mid w : View) (places more : List Place) (answ
   backed_mid : IsLevel mid → IsBacked begin mid b.spent
   backed_mid level = record {
     marks = λ key row number few there in'.
-        let t : times row number mid.numbers.spent ≡ times row number v.numbers.spent + times row number b.spent =
-        ap (times row number) b.between.spent_is ∙ times_both row number v.numbers.spent b.spent in
+        let t : tally row number mid.numbers.spent ≡ tally row number v.numbers.spent + tally row number b.spent =
+        ap (tally row number) b.between.spent_is ∙ times_both row number v.numbers.spent b.spent in
         let found =
         settles.marks key row number few
-        (subst (λ (es : List Entry). place_of (after begin.start es).keys key ≡ Some row) (sym puts.entries)
+        (subst (λ (es : List Entry). place_of (after_all begin.start es).keys key ≡ Some row) (sym puts.entries)
         there) (omega arith) in
-        subst (λ (es : List Entry). number < mark_of (after begin.start es) key) stood found;
+        subst (λ (es : List Entry). number < mark_of (after_all begin.start es) key) stood found;
     epoch = let low = settles.epoch in let counted = ap epoch_after stood in omega arith;
   } where
     stood : take entries (entries_in w) ≡ stood_in mid

@@ -9,7 +9,7 @@ use Rattle.record_io.specs.Places.{Place, records_of}
 use Rattle.unit_plan.specs.PlanLines.{PlanLines}
 use Rattle.unit_state.specs.declared.state.State.{State}
 use Rattle.unit_state.specs.State.{KeepsRules}
-use Rattle.unit_state.specs.History.{after, after_first}
+use Rattle.unit_state.specs.History.{after_all, after_first}
 use Rattle.run_promise.specs.Numbers.{mark_at}
 use Rattle.run_promise.specs.History.{IsLegalHistory, NearWord}
 use Rattle.run_promise.specs.Call.{Begin, CallSeen}
@@ -109,7 +109,7 @@ module _ (call other : CallSeen) (run : RunEnds call) (again : RunEnds other) (p
     (once : (begin : Begin) (rows : ℕ) (words : ℕ → ℕ) (before : List Noted) (history : List Entry)
     (deeds others : List Deed) (moves more : List Move)
     (own entries : List Entry) → AreReported before deeds → AreReported before others
-    → ((front rest : List Entry) → own ≡ front ++ rest → KeepsRules (after begin.start (history ++ front)))
+    → ((front rest : List Entry) → own ≡ front ++ rest → KeepsRules (after_all begin.start (history ++ front)))
     → SameTasks deeds others → AreServed deeds → AreServed others
     → ServesAll begin false history deeds moves own → ServesAll begin false history others more entries
     → Runs rows words moves → Runs rows words more

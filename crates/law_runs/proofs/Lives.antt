@@ -23,7 +23,7 @@ use Rattle.unit_state.specs.declared.state.State.{State}
 use Rattle.unit_state.specs.State.{KeepsRules, key_row}
 use Rattle.unit_state.specs.Applied.{applied}
 use Rattle.unit_state.specs.Restart.{restarted, counts}
-use Rattle.unit_state.specs.History.{after, after_first, at_epoch, epoch_after}
+use Rattle.unit_state.specs.History.{after_all, after_first, at_epoch, epoch_after}
 use Rattle.unit_state.proofs.Histories.{after_more, at_epoch_more}
 use Rattle.unit_state.proofs.StateLaws.{restarted_twice}
 use Rattle.unit_image.specs.Shows.{Shows}
@@ -166,7 +166,7 @@ loaded_later : (start : State) (entries : List Entry) (p q key : ℕ) (octets : 
     → IsLoadedWith (after_first start entries q) key octets
 loaded_later start entries p q key octets low h =
     let (rest, is) = front entries p q low in
-    subst (λ (es : List Entry). IsLoadedWith (after start es) key octets) (sym is)
+    subst (λ (es : List Entry). IsLoadedWith (after_all start es) key octets) (sym is)
     (subst (λ (s : State). IsLoadedWith s key octets) (sym (after_more start (take p entries) rest))
     (loaded_along (after_first start entries p) rest key octets h))
   where
@@ -417,7 +417,7 @@ module _ (once : ShowsOnce) (run : LifeRun) (is_run : IsRun run) where
           rest d.answer.position epoch in
           let size = length-take p entries in
           let inner : after_first start (take p entries) k ≡ after_first start entries k =
-          ap (after start) (take-take k p entries (omega arith)) in
+          ap (after_all start) (take-take k p entries (omega arith)) in
           (k, omega arith, here ∙ (same ∙ inner))
         where
           only : (d.answer.code ≡ PROTECTED) ⊎ ((d.answer.code ≡ DONE) × (d.answer.key ≢ 0))

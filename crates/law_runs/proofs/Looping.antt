@@ -22,7 +22,7 @@ use Rattle.sdls_base.specs.declared.entry.Entry.{Entry}
 use Rattle.sdls_base.specs.declared.entry.Logged.{Logged}
 use Rattle.sdls_base.specs.declared.entry.Logged.TheVariants as lines
 use Rattle.key_book.specs.KeyBook.{place_of}
-use Rattle.unit_state.specs.History.{after}
+use Rattle.unit_state.specs.History.{after_all}
 use Rattle.record_io.specs.Input.{Item, IsItem, LacksNext, beginning}
 use Rattle.record_io.specs.Places.{Place, Count, counted, first_count, places_at, places_from, places_of, records_of}
 use Rattle.record_io.specs.Reading.{SourceSeen, Standing, IsReading, Loses, ReadsMore, ReadsMonitor, ReadsLast}
@@ -570,7 +570,8 @@ module _ (start now : SourceSeen) (begin : Begin) (first v : View) (failed_befor
         let low = b.least in let high = b.most in
         record {
           row = b.row;
-          row_is = subst (λ (es : List Entry). place_of (after begin.start es).keys k ≡ Some b.row) (sym h.puts.entries)
+          row_is = subst (λ (es : List Entry). place_of (after_all begin.start es).keys k ≡ Some b.row)
+              (sym h.puts.entries)
               b.row_is;
           least = omega arith;
           most = omega arith;

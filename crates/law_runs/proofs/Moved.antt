@@ -9,7 +9,7 @@ use Rattle.record_io.specs.declared.records.Record.{Record}
 use Rattle.record_io.specs.Answers.{answer_octets}
 use Rattle.unit_plan.specs.PlanLines.{PlanLines}
 use Rattle.unit_state.specs.declared.state.State.{State}
-use Rattle.unit_state.specs.History.{after, after_first, epoch_after}
+use Rattle.unit_state.specs.History.{after_all, after_first, epoch_after}
 use Rattle.run_promise.specs.Fits.{Course}
 use Rattle.run_promise.specs.History.{IsLegal, IsRelease, LegalRun, NearWord, drawers, reserves_of}
 use Rattle.run_promise.specs.Log.{entries_of}
@@ -39,7 +39,8 @@ module _ (old new : Course) (begin_is : new.begin ≡ old.begin) (stored more : 
       ap (take h.entries) split ∙ take-append-le h.entries old.entries (entries_of rest) low in
       let state : after_first new.begin.start new.entries h.entries
       ≡ after_first old.begin.start old.entries h.entries =
-      ap (λ (b : Begin). after b.start (take h.entries new.entries)) begin_is ∙ ap (after old.begin.start) first in
+      ap (λ (b : Begin). after_all b.start (take h.entries new.entries)) begin_is
+      ∙ ap (after_all old.begin.start) first in
       record {
         lines = h.lines;
         within = omega arith;

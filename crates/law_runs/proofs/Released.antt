@@ -18,7 +18,7 @@ use Rattle.key_book.specs.declared.key_row.KeyRow.{KeyRow}
 use Rattle.key_book.specs.KeyBook.{place_of}
 use Rattle.unit_state.specs.declared.state.State.{State}
 use Rattle.unit_state.specs.State.{KeepsRules}
-use Rattle.unit_state.specs.History.{after, after_first}
+use Rattle.unit_state.specs.History.{after_all, after_first}
 use Rattle.run_promise.specs.Numbers.{release_of, is_released, released_floor}
 use Rattle.run_promise.specs.History.{AsksFor, IsLegal, IsRelease, NearWord, LegalRun, HasNoEntry, drawers, reserves_of}
 use Rattle.run_promise.specs.Answers.{Uses}
@@ -52,7 +52,7 @@ release_unrecorded state word held entry is = unrecorded state word held (is_rel
 
 pub state_same : (start : State) (es rest : List Entry) (p : ℕ) → p ≤ length es
     → after_first start (es ++ rest) p ≡ after_first start es p
-state_same start es rest p low = ap (after start) (take-append-le p es rest low)
+state_same start es rest p low = ap (after_all start) (take-append-le p es rest low)
 
 -- what is near stays near while the history grows
 pub near_more : (start : State) (es rest : List Entry) (records : List Record) (key n : ℕ)
@@ -81,13 +81,13 @@ none_some i o a b = let c : ◌≡◌ {A = Option ℕ} None (Some i) = sym a ∙
 module _ (begin : Begin) (first now : View) (records : List Record) (deeds : List Deed)
     (opened : IsJustOpened begin first)
     (d : Does begin first now records deeds) (whole : IsWhole begin.rows now) (rows : begin.rows ≡ MOST_KEYS)
-    (started : KeepsRules begin.start) (kept : KeepsRules (after begin.start (entries_in now)))
+    (started : KeepsRules begin.start) (kept : KeepsRules (after_all begin.start (entries_in now)))
     (words : ℕ → ℕ) (stand : (row : ℕ) → row < begin.rows → RowStands row (words row) now.numbers)
     (releases : List Entry) (are : AreReleases words begin.start (entries_in now) releases) where
   abbrev pub whole_entries : List Entry
   whole_entries = entries_in now ++ releases
 
-  pub word_near : (key row : ℕ) → place_of (after begin.start (entries_in now)).keys key ≡ Some row
+  pub word_near : (key row : ℕ) → place_of (after_all begin.start (entries_in now)).keys key ≡ Some row
       → NearWord begin.start whole_entries records key (words row)
   word_near key row is =
       let o = row_opened begin first now opened rows started kept key row is in
@@ -179,7 +179,7 @@ module _ (begin : Begin) (first now : View) (records : List Record) (deeds : Lis
       (released_floor (after_first begin.start whole_entries p) q.held) = sym change_is ∙ e.change_is in
       let keys : key ≡ q.held.id = (let c = change in cc) in
       let one : Some row ≡ Some q.row =
-      sym is ∙ (ap (λ (id : ℕ). place_of (after begin.start (entries_in now)).keys id) keys ∙ q.row_is) in
+      sym is ∙ (ap (λ (id : ℕ). place_of (after_all begin.start (entries_in now)).keys id) keys ∙ q.row_is) in
       let rows_are : row ≡ q.row = (let o = one in cc) in
       let seen : seens.Word word ≡ seens.Word (words q.row) = sym seen_is ∙ e.seen_is in
       let word_is : word ≡ words q.row = (let o = seen in cc) in
@@ -189,7 +189,7 @@ module _ (begin : Begin) (first now : View) (records : List Record) (deeds : Lis
 
   -- each number used is below the word of its key's row
   pub used_below : All (λ (deed : Deed). (key number row : ℕ) → Uses deed.answer key number
-      → place_of (after begin.start (entries_in now)).keys key ≡ Some row → number < words row) deeds
+      → place_of (after_all begin.start (entries_in now)).keys key ≡ Some row → number < words row) deeds
   used_below k x low key number row uses_it at =
       let (own, few, is, in') = d.answers.used k x low key number uses_it in
       let s = d.works.spent own number in

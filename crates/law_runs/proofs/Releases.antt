@@ -19,7 +19,7 @@ use Rattle.unit_state.specs.declared.state.State.{State}
 use Rattle.unit_state.specs.State.{KeepsRules, key_row}
 use Rattle.unit_state.proofs.Histories.{after_more}
 use Rattle.unit_state.specs.Applied.{applied}
-use Rattle.unit_state.specs.History.{after, after_first}
+use Rattle.unit_state.specs.History.{after_all, after_first}
 use Rattle.law_history.specs.Entries.{AreNear}
 use Rattle.run_promise.specs.Log.{entries_of, pieces_of}
 use Rattle.run_promise.specs.Numbers.{release_of, releases}
@@ -177,25 +177,26 @@ get_behind (x ∷ xs) ys k = let e : suc (length xs) + k ≡ suc (length xs + k)
 
 -- behind the entries of the lanes each is a release
 pub are_releases : (start : State) (entries : List Entry) (words : List ℕ) (of : ℕ → ℕ) (count : ℕ)
-    → KeepsRules (after start entries) → AreWords words of
-    → AreReleases of start entries (take count (releases (after start entries) 0 words))
+    → KeepsRules (after_all start entries) → AreWords words of
+    → AreReleases of start entries (take count (releases (after_all start entries) 0 words))
 are_releases start entries words of count rules are p entry high there =
-    let at : slice_get (take count (releases (after start entries) 0 words)) (p - length entries) ≡ Some entry =
+    let at : slice_get (take count (releases (after_all start entries) 0 words)) (p - length entries) ≡ Some entry =
     (let e : p ≡ length entries + (p - length entries) = omega arith in
-    sym (get_behind entries (take count (releases (after start entries) 0 words)) (p - length entries))
-    ∙ ap (slice_get (entries ++ take count (releases (after start entries) 0 words))) (sym e) ∙ there) in
-    let r = made_release (IsOfRow of (after start entries)) (after start entries) words
-    (take count (releases (after start entries) 0 words))
-    (drop count (releases (after start entries) 0 words)) rules are.some
-    (near_rows (after start entries) words of rules are)
-    (take-append-drop count (releases (after start entries) 0 words)) (p - length entries) entry at in
-    let state : after_first start (entries ++ take count (releases (after start entries) 0 words)) p
-    ≡ after_first (after start entries) (take count (releases (after start entries) 0 words)) (p - length entries) =
+    sym (get_behind entries (take count (releases (after_all start entries) 0 words)) (p - length entries))
+    ∙ ap (slice_get (entries ++ take count (releases (after_all start entries) 0 words))) (sym e) ∙ there) in
+    let r = made_release (IsOfRow of (after_all start entries)) (after_all start entries) words
+    (take count (releases (after_all start entries) 0 words))
+    (drop count (releases (after_all start entries) 0 words)) rules are.some
+    (near_rows (after_all start entries) words of rules are)
+    (take-append-drop count (releases (after_all start entries) 0 words)) (p - length entries) entry at in
+    let state : after_first start (entries ++ take count (releases (after_all start entries) 0 words)) p
+    ≡ after_first (after_all start entries) (take count (releases (after_all start entries) 0 words))
+    (p - length entries) =
     (let e : p ≡ length entries + (p - length entries) = omega arith in
-    ap (λ (n : ℕ). after start (take n (entries ++ take count (releases (after start entries) 0 words)))) e
-    ∙ ap (after start) (take-append-add entries (take count (releases (after start entries) 0 words))
+    ap (λ (n : ℕ). after_all start (take n (entries ++ take count (releases (after_all start entries) 0 words)))) e
+    ∙ ap (after_all start) (take-append-add entries (take count (releases (after_all start entries) 0 words))
     (p - length entries))
-    ∙ after_more start entries (take (p - length entries) (take count (releases (after start entries) 0 words)))) in
+    ∙ after_more start entries (take (p - length entries) (take count (releases (after_all start entries) 0 words)))) in
     let (row, place, word_is) = r.is_near in
     record {
       held = r.held;
@@ -204,7 +205,7 @@ are_releases start entries words of count rules are p entry high there =
       there = subst (λ (s : State). key_row s r.held.id ≡ Some r.held) (sym state) r.there;
       releases = subst (λ (s : State). release_of s (of row) r.held ≡ Some entry) (sym state)
           (subst (λ (w : ℕ).
-          release_of (after_first (after start entries) (take count (releases (after start entries) 0 words))
+          release_of (after_first (after_all start entries) (take count (releases (after_all start entries) 0 words))
           (p - length entries)) w r.held ≡ Some entry) word_is r.releases);
     }
 

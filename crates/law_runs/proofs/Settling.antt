@@ -3,13 +3,13 @@ use Rattle.std.proofs.Common.{◌≡◌, ℕ, suc, ◌+◌, ◌<◌, ◌≤◌, 
 use Rattle.std.proofs.Common.{subst, arith, le_trans, append_assoc, length-append}
 use Rattle.std.specs.List.{All, slice_index_or}
 use Rattle.std.proofs.lemmas.List.{take-append-le, take_all}
-use Rattle.sdls_base.specs.Numbers.{times}
+use Rattle.sdls_base.specs.Numbers.{tally}
 use Rattle.sdls_base.specs.declared.entry.Entry.{Entry}
 use Rattle.sdls_base.specs.declared.entry.Logged.{Logged}
 use Rattle.counter_table.specs.declared.view.View.{View}
 use Rattle.record_io.specs.declared.records.Record.{Record}
 use Rattle.record_io.specs.Answers.{answer_octets}
-use Rattle.unit_state.specs.History.{after, after_first, epoch_after}
+use Rattle.unit_state.specs.History.{after_all, after_first, epoch_after}
 use Rattle.run_promise.specs.Log.{entries_of, pieces_of}
 use Rattle.run_promise.specs.Answers.{Accepts}
 use Rattle.run_promise.specs.Numbers.{kept_floor}
@@ -56,7 +56,7 @@ module _ (begin : Begin) (v w : View) (grows : KnowsMore v w) (stored more : ℕ
       let first : take h.entries (entries_in w) ≡ take h.entries (entries_in v) =
       ap (take h.entries) es ∙ take-append-le h.entries (entries_in v) r s_low in
       let state : after_first begin.start (entries_in w) h.entries ≡ after_first begin.start (entries_in v) h.entries =
-      ap (after begin.start) first in
+      ap (after_all begin.start) first in
       record {
         lines = h.lines;
         within = omega arith;
@@ -108,8 +108,8 @@ module _ (begin : Begin) (u v z : View) (us : List Record) (es : List Deed) (d :
         let e = (st.epoch o).1 in let t = tells.epoch in omega arith;
     used = λ key number uses_it.
         let (row, few, is, in') = d.answers.used k x low key number uses_it in
-        let t : times row number v.numbers.spent ≡ times row number u.numbers.spent + times row number d.gains.spent =
-        ap (times row number) d.gained.spent ∙ times_both row number u.numbers.spent d.gains.spent in
+        let t : tally row number v.numbers.spent ≡ tally row number u.numbers.spent + tally row number d.gains.spent =
+        ap (tally row number) d.gained.spent ∙ times_both row number u.numbers.spent d.gains.spent in
         tells.marks key row number few (row_later begin u u v z (grows_itself u) grows key row is) (omega arith);
     accepted = floored k x low;
   }

@@ -10,7 +10,7 @@ use Rattle.unit_image.specs.OpeningImage.{IsOpenCause, ShowsUnlessFailed}
 use Rattle.unit_image.specs.Shows.{Shows}
 use Rattle.unit_state.specs.declared.state.State.{State}
 use Rattle.unit_state.specs.Restart.{restarted}
-use Rattle.unit_state.specs.History.{after}
+use Rattle.unit_state.specs.History.{after_all}
 use Rattle.unit_book.specs.Book.{BookView, IsKept}
 use Rattle.run_promise.specs.Call.{SiteSeen, CallSeen, image_at_entry}
 use Rattle.run_promise.specs.Log.{entries_of}
@@ -24,9 +24,9 @@ pub kept_stands : (told : Bool) (call : CallSeen) (account : Account) (start : S
     → last.opened.faults ≡ call.site.faults → last.image ≡ image_at_entry call → StandsAtExit call account start
 kept_stands told call account start last is_told kept site_is entries_are started faults_are read_is = record {
   stands = λ well.
-      subst (λ (site : SiteSeen). Shows site.trace.now.image (restarted (after start call.entries))) (sym site_is)
-      (subst (λ (state : State). Shows last.site.trace.now.image (restarted (after state call.entries))) started
-      (subst (λ (entries : List Entry). Shows last.site.trace.now.image (restarted (after last.start entries)))
+      subst (λ (site : SiteSeen). Shows site.trace.now.image (restarted (after_all start call.entries))) (sym site_is)
+      (subst (λ (state : State). Shows last.site.trace.now.image (restarted (after_all state call.entries))) started
+      (subst (λ (entries : List Entry). Shows last.site.trace.now.image (restarted (after_all last.start entries)))
       (sym entries_are)
       (kept.current is_told (unrisen well)).shows));
   rests = λ well. inr (

@@ -5,7 +5,7 @@ use Rattle.key_book.specs.declared.key_row.KeyRow.{KeyRow}
 use Rattle.key_book.specs.KeyBook.{place_of}
 use Rattle.unit_state.specs.declared.state.State.{State}
 use Rattle.unit_state.specs.State.{key_row}
-use Rattle.unit_state.specs.History.{after, after_first}
+use Rattle.unit_state.specs.History.{after_all, after_first}
 use Rattle.run_promise.specs.Numbers.{release_of}
 
 -- The entry releases a key in the state before it, by the word of the key's row, which it had at the end of the lanes.
@@ -20,4 +20,4 @@ pub record ReleasesKey (words : ℕ → ℕ) (at_end state : State) (entry : Ent
 abbrev pub AreReleases : (ℕ → ℕ) → State → List Entry → List Entry → Type 0
 AreReleases words start entries releases = (p : ℕ) (entry : Entry) → length entries ≤ p
     → slice_get (entries ++ releases) p ≡ Some entry
-    → ReleasesKey words (after start entries) (after_first start (entries ++ releases) p) entry
+    → ReleasesKey words (after_all start entries) (after_first start (entries ++ releases) p) entry

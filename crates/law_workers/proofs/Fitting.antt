@@ -12,7 +12,7 @@ use Rattle.record_io.specs.declared.answers.Answer.{Answer}
 use Rattle.record_io.specs.declared.kinds.RecordKind.{RecordKind}
 use Rattle.record_io.specs.declared.kinds.RecordKind.TheVariants.{Protect, Open, Command, Monitor}
 use Rattle.unit_state.specs.declared.state.State.{State}
-use Rattle.unit_state.specs.History.{after, after_first, at_epoch, epoch_after}
+use Rattle.unit_state.specs.History.{after_all, after_first, at_epoch, epoch_after}
 use Rattle.unit_state.proofs.Histories.{at_epoch_more, epochs_more}
 use Rattle.run_promise.specs.Call.{Begin}
 use Rattle.run_promise.specs.History.{frame_entry, SeenNear}
@@ -37,7 +37,7 @@ module _ (near far : ℕ → ℕ → Type 0) (more : (k n : ℕ) → near k n �
     new = record { begin = begin; faults_before = before; faults = g; entries = es ++ rest }
 
     first_kept : (p : ℕ) → p ≤ length es → after_first begin.start (es ++ rest) p ≡ after_first begin.start es p
-    first_kept p h = ap (after begin.start) (take-append-le p es rest h)
+    first_kept p h = ap (after_all begin.start) (take-append-le p es rest h)
 
     epochs_kept : (e : ℕ) → e ≤ epoch_after es → at_epoch begin.start (es ++ rest) e ≡ at_epoch begin.start es e
     epochs_kept e h = at_epoch_more begin.start es rest e h

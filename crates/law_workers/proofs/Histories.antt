@@ -9,7 +9,7 @@ use Rattle.key_book.specs.KeyBook.{place_of}
 use Rattle.counter_table.specs.Known.{entries}
 use Rattle.unit_state.specs.declared.state.State.{State}
 use Rattle.unit_state.specs.Applied.{applied}
-use Rattle.unit_state.specs.History.{after, after_first, epoch_after}
+use Rattle.unit_state.specs.History.{after_all, after_first, epoch_after}
 use Rattle.unit_state.proofs.StateLaws.{places_kept}
 use Rattle.run_promise.specs.Log.{entries_of}
 
@@ -30,12 +30,12 @@ get_front (x ∷ xs) ys (suc k) h = get_front xs ys k (omega arith)
 
 -- a key keeps its row
 pub row_kept : (s : State) (es : List Entry) (key row : ℕ) → place_of s.keys key ≡ Some row
-    → place_of (after s es).keys key ≡ Some row
+    → place_of (after_all s es).keys key ≡ Some row
 row_kept s [] key row h = h
 row_kept s (e ∷ es) key row h = row_kept (applied s e.change) es key row (places_kept s e.change key row h)
 
 pub row_kept_first : (s : State) (es : List Entry) (p key row : ℕ) → place_of (after_first s es p).keys key ≡ Some row
-    → place_of (after s es).keys key ≡ Some row
+    → place_of (after_all s es).keys key ≡ Some row
 row_kept_first s [] zero key row h = h
 row_kept_first s [] (suc p) key row h = h
 row_kept_first s (e ∷ es) zero key row h = row_kept s (e ∷ es) key row h

@@ -5,7 +5,7 @@ use Rattle.std.proofs.Common.{if◌then◌else◌, ◌||◌, max, IsTrue, ◌&&�
 use Rattle.std.specs.List.{slice_index_or}
 use Rattle.std.proofs.lemmas.Bool.{cases_lt}
 use Rattle.std.proofs.lemmas.List.{take-append-le, take_all}
-use Rattle.sdls_base.specs.Numbers.{times}
+use Rattle.sdls_base.specs.Numbers.{tally}
 use Rattle.sdls_base.specs.declared.entry.Logged.{Logged}
 use Rattle.counter_table.specs.declared.view.Opening.{Opening}
 use Rattle.counter_table.specs.declared.view.Known.{Known}
@@ -283,7 +283,7 @@ module _ (begin : Begin) (u v w : View) (ts us : List Record) (ds es : List Deed
   apart_pairs d e k n p q x y =
       let (r, few, is, in') = p k n x in let (r', few', is', in'') = q k n y in
       let same : r ≡ r' = same_row begin w k r r' (row_later begin u u v w (grows_itself u) b.grows k r is) is' in
-      let i : 0 < times r n b.gains.spent = subst (λ (s : ℕ). 0 < times s n b.gains.spent) (sym same) in'' in
+      let i : 0 < tally r n b.gains.spent = subst (λ (s : ℕ). 0 < tally s n b.gains.spent) (sym same) in'' in
       let s1 = a.works.spent r n in let s2 = b.works.spent r n in
       let low = (a.works.drawn r n (omega arith)).1 in let high = (b.works.drawn r n (omega arith)).0 in omega arith
 
@@ -402,15 +402,15 @@ module _ (begin : Begin) (u v w : View) (ts us : List Record) (ds es : List Deed
       b.answers
 
   -- a number that was spent in both was drawn in both
-  not_both : (k n : ℕ) → ((row : ℕ) × (row < begin.rows) × IsRow begin z k row × (0 < times row n a.gains.spent))
-      → ((row : ℕ) × (row < begin.rows) × IsRow begin z k row × (0 < times row n b.gains.spent)) → ⊥
+  not_both : (k n : ℕ) → ((row : ℕ) × (row < begin.rows) × IsRow begin z k row × (0 < tally row n a.gains.spent))
+      → ((row : ℕ) × (row < begin.rows) × IsRow begin z k row × (0 < tally row n b.gains.spent)) → ⊥
   not_both k n (r, few, is, p) (r', few', is', q) =
       let same : r ≡ r' = same_row begin z k r r' is is' in
-      let q' : 0 < times r n b.gains.spent = subst (λ (s : ℕ). 0 < times s n b.gains.spent) (sym same) q in
+      let q' : 0 < tally r n b.gains.spent = subst (λ (s : ℕ). 0 < tally s n b.gains.spent) (sym same) q in
       let s1 = a.works.spent r n in let s2 = b.works.spent r n in
-      let t1 : times r n v.numbers.drawn ≡ times r n u.numbers.drawn + times r n a.gains.drawn =
-      ap (times r n) a.gained.drawn ∙ times_both r n u.numbers.drawn a.gains.drawn in
-      let t2 : times r n w.numbers.drawn ≡ times r n b.gains.drawn = ap (times r n) b.gained.drawn in
+      let t1 : tally r n v.numbers.drawn ≡ tally r n u.numbers.drawn + tally r n a.gains.drawn =
+      ap (tally r n) a.gained.drawn ∙ times_both r n u.numbers.drawn a.gains.drawn in
+      let t2 : tally r n w.numbers.drawn ≡ tally r n b.gains.drawn = ap (tally r n) b.gained.drawn in
       let m = meet.drawn r n few in omega arith
 
   not_failed : MadeLast z a.gains → MadeLast z b.gains → ⊥

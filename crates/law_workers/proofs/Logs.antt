@@ -6,7 +6,7 @@ use Rattle.std.specs.List.{slice_get, Contains}
 use Rattle.std.proofs.lemmas.List.{take-append-le}
 use Rattle.std.proofs.lemmas.Bool.{cases_lt, cases_eq}
 use Rattle.std.proofs.lemmas.Bool.Decides.{nat_tests}
-use Rattle.sdls_base.specs.Numbers.{times}
+use Rattle.sdls_base.specs.Numbers.{tally}
 use Rattle.sdls_base.specs.declared.entry.Entry.{Entry}
 use Rattle.sdls_base.specs.declared.entry.Logged.{Logged}
 use Rattle.sdls_base.specs.declared.entry.Logged.TheVariants as lines
@@ -18,7 +18,7 @@ use Rattle.record_io.specs.declared.kinds.RecordKind.{RecordKind}
 use Rattle.record_io.specs.declared.kinds.RecordKind.TheVariants.{Protect, Open, Command, Monitor}
 use Rattle.unit_plan.specs.PlanLines.{PlanLines}
 use Rattle.unit_state.specs.declared.state.State.{State}
-use Rattle.unit_state.specs.History.{after, epoch_after}
+use Rattle.unit_state.specs.History.{after_all, epoch_after}
 use Rattle.run_promise.specs.Log.{entries_of}
 use Rattle.run_promise.specs.History.{IsLegal, drawers}
 use Rattle.law_history.specs.Entries.{IsLegalAt}
@@ -42,7 +42,7 @@ pub stands_both : (x : ℕ) (a b : List ℕ) → stands x (a ++ b) ≡ stands x 
 stands_both x [] b = omega arith
 stands_both x (y ∷ a) b = let h = stands_both x a b in omega arith
 
-pub times_both : (row x : ℕ) (a b : List (ℕ × ℕ)) → times row x (a ++ b) ≡ times row x a + times row x b
+pub times_both : (row x : ℕ) (a b : List (ℕ × ℕ)) → tally row x (a ++ b) ≡ tally row x a + tally row x b
 times_both row x [] b = omega arith
 times_both row x (p ∷ a) b = let h = times_both row x a b in omega arith
 
@@ -159,7 +159,7 @@ module _ (near far : ℕ → ℕ → Type 0) (more : (k n : ℕ) → near k n �
   legal_more log rest place low h e there =
       let low' : place ≤ length log = omega arith in
       rw (take-append-le place log rest low')
-      (legal_wider (after start (entries_of (take place log))) e (h e (sym (get_front log rest place low) ∙ there)))
+      (legal_wider (after_all start (entries_of (take place log))) e (h e (sym (get_front log rest place low) ∙ there)))
 
 -- the epoch that an ordered answer tells stays
 pub told_kept : (kind : RecordKind) (c h : Bool) (p : ℕ) (es rest : List Entry)

@@ -16,7 +16,7 @@ use Rattle.record_io.specs.declared.kinds.RecordKind.TheVariants.{Protect, Open,
 use Rattle.record_io.specs.declared.records.Record.{Record}
 use Rattle.unit_state.specs.declared.state.State.{State}
 use Rattle.unit_state.specs.Applied.{applied}
-use Rattle.unit_state.specs.History.{after, after_first}
+use Rattle.unit_state.specs.History.{after_all, after_first}
 use Rattle.counter_table.specs.declared.view.View.{View}
 use Rattle.counter_table.specs.Numbers.{amount, top}
 use Rattle.counter_table.specs.Turn.{stands}
@@ -34,7 +34,7 @@ use Rattle.run_promise.specs.Words.{word_after, Runs, Shown, TellsSeen, TellsPro
 use Rattle.run_promise.specs.Words.{TellAll}
 use Rattle.law_workers.specs.Exact.{words_in, IsOfMoves, Exact}
 
-after_both : (state : State) (es more : List Entry) → after state (es ++ more) ≡ after (after state es) more
+after_both : (state : State) (es more : List Entry) → after_all state (es ++ more) ≡ after_all (after_all state es) more
 after_both state [] more = refl
 after_both state (e ∷ es) more = after_both (applied state e.change) es more
 
@@ -86,13 +86,13 @@ tell-append start entries (d ∷ ds) es [] b h k = absurd h
 tell-append start entries (d ∷ ds) es (m ∷ a) b h k = (h.0, tell-append start entries ds es a b h.1 k)
 
 module _ (start : State) (es rest : List Entry) where
-  row_on : (key row : ℕ) → place_of (after start es).keys key ≡ Some row
-      → place_of (after start (es ++ rest)).keys key ≡ Some row
+  row_on : (key row : ℕ) → place_of (after_all start es).keys key ≡ Some row
+      → place_of (after_all start (es ++ rest)).keys key ≡ Some row
   row_on key row h = ap (λ (s : State). place_of s.keys key) (after_both start es rest)
-      ∙ row_kept (after start es) rest key row h
+      ∙ row_kept (after_all start es) rest key row h
 
   state_on : (p : ℕ) → p ≤ length es → after_first start (es ++ rest) p ≡ after_first start es p
-  state_on p low = ap (after start) (take-append-le p es rest low)
+  state_on p low = ap (after_all start) (take-append-le p es rest low)
 
   shown_on : (state : State) (task : Record) (need : ℕ → Need) (of : ℕ → Move) (move : Move)
       → Shown start es state task need of move

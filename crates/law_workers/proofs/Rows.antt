@@ -17,7 +17,7 @@ use Rattle.key_book.specs.KeyBook.{AreKeyRows, place_of, row_of}
 use Rattle.key_book.proofs.Rows.{same_number, other_identifier}
 use Rattle.unit_state.specs.declared.state.State.{State}
 use Rattle.unit_state.specs.State.{KeepsRules}
-use Rattle.unit_state.specs.History.{after}
+use Rattle.unit_state.specs.History.{after_all}
 use Rattle.run_promise.specs.Numbers.{mark_of, mark_at}
 use Rattle.law_workers.proofs.Histories.{row_kept}
 
@@ -100,7 +100,7 @@ mark_placed state key row place =
 -- key has
 -- the row, and its mark is 1.
 pub mark_known : (start : State) (entries : List Entry) (key row : ℕ) → KeepsRules start
-    → place_of (after start entries).keys key ≡ Some row
+    → place_of (after_all start entries).keys key ≡ Some row
     → mark_at start row ≡ mark_of start key
 mark_known start entries key row rules place = elim (cases_lt row (length start.keys)) [
   | inl low ↦
@@ -124,7 +124,7 @@ mark_known start entries key row rules place = elim (cases_lt row (length start.
         mark = 0;
         floor = 0;
       })).id ≡ key =
-      row_one (after start entries).keys _ key row (row_kept start entries _ row own) place in
+      row_one (after_all start entries).keys _ key row (row_kept start entries _ row own) place in
       mark_placed start key row (subst (λ (id : ℕ). place_of start.keys id ≡ Some row) same own)
   | inr high ↦
       let here : mark_at start row ≡ 1 =

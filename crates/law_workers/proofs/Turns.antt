@@ -4,14 +4,14 @@ use Rattle.std.proofs.Common.{length, take, refl, sym, ◌∙◌, ap, subst, inl
 use Rattle.std.proofs.Common.{length-append}
 use Rattle.std.proofs.lemmas.Bool.{cases_lt}
 use Rattle.std.proofs.lemmas.List.{take_all}
-use Rattle.sdls_base.specs.Numbers.{times}
+use Rattle.sdls_base.specs.Numbers.{tally}
 use Rattle.sdls_base.specs.declared.entry.Entry.{Entry}
 use Rattle.counter_table.specs.declared.view.Opening.{Opening}
 use Rattle.counter_table.specs.declared.view.View.{View}
 use Rattle.sdls_outside.specs.Faults.{Rose}
 use Rattle.counter_table.specs.Known.{Earlier}
 use Rattle.counter_table.specs.Turn.{epoch_seen, stands}
-use Rattle.unit_state.specs.History.{after, epoch_after}
+use Rattle.unit_state.specs.History.{after_all, epoch_after}
 use Rattle.unit_state.proofs.Histories.{after_more}
 use Rattle.run_promise.specs.Call.{Begin}
 use Rattle.run_promise.specs.Numbers.{mark_of}
@@ -108,7 +108,7 @@ pub row_on : (begin : Begin) (v w : View) → KnowsMore v w → (key row : ℕ) 
     → IsRow begin w key row
 row_on begin v w grows key row h =
     let (rest, is) = grown_entries v w grows in
-    rw (is, after_more begin.start (entries_in v) rest) (row_kept (after begin.start (entries_in v)) rest key row h)
+    rw (is, after_more begin.start (entries_in v) rest) (row_kept (after_all begin.start (entries_in v)) rest key row h)
 
 -- of the places behind a log, those before a later one were made by who made those before it
 pub made_first : (u v w : View) (m n : List ℕ) → KnowsMore v w
@@ -181,7 +181,7 @@ pub backed_on : (begin : Begin) (v w : View) (numbers : List (ℕ × ℕ))
     → IsBacked begin v numbers
 backed_on begin v w numbers rows same epochs h = record {
   marks = λ key row number low is in'.
-      subst (λ (l : List Entry). number < mark_of (after begin.start l) key) same
+      subst (λ (l : List Entry). number < mark_of (after_all begin.start l) key) same
       (h.marks key row number low (rows key row is) in');
   epoch = let counted = ap epoch_after same in let low = h.epoch in omega arith;
 }
@@ -243,12 +243,12 @@ in_turn_then begin u v w m n s t ds es a b last low high below x y = record {
   in_both : AreOf u.numbers.spent v.numbers.spent
   in_both row number h =
       let b = times_both row number u.numbers.spent s in
-      subst (λ (l : List (ℕ × ℕ)). 0 < times row number l) (sym x.between.spent_is) (omega arith)
+      subst (λ (l : List (ℕ × ℕ)). 0 < tally row number l) (sym x.between.spent_is) (omega arith)
 
   in_rest : AreOf s v.numbers.spent
   in_rest row number h =
       let b = times_both row number u.numbers.spent s in
-      subst (λ (l : List (ℕ × ℕ)). 0 < times row number l) (sym x.between.spent_is) (omega arith)
+      subst (λ (l : List (ℕ × ℕ)). 0 < tally row number l) (sym x.between.spent_is) (omega arith)
 
 -- nothing was done
 pub in_turn_nothing : (begin : Begin) (v : View) → ServedInTurn begin v v [] [] [] [] []

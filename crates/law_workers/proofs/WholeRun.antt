@@ -17,7 +17,7 @@ use Rattle.record_io.specs.declared.records.Record.{Record}
 use Rattle.record_io.specs.declared.code.TheConstants.{SITE_FAULT}
 use Rattle.sdls_base.specs.declared.states.KeyState.TheVariants.{PreActive}
 use Rattle.unit_state.specs.State.{KeepsRules}
-use Rattle.unit_state.specs.History.{after, after_first}
+use Rattle.unit_state.specs.History.{after_all, after_first}
 use Rattle.run_promise.specs.Log.{entries_of}
 use Rattle.run_promise.specs.Numbers.{mark_of, mark_at}
 use Rattle.run_promise.specs.History.{AsksFor, IsLegal, IsAskedFor, NearWord, HasNoEntry}
@@ -81,17 +81,17 @@ pub rules_at_end : (begin : Begin) (first now : View) (places : List Place) (dee
     → IsJustOpened begin first
     → Does begin first now (records_of places) deeds → IsWhole begin.rows now → IsPlan begin.plan
     → KeepsRules begin.start
-    → KeepsRules (after begin.start (entries_in now))
+    → KeepsRules (after_all begin.start (entries_in now))
 rules_at_end begin first now places deeds opened d whole plan_is rules =
     let all : take (length (entries_in now)) (entries_in now) ≡ entries_in now =
     take_all (length (entries_in now)) (entries_in now) (omega arith) in
-    subst (λ (es : List Entry). KeepsRules (after begin.start es)) all
+    subst (λ (es : List Entry). KeepsRules (after_all begin.start es)) all
     (along_to KeepsRules begin.start (entries_in now) zero (length (entries_in now)) (omega arith) (omega arith) rules
     (λ k entry least below there kept.
     let (place, low, at, same) = place_of_entry (log_of now) k entry there in
     let legal : IsLegal (IsBetween begin first now) begin.plan (after_first begin.start (entries_in now) k)
     (records_of places) entry =
-    subst (λ (es : List Entry). IsLegal (IsBetween begin first now) begin.plan (after begin.start es)
+    subst (λ (es : List Entry). IsLegal (IsBetween begin first now) begin.plan (after_all begin.start es)
     (records_of places) entry) same
     (d.works.legal place (made_since begin first now (records_of places) deeds opened d whole place low) entry at) in
     rules_kept (after_first begin.start (entries_in now) k) entry.change kept
@@ -106,10 +106,11 @@ pub record RowOpened (begin : Begin) (v : View) (key row : ℕ) : Type 0 where
 
 pub row_opened : (begin : Begin) (v w : View) (opened : IsJustOpened begin v) → begin.rows ≡ MOST_KEYS
     → KeepsRules begin.start
-    → KeepsRules (after begin.start (entries_in w)) → (key row : ℕ) → IsRow begin w key row → RowOpened begin v key row
+    → KeepsRules (after_all begin.start (entries_in w)) → (key row : ℕ) → IsRow begin w key row
+    → RowOpened begin v key row
 row_opened begin v w opened rows started kept key row is =
     let low =
-    (row_named (after begin.start (entries_in w)).keys key row
+    (row_named (after_all begin.start (entries_in w)).keys key row
     (record { id = 0; state = PreActive; bytes = []; digest = []; mark = 0; floor = 0 }) is).0 in
     let most = kept.keys.most in
     let same : mark_at begin.start row ≡ mark_of begin.start key =
@@ -125,7 +126,7 @@ row_opened begin v w opened rows started kept key row is =
 module _ (begin : Begin) (v w : View) (tasks : List Record) (deeds : List Deed) (opened : IsJustOpened begin v)
     (d : Does begin v w tasks deeds)
     (whole : IsWhole begin.rows w) (rows : begin.rows ≡ MOST_KEYS) (started : KeepsRules begin.start)
-    (kept : KeepsRules (after begin.start (entries_in w))) where
+    (kept : KeepsRules (after_all begin.start (entries_in w))) where
   at_row : (key row : ℕ) → IsRow begin w key row → RowOpened begin v key row
   at_row = row_opened begin v w opened rows started kept
 
@@ -162,7 +163,7 @@ module _ (begin : Begin) (v w : View) (tasks : List Record) (deeds : List Deed) 
       asked_for : IsAsked begin (entries_in w) tasks h.row (top h.row d.gains.raised)
           → IsAskedFor begin.start (entries_in w) tasks k (top h.row d.gains.raised)
       asked_for z =
-          let same : z.key ≡ k = row_one (after begin.start (entries_in w)).keys z.key k h.row
+          let same : z.key ≡ k = row_one (after_all begin.start (entries_in w)).keys z.key k h.row
           (row_kept_first begin.start (entries_in w) z.p z.key h.row z.row_is) h.row_is in
           record {
             p = z.p;
@@ -181,7 +182,7 @@ module _ (begin : Begin) (v w : View) (tasks : List Record) (deeds : List Deed) 
         let (place, low, at, same) = place_of_entry (log_of w) p e there in
         legal_wider (IsBetween begin v w) (NearWord begin.start (entries_in w) tasks) near begin.plan begin.start tasks
         tasks (λ t c. c) (after_first begin.start (entries_in w) p) e
-        (subst (λ (es : List Entry). IsLegal (IsBetween begin v w) begin.plan (after begin.start es) tasks e) same
+        (subst (λ (es : List Entry). IsLegal (IsBetween begin v w) begin.plan (after_all begin.start es) tasks e) same
         (d.works.legal place (made_since begin v w tasks deeds opened d whole place low) e at));
     once = λ p q a b i lt at_p at_q is_a is_b.
         let (x, low_x, here_x, same_x) = place_of_entry (log_of w) p a at_p in

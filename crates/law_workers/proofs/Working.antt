@@ -4,7 +4,7 @@ use Rattle.std.proofs.Common.{inl, inr, ⊎_elim, arith, le_trans, length-append
 use Rattle.std.specs.List.{Contains, All, slice_index_or}
 use Rattle.std.proofs.lemmas.List.{take-append-le}
 use Rattle.std.proofs.lemmas.List.Elements.{All-append, All-contains, Contains-append_left, Contains-append_right}
-use Rattle.sdls_base.specs.Numbers.{times}
+use Rattle.sdls_base.specs.Numbers.{tally}
 use Rattle.sdls_outside.specs.Faults.{Rose}
 use Rattle.sdls_base.specs.declared.entry.Entry.{Entry}
 use Rattle.sdls_base.specs.declared.entry.Logged.{Logged}
@@ -14,7 +14,7 @@ use Rattle.counter_table.specs.Turn.{stands}
 use Rattle.record_io.specs.declared.records.Record.{Record}
 use Rattle.record_io.specs.declared.answers.Answer.{Answer}
 use Rattle.record_io.specs.declared.code.TheConstants.{SITE_FAULT}
-use Rattle.unit_state.specs.History.{after, after_first, epoch_after}
+use Rattle.unit_state.specs.History.{after_all, after_first, epoch_after}
 use Rattle.unit_state.proofs.Histories.{after_more}
 use Rattle.run_promise.specs.Log.{entries_of}
 use Rattle.law_history.specs.Entries.{IsLegalAt}
@@ -46,7 +46,7 @@ module _ (begin : Begin) (u v w z : View) (low : KnowsMore u v) (high : KnowsMor
 
   pub row_later : (key row : ℕ) → IsRow begin w key row → IsRow begin z key row
   row_later key row h = rw (grown, after_more begin.start (entries_in w) (grown_entries w z high).0)
-      (row_kept (after begin.start (entries_in w)) (grown_entries w z high).0 key row h)
+      (row_kept (after_all begin.start (entries_in w)) (grown_entries w z high).0 key row h)
 
   between : (k n : ℕ) → IsBetween begin v w k n → IsBetween begin u z k n
   between k n h = record {
@@ -164,7 +164,7 @@ module _ (begin : Begin) (u v w z : View) (low : KnowsMore u v) (high : KnowsMor
       let n : length (entries_in z) ≡ length (entries_in w) + length r =
       ap length grown ∙ length-append (entries_in w) r in
       let same : after_first begin.start (entries_in z) h.p ≡ after_first begin.start (entries_in w) h.p =
-      ap (λ (es : List Entry). after_first begin.start es h.p) grown ∙ ap (after begin.start)
+      ap (λ (es : List Entry). after_first begin.start es h.p) grown ∙ ap (after_all begin.start)
       (take-append-le h.p (entries_in w) r h.within) in
       record {
         p = h.p;
@@ -351,7 +351,7 @@ module _ (begin : Begin) (u z : View) where
         few_drawn = λ r. let p = a.few_drawn r in let q = b.few_drawn r in let c = count_of_both r g.drawn h.drawn in
             let d = drawers_both ts us in omega arith;
         drawn = λ r n in'. let t = times_both r n g.drawn h.drawn in
-            ⊎_elim (a.drawn r n) (b.drawn r n) (either (times r n g.drawn) (times r n h.drawn) (omega arith));
+            ⊎_elim (a.drawn r n) (b.drawn r n) (either (tally r n g.drawn) (tally r n h.drawn) (omega arith));
         spent = λ r n. let p = a.spent r n in let q = b.spent r n in let c = times_both r n g.spent h.spent in
             let d = times_both r n g.drawn h.drawn in omega arith;
         raised = All-append (Raised (ts ++ us)) g.raised h.raised

@@ -1,7 +1,7 @@
 -- What a worker did, with the answers that it gave (profile).
 use Rattle.std.specs.Prelude.{◌≡◌, ◌≢◌, ℕ, ◌+◌, ◌-◌, ◌<◌, ◌≤◌, IsTrue, List, [], ◌∷◌, length, take}
 use Rattle.std.specs.List.{All, AllPairs}
-use Rattle.sdls_base.specs.Numbers.{times}
+use Rattle.sdls_base.specs.Numbers.{tally}
 use Rattle.sdls_base.specs.declared.entry.Entry.{Entry}
 use Rattle.sdls_base.specs.declared.entry.Logged.{Logged}
 use Rattle.record_io.specs.declared.records.Record.{Record}
@@ -78,7 +78,7 @@ pub record MadeLast (new : View) (gains : Gains) : Type 0 where
 -- each number that the answer uses was spent here, under the row of its key
 abbrev pub IsSpent : Begin → View → Gains → Deed → Type 0
 IsSpent begin new gains deed = (key number : ℕ) → Uses deed.answer key number
-    → (row : ℕ) × (row < begin.rows) × IsRow begin new key row × (0 < times row number gains.spent)
+    → (row : ℕ) × (row < begin.rows) × IsRow begin new key row × (0 < tally row number gains.spent)
 
 -- The answers that were given on the way from the old view to the new one. Each fact stays true while the views grow
 -- apart, and none looks at the order of the answers.

@@ -1,11 +1,11 @@
 -- One lane alone, between two views of its worker: the records were served one after the other (profile).
 use Rattle.std.specs.Prelude.{◌≡◌, ◌⊎◌, ℕ, ◌+◌, ◌<◌, ◌≤◌, Bool, IsTrue, List, [], ◌++◌, length, take}
-use Rattle.sdls_base.specs.Numbers.{times}
+use Rattle.sdls_base.specs.Numbers.{tally}
 use Rattle.sdls_base.specs.declared.entry.Entry.{Entry}
 use Rattle.counter_table.specs.declared.view.View.{View}
 use Rattle.sdls_outside.specs.Faults.{Rose}
 use Rattle.counter_table.specs.Turn.{stands, epoch_seen}
-use Rattle.unit_state.specs.History.{after, epoch_after}
+use Rattle.unit_state.specs.History.{after_all, epoch_after}
 use Rattle.run_promise.specs.Numbers.{mark_of}
 use Rattle.run_promise.specs.Call.{Begin}
 use Rattle.law_workers.specs.Views.{IsRow, log_of, entries_in}
@@ -39,12 +39,12 @@ pub record IsLevel (view : View) : Type 0 where
 
 -- the number is below the mark of its key, in the state that the view knows
 abbrev pub IsMarked : Begin → View → ℕ → ℕ → Type 0
-IsMarked begin view key number = number < mark_of (after begin.start (stood_in view)) key
+IsMarked begin view key number = number < mark_of (after_all begin.start (stood_in view)) key
 
 -- so is each of these numbers, by the row of its key
 abbrev pub AreMarked : Begin → View → List (ℕ × ℕ) → Type 0
 AreMarked begin view numbers =
-    (key row number : ℕ) → row < begin.rows → IsRow begin view key row → 0 < times row number numbers
+    (key row number : ℕ) → row < begin.rows → IsRow begin view key row → 0 < tally row number numbers
     → IsMarked begin view key number
 
 -- Each of these numbers is known to be below its mark, and the epoch that was seen is no greater than that of the
@@ -55,7 +55,7 @@ pub record IsBacked (begin : Begin) (view : View) (numbers : List (ℕ × ℕ)) 
 
 -- the numbers are among these
 abbrev pub AreOf : List (ℕ × ℕ) → List (ℕ × ℕ) → Type 0
-AreOf numbers all = (row number : ℕ) → 0 < times row number numbers → 0 < times row number all
+AreOf numbers all = (row number : ℕ) → 0 < tally row number numbers → 0 < tally row number all
 
 -- what a record without an answer left behind the entries of those before it: an entry at most, behind which none was
 -- left out, and none where each record has its answer

@@ -1,6 +1,6 @@
 -- What a worker knows of the book at the first put behind a segment (profile).
 use Rattle.std.specs.Prelude.{◌≡◌, ℕ, ◌<◌, ◌≤◌, length, take}
-use Rattle.sdls_base.specs.Numbers.{times}
+use Rattle.sdls_base.specs.Numbers.{tally}
 use Rattle.counter_table.specs.declared.view.View.{View}
 use Rattle.sdls_outside.specs.Faults.{Rose}
 use Rattle.counter_table.specs.Turn.{epoch_seen}
@@ -19,7 +19,7 @@ pub record SettlesAt (begin : Begin) (old new : View) (stored entries lines : �
   pub low : entries ≤ length (entries_of (take lines (log_of new)))
   pub is_stored : entries ≤ stored
   pub epoch : epoch_seen old.turn ≤ epoch_after (take entries (entries_in new))
-  pub marks : (key row number : ℕ) → row < begin.rows → IsRow begin new key row → 0 < times row number old.numbers.spent
+  pub marks : (key row number : ℕ) → row < begin.rows → IsRow begin new key row → 0 < tally row number old.numbers.spent
       → number < mark_of (after_first begin.start (entries_in new) entries) key
   pub standing : old.turn.known.standing ≤ entries
   pub stopped : Rose old.turn.known.opening.faults old.turn.known.faults → entries ≡ old.turn.known.standing

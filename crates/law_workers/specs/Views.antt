@@ -1,10 +1,10 @@
 -- What lies between two views of a worker (profile).
 use Rattle.std.specs.Prelude.{◌≡◌, ℕ, ◌+◌, ◌<◌, ◌≤◌, List, [], ◌++◌, Some}
-use Rattle.sdls_base.specs.Numbers.{times}
+use Rattle.sdls_base.specs.Numbers.{tally}
 use Rattle.sdls_base.specs.declared.entry.Entry.{Entry}
 use Rattle.sdls_base.specs.declared.entry.Logged.{Logged}
 use Rattle.key_book.specs.KeyBook.{place_of}
-use Rattle.unit_state.specs.History.{after}
+use Rattle.unit_state.specs.History.{after_all}
 use Rattle.counter_table.specs.declared.view.View.{View}
 use Rattle.counter_table.specs.Known.{Earlier}
 use Rattle.counter_table.specs.Numbers.{top, keeper, newcomer, joined}
@@ -20,7 +20,7 @@ entries_in view = entries_of (log_of view)
 
 -- the row of the key: its place in loading order, as the view knows the history
 abbrev pub IsRow : Begin → View → ℕ → ℕ → Type 0
-IsRow begin view key row = place_of (after begin.start (entries_in view)).keys key ≡ Some row
+IsRow begin view key row = place_of (after_all begin.start (entries_in view)).keys key ≡ Some row
 
 -- the number stands between the words `next` of the key's row that the two views knew last
 pub record IsBetween (begin : Begin) (old new : View) (key number : ℕ) : Type 0 where
@@ -83,5 +83,5 @@ meeting v w = record { numbers = joined v.numbers w.numbers; turn = merged v.tur
 pub record Meets (rows : ℕ) (v w : View) : Type 0 where
   pub earlier : Earlier v.turn.known (meeting v w).turn.known
   pub other_earlier : Earlier w.turn.known (meeting v w).turn.known
-  pub drawn : (row number : ℕ) → row < rows → times row number v.numbers.drawn + times row number w.numbers.drawn ≤ 1
+  pub drawn : (row number : ℕ) → row < rows → tally row number v.numbers.drawn + tally row number w.numbers.drawn ≤ 1
   pub made : (place : ℕ) → stands place v.turn.made + stands place w.turn.made ≤ 1

@@ -1,7 +1,7 @@
 -- What a worker did between two of its views, without the answers (profile).
 use Rattle.std.specs.Prelude.{◌≡◌, ◌⊎◌, ℕ, ◌+◌, ◌<◌, ◌≤◌, ◌==◌, if◌then◌else◌, List, [], ◌∷◌, length, Some}
 use Rattle.std.specs.List.{All, Contains}
-use Rattle.sdls_base.specs.Numbers.{times}
+use Rattle.sdls_base.specs.Numbers.{tally}
 use Rattle.sdls_base.specs.declared.entry.Entry.{Entry}
 use Rattle.record_io.specs.declared.records.Record.{Record}
 use Rattle.record_io.specs.declared.kinds.RecordKind.TheVariants.{Command}
@@ -45,9 +45,9 @@ pub record Works (begin : Begin) (old new : View) (gains : Gains) (tasks : List 
   pub reserves : count_at is_of_none (log_of new) gains.made ≤ drawers tasks
   -- at most one number drawn a record that can draw; what is spent was drawn here
   pub few_drawn : (row : ℕ) → count_of row gains.drawn ≤ drawers tasks
-  pub drawn : (row number : ℕ) → 0 < times row number gains.drawn
+  pub drawn : (row number : ℕ) → 0 < tally row number gains.drawn
       → (top row old.numbers.nexts ≤ number) × (number < top row new.numbers.nexts)
-  pub spent : (row number : ℕ) → times row number gains.spent ≤ times row number gains.drawn
+  pub spent : (row number : ℕ) → tally row number gains.spent ≤ tally row number gains.drawn
   -- words were raised to 1, or to what was asked for
   pub raised : All (λ pair. (pair.1 ≤ 1) ⊎ IsAsked begin (entries_in new) tasks pair.0 pair.1) gains.raised
 

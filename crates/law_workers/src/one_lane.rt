@@ -4,7 +4,7 @@ ghost use Rattle.run_promise.specs.Call.{Begin};
 ghost use Rattle.run_promise.specs.Deed.{Deed};
 ghost use Rattle.sdls_base.specs.declared.entry.Entry.{Entry};
 ghost use Rattle.unit_state.specs.State.{KeepsRules};
-ghost use Rattle.unit_state.specs.History.{after};
+ghost use Rattle.unit_state.specs.History.{after_all};
 ghost use Rattle.run_promise.specs.Words.{Move, Runs};
 ghost use Rattle.law_workers.specs.Served.{AreServed, SameTasks};
 ghost use Rattle.run_promise.specs.OneLane.{ServesAll};
@@ -22,7 +22,7 @@ pub fn served_once()
     ensures { (begin : Begin) (rows : ℕ) (words : ℕ → ℕ) (before : List Noted) (history : List Entry)
         (deeds others : List Deed) (moves more : List Move) (own entries : List Entry)
         → AreReported before deeds → AreReported before others
-        → ((front rest : List Entry) → own ≡ front ++ rest → KeepsRules (after begin.start (history ++ front)))
+        → ((front rest : List Entry) → own ≡ front ++ rest → KeepsRules (after_all begin.start (history ++ front)))
         → SameTasks deeds others → AreServed deeds → AreServed others
         → ServesAll begin false history deeds moves own → ServesAll begin false history others more entries
         → Runs rows words moves → Runs rows words more

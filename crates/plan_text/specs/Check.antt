@@ -24,10 +24,10 @@ pub record Makes (text : List ℕ) (plan : PlanLines) (state : State) : Type 0 w
   pub made : initial plan ≡ Ok state
 
 -- a text is a plan and makes a state, or has a first line at fault, unless memory ran out
-abbrev pub Judges : List ℕ → Result (PlanLines × State) PlanError → Type 0
-Judges text (Ok found) = Makes text found.0 found.1
-Judges text (Err (errors.Refused fault)) = state_of text ≡ Err fault
-Judges text (Err errors.NoMemory) = ⊤
+abbrev pub JudgesText : List ℕ → Result (PlanLines × State) PlanError → Type 0
+JudgesText text (Ok found) = Makes text found.0 found.1
+JudgesText text (Err (errors.Refused fault)) = state_of text ≡ Err fault
+JudgesText text (Err errors.NoMemory) = ⊤
 
 -- what is said of a text that is no plan: the first line that is named is that of its first fault
 abbrev pub SaysFault : PlanFault → Checked → Type 0

@@ -1,6 +1,6 @@
 //! A text checked as a plan.
 ghost use Rattle.std.specs.Prelude.{◌≡◌, IfOk};
-ghost use Rattle.plan_text.specs.Check.{Judges, SaysFault, Tells};
+ghost use Rattle.plan_text.specs.Check.{JudgesText, SaysFault, Tells};
 
 use crate::books::refused_lines;
 use crate::mending::plan_without;
@@ -32,7 +32,7 @@ pub enum Checked {
 
 /// The plan that a text is, and the state that it makes.
 fn judge(alloc: Global, text: &[u8]) -> Result<(Plan, State), PlanError>
-    ensures { Judges text.now result }
+    ensures { JudgesText text.now result }
 {
     let plan = Plan::read(alloc, text)?;
     let state = State::initial(alloc, &plan)?;

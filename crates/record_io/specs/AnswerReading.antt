@@ -33,7 +33,7 @@ pub record IsKnownHead (octets : List ℕ) (head : AnswerHead) : Type 0 where
   pub widths : HasWidths (header_said head)
   pub known : IsAnswerCode head.code
 
--- what a cut answer tells: its header, and as much of its body as there is
+-- what a cut answer says: its header, and as much of its body as there is
 abbrev pub as_answer : Cut → Answer
 as_answer cut = record {
   code = cut.header.code;

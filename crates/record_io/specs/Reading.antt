@@ -11,7 +11,7 @@ use Rattle.record_io.specs.declared.kinds.RecordKind.TheVariants.{Monitor}
 use Rattle.record_io.specs.Input.{Item, IsItem, AreRead, LacksNext, MOST_OCTETS, IsInput, Whole, MalformedAt}
 use Rattle.record_io.specs.Places.{first_count, counted, places_from, records_of}
 
--- a source: whether it tells what it has, the octets that it has left, and its count of faults
+-- a source: whether clauses know what it has, the octets that it has left, and its count of faults
 pub record SourceSeen : Type 0 where
   pub told : Bool
   pub left : List ℕ

@@ -10,7 +10,7 @@ use Rattle.replay_window.specs.declared.TheConstants.{MOST_BACK}
 use Rattle.replay_window.specs.declared.window.Window.{Window}
 use Rattle.replay_window.specs.Window.{IsAhead, IsLate, IsFresh, IsFreshAfter, accepted, begun_at, with_field}
 use Rattle.replay_window.specs.Past.{IsPast}
-use Rattle.replay_window.specs.Steps.{Step, Accepts, Sets, after, MayStepInTurn, numbers_of, SetsNoBack}
+use Rattle.replay_window.specs.Steps.{Step, Accepts, Sets, window_after, MayStepInTurn, numbers_of, SetsNoBack}
 use Rattle.replay_window.specs.Steps.{IsAscendingAbove}
 use Rattle.replay_window.proofs.Numbers.{listed, from_listed, kept_near, near_kept}
 use Rattle.replay_window.proofs.Past.{past_taken, past_accepting, past_refused}
@@ -46,7 +46,7 @@ agrees_accepted window n Was agrees m near =
     )
 
 agrees_after : (window : Window) (steps : List Step) (Was : ℕ → Type 0) → Agrees window Was
-    → Agrees (after window steps) (λ m. Was m ⊎ Contains (numbers_of steps) m)
+    → Agrees (window_after window steps) (λ m. Was m ⊎ Contains (numbers_of steps) m)
 agrees_after window [] Was agrees m near = (
   (λ has. inl ((agrees m near).0 has)),
   (λ was. ⊎_elim (λ before. (agrees m near).1 before) (λ has. absurd (no_element m has)) was),
@@ -67,7 +67,7 @@ agrees_after window (Sets field ∷ steps) Was agrees m near =
     agrees_after (with_field field window) steps Was agrees m near
 
 back_after : (window : Window) (steps : List Step) → window.back ≤ MOST_BACK → MayStepInTurn window steps
-    → (after window steps).back ≤ MOST_BACK
+    → (window_after window steps).back ≤ MOST_BACK
 back_after window [] back may = back
 back_after window (Accepts n ∷ steps) back may = back_after (accepted n window) steps back may.1
 back_after window (Sets field ∷ steps) back may = back_after (with_field field window) steps may.0 may.1
@@ -98,12 +98,12 @@ none_begun base window m near =
 
 pub by_the_list : (window : Window) (base n end : ℕ) (steps : List Step) → window.back ≤ MOST_BACK
     → MayStepInTurn (begun_at base window) steps
-    → (IsFresh (after (begun_at base window) steps) n end
-    → IsFreshAfter (after (begun_at base window) steps) (numbers_of steps) n end)
-    × (IsFreshAfter (after (begun_at base window) steps) (numbers_of steps) n end
-    → IsFresh (after (begun_at base window) steps) n end)
+    → (IsFresh (window_after (begun_at base window) steps) n end
+    → IsFreshAfter (window_after (begun_at base window) steps) (numbers_of steps) n end)
+    × (IsFreshAfter (window_after (begun_at base window) steps) (numbers_of steps) n end
+    → IsFresh (window_after (begun_at base window) steps) n end)
 by_the_list window base n end steps back may =
-    let late : Window = after (begun_at base window) steps in
+    let late : Window = window_after (begun_at base window) steps in
     let agrees = agrees_after (begun_at base window) steps (λ _. ⊥) (none_begun base window) in
     let low = back_after (begun_at base window) steps back may in (
       judged_alike late (set.items late.taken) (numbers_of steps) n end low (λ m near has. (agrees m near).1 (inr has)),

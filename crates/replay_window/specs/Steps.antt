@@ -20,9 +20,9 @@ MayStep window (Accepts n) = (end : ℕ) × IsFresh window n end
 MayStep window (Sets field) = back_of field ≤ MOST_BACK
 
 -- the window after the steps
-abbrev pub after : Window → List Step → Window
-after window [] = window
-after window (step ∷ steps) = after (stepped window step) steps
+abbrev pub window_after : Window → List Step → Window
+window_after window [] = window
+window_after window (step ∷ steps) = window_after (stepped window step) steps
 
 -- each step may be made in the window that those before it left
 abbrev pub MayStepInTurn : Window → List Step → Type 0

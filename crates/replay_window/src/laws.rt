@@ -6,14 +6,15 @@ ghost use Rattle.replay_window.specs.declared.window.Window.{Window};
 ghost use Rattle.replay_window.specs.WindowField.{back_of};
 ghost use Rattle.replay_window.specs.Window.{IsFresh, IsFreshAfter, accepted, begun_at, lowered_to, with_field};
 ghost use Rattle.replay_window.specs.Past.{IsPast};
-ghost use Rattle.replay_window.specs.Steps.{Step, after, MayStepInTurn, numbers_of, SetsNoBack, IsAscendingAbove};
+ghost use Rattle.replay_window.specs.Steps.{Step, window_after, MayStepInTurn, numbers_of, SetsNoBack};
+ghost use Rattle.replay_window.specs.Steps.{IsAscendingAbove};
 
 /// Law: from one beginning to the next a number is fresh exactly if it is by the list of all numbers accepted between.
 pub fn judged_by_the_list()
     ensures { (window : Window) (base n end : ℕ) (steps : List Step) → window.back ≤ MOST_BACK
         → MayStepInTurn (begun_at base window) steps
-        → IsFresh (after (begun_at base window) steps) n end
-        ↔ IsFreshAfter (after (begun_at base window) steps) (numbers_of steps) n end }
+        → IsFresh (window_after (begun_at base window) steps) n end
+        ↔ IsFreshAfter (window_after (begun_at base window) steps) (numbers_of steps) n end }
 {}
 
 /// Law: no number is accepted twice, whatever window fields are set between.

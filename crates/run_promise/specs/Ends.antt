@@ -11,7 +11,7 @@ use Rattle.unit_plan.specs.PlanLines.{PlanLines}
 use Rattle.key_book.specs.KeyBook.{place_of}
 use Rattle.unit_state.specs.declared.state.State.{State}
 use Rattle.unit_state.specs.Restart.{restarted}
-use Rattle.unit_state.specs.History.{after, after_first}
+use Rattle.unit_state.specs.History.{after_all, after_first}
 use Rattle.unit_image.specs.Image.{held, IsSettled, JournalView}
 use Rattle.unit_image.specs.Shows.{Shows, ShowsNone}
 use Rattle.unit_image.specs.OpeningImage.{LeftByOpening}
@@ -51,7 +51,7 @@ LacksLastAtMost start entries image = (p : ℕ) × (length entries ≤ p + 1) ×
 pub record StandsAtExit (call : CallSeen) (account : Account) (state : State) : Type 0 where
   -- if the site did not fail, the image shows the state after all entries, the releases among them
   pub stands : ¬ Rose call.site.faults call.site_after.faults
-      → Shows call.site_after.trace.now.image (restarted (after state call.entries))
+      → Shows call.site_after.trace.now.image (restarted (after_all state call.entries))
   -- all of it is then on the disk, its closed gates are 0, and so are the octets of the other bank and of old banks
   pub rests : ¬ Rose call.site.faults call.site_after.faults
       → IsUnopened call account ⊎ ((journal : JournalView) × IsSettled call.site_after.trace journal)

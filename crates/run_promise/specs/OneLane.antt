@@ -16,7 +16,7 @@ use Rattle.frame_shield.specs.Protects.{Protects}
 use Rattle.unit_plan.specs.PlanLines.{PlanLines}
 use Rattle.key_book.specs.KeyBook.{place_of}
 use Rattle.unit_state.specs.declared.state.State.{State}
-use Rattle.unit_state.specs.History.{after, at_epoch, epoch_after}
+use Rattle.unit_state.specs.History.{after_all, at_epoch, epoch_after}
 use Rattle.frame_checks.specs.declared.open_reply.OpenReply.{OpenReply}
 use Rattle.frame_checks.specs.OpeningFrames.{IsOpenReply}
 use Rattle.frame_checks.specs.ProtectingFrames.{channel_check}
@@ -49,7 +49,7 @@ epoch_beside (Err fault) epoch = 0
 module _ (begin : Begin) (history : List Entry) where
   -- the state after the history, and the one that its epoch began with
   abbrev pub now : State
-  now = after begin.start history
+  now = after_all begin.start history
 
   abbrev pub at_last_epoch : State
   at_last_epoch = at_epoch begin.start history (epoch_after history)

@@ -9,7 +9,7 @@ use Rattle.sdls_base.specs.declared.entry.Seen.TheVariants.{Number}
 use Rattle.sdls_base.specs.declared.entry.Seen.TheVariants as seens
 use Rattle.key_book.specs.KeyBook.{place_of}
 use Rattle.unit_state.specs.declared.state.State.{State}
-use Rattle.unit_state.specs.History.{after, after_first}
+use Rattle.unit_state.specs.History.{after_all, after_first}
 use Rattle.ep_core.specs.declared.need.Need.{Need}
 use Rattle.ep_core.specs.declared.need.Need.TheVariants as needs
 use Rattle.record_io.specs.declared.code.TheConstants.{PROTECTED, CLEAR, DONE, REFUSED, LAYOUT, STATE, EXHAUSTED}
@@ -83,7 +83,7 @@ module _ (start : State) (entries : List Entry) where
 
   -- the row of the key
   abbrev pub HasRow : ℕ → ℕ → Type 0
-  HasRow key row = place_of (after start entries).keys key ≡ Some row
+  HasRow key row = place_of (after_all start entries).keys key ≡ Some row
 
   -- a move of this kind, on the row of the key for which the message needs this
   abbrev pub Shown : State → Record → (ℕ → Need) → (ℕ → Move) → Move → Type 0

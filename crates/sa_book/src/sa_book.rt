@@ -266,7 +266,7 @@ impl SaBook {
         self.rows.as_slice()
     }
 
-    /// Puts a row last. Rows put so into an empty book, in order, make an equal book.
+    /// Adds a row behind the others. Rows added so to an empty book, in order, make an equal book.
     pub fn add_row(&mut self, row: SaRow) -> Result<(), NoMemory>
         requires { MayFollow self.old row }
         ensures added { OnOk result (self.new ≡ self.old ++ row ∷ []) }

@@ -5,9 +5,9 @@ abbrev pub one_if : Bool → ℕ
 one_if b = if b then 1 else 0
 
 -- how often the number x of the row stands in the list
-abbrev pub times : ℕ → ℕ → List (ℕ × ℕ) → ℕ
-times row x [] = 0
-times row x (p ∷ ps) = one_if ((p.0 == row) && (p.1 == x)) + times row x ps
+abbrev pub tally : ℕ → ℕ → List (ℕ × ℕ) → ℕ
+tally row x [] = 0
+tally row x (p ∷ ps) = one_if ((p.0 == row) && (p.1 == x)) + tally row x ps
 
 -- a sum over all of a list
 abbrev pub total : {V : Type 0} → (V → ℕ) → List V → ℕ

@@ -23,7 +23,7 @@ pub struct Entry {
     pub change: Change,
 }
 
-/// A line of the log of a run: an entry of its history, or a piece of output that was put.
+/// A line of the log of a run: an entry of its history, or a piece of output that was written.
 #[derive(Clone, Debug, PartialEq, Eq, Drop)]
 pub enum Logged {
     Entry(Entry),

@@ -17,7 +17,7 @@ pub fn mask_in_place(prefix: &mut [u8], mask: &[u8])
     }
 }
 
-/// Writes a frame's prefix under the mask into `out`, as [`mask_in_place`] puts it.
+/// Writes a frame's prefix under the mask into `out`, as [`mask_in_place`] leaves it.
 pub fn masked(prefix: &[u8], mask: &[u8], out: &mut [u8])
     requires { length prefix.now ≡ length out.old }
     ensures octets { (i : ℕ) → i < length prefix.now

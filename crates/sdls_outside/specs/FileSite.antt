@@ -9,6 +9,6 @@ image_path site = site.path.now
 abbrev pub output_faults : FileSite → ℕ
 output_faults site = site.faults
 
--- how many puts have failed
+-- how many calls of `put` have failed
 abbrev pub output_put_faults : FileSite → ℕ
 output_put_faults site = count_of site.put_faults

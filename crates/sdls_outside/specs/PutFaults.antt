@@ -1,4 +1,4 @@
--- How many puts of a site have failed (profile).
+-- How many calls of `put` of a site have failed (profile).
 use Rattle.std.specs.Prelude.{ℕ, ◌+◌}
 use Rattle.sdls_outside.specs.declared.put_faults.PutFaults.{PutFaults, Zero, OneMore', Same'}
 

@@ -10,8 +10,8 @@ use crate::{Failed, Site};
 use std::io;
 use std::io::Write;
 
-/// The image in a file, and standard output as the sink. It tells nothing of content. Its count of
-/// faults rises at each error of the system.
+/// The image in a file, and standard output as the sink. Clauses know nothing of their content. Its
+/// count of faults rises at each error of the system.
 #[derive(Drop)]
 pub struct FileSite {
     rt: HostRuntime,

@@ -133,7 +133,7 @@ fn folder_of(path: &str) -> &str {
 
 // Takes an open file as the image, for this process alone: it is locked, without waiting, until the
 // process ends. Refuses what is no regular file, as a device or a FIFO. Refuses a file, too, that was
-// given the number of a standard stream which is closed: what is put would be written over the image.
+// given the number of a standard stream which is closed: output would be written over the image.
 fn taken(file: File) -> io::Result<File> {
     if file.as_raw_fd() <= 2 || !file.metadata()?.is_file() {
         return Err(ErrorKind::Other.into());

@@ -1,4 +1,4 @@
-// The puts that failed.
+// The calls of `put` that failed.
 ghost use Rattle.std.specs.Prelude.{◌≡◌, ◌+◌};
 ghost use Rattle.sdls_outside.specs.PutFaults.{count_of};
 ghost use Rattle.sdls_outside.specs.Site.{after_put};
@@ -6,7 +6,8 @@ ghost use Rattle.sdls_outside.specs.Site.{after_put};
 use crate::Failed;
 use std::snapshot::Snapshot;
 
-// How many puts have failed, for clauses alone. It has no greatest value: of the count before it has a snapshot.
+// How many calls of `put` have failed, for clauses alone. It has no greatest value: it has a snapshot of the count
+// before.
 #[derive(Drop)]
 pub enum PutFaults {
     Zero,

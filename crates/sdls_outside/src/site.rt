@@ -7,11 +7,11 @@ ghost use Rattle.sdls_outside.specs.Site.{Writes, Syncs, Puts, after_put};
 
 use crate::Failed;
 
-/// One image on a disk and one sink, in one object, so that the moments of both are told together.
-/// A clause speaks of what they hold only where the site tells it. Each call but `faults` answers
-/// `Failed` only where the count of faults rose.
+/// One image on a disk and one sink, in one object, so that clauses speak of the moments of both together.
+/// They know what the two hold only if `told` holds. Each call but `faults` answers `Failed` only if
+/// the count of faults rose.
 pub trait Site {
-    /// Whether it tells what it holds.
+    /// Whether clauses know what it holds.
     ghost told: { Bool };
 
     /// What it holds, and what it held before each call that changed something.
@@ -20,7 +20,7 @@ pub trait Site {
     /// How often it has failed.
     ghost faults: { Self → ℕ };
 
-    /// How often a put has failed.
+    /// How often a `put` has failed.
     ghost put_faults: { Self → ℕ };
 
     /// Starts a run, also where it fails. Answers the image's length in octets, 0 where there is

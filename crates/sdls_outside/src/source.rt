@@ -10,10 +10,10 @@ use thiserror::Error;
 #[error("device failed")]
 pub struct Failed;
 
-/// A source of octets, taken from the front. A clause speaks of the octets that are left only
-/// where the source tells them.
+/// A source of octets, taken from the front. Clauses know the octets that are left only if
+/// `told` holds.
 pub trait Source {
-    /// Whether it tells what is left.
+    /// Whether clauses know what is left.
     ghost told: { Bool };
 
     /// The octets that are left.

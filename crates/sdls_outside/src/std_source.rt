@@ -10,7 +10,7 @@ use std::io::{Read, Stdin};
 // The most octets that are read ahead.
 const AHEAD: usize = 65536;
 
-/// Standard input, which tells nothing of its content. It reads ahead into a buffer of its own, with
+/// Standard input, of whose content clauses know nothing. It reads ahead into a buffer of its own, with
 /// one read of the system a refill, and never waits for more while it has an octet. Its count of
 /// faults rises at each error of the system, after what was read before it is taken.
 #[derive(Drop)]

@@ -11,9 +11,10 @@ use Rattle.sdls_world.specs.declared.step.Step.TheVariants.{Arm, Draw, Peek, Spe
 use Rattle.sdls_world.specs.declared.step.Step.TheVariants.{RaiseNext, Turn, Crash}
 use Rattle.sdls_world.specs.Core.{Doer, idle, Core, key_of, doer_of, on_found, holds_turn, drawing, funding, spending}
 use Rattle.sdls_world.specs.Core.{arm_found, arm_step, draw_at, draw_step, peek_at, peek_step, spend_step, take_step}
-use Rattle.sdls_world.specs.Core.{write_step, lift_step, raise_step, synced, restarted, after, after_all, begun}
+use Rattle.sdls_world.specs.Core.{write_step, lift_step, raise_step, synced, restarted, world_after, world_after_all}
+use Rattle.sdls_world.specs.Core.{begun}
 use Rattle.sdls_world.specs.Core.{beginning}
-use Rattle.sdls_base.specs.Numbers.{one_if, times, total, once_below}
+use Rattle.sdls_base.specs.Numbers.{one_if, tally, total, once_below}
 use Rattle.sdls_world.specs.Kept.{is_last, unused, KeyKept, DoerKept, IsWorldKept}
 use Rattle.sdls_world.proofs.Places.{get_set, get_snoc, get_map, total_set, total_at, total-snoc, found_at}
 use Rattle.sdls_world.proofs.Places.{times-append, once_below_one, once_below_more, once_below_last, once_below_yes}
@@ -56,7 +57,7 @@ key_moves w row k k' kept at next limit durable lifted stored =
 same_actors : (w : Core) (actors : List Doer)
     → ((row x : ℕ) → total (unused row x) actors ≡ total (unused row x) w.actors)
     → ((i : ℕ) (a : Doer) → slice_get actors i ≡ Some a → DoerKept a
-    × ((row : ℕ) (k : Key) → slice_get w.keys row ≡ Some k → (x : ℕ) → 0 < times row x a.funded → x < k.limit))
+    × ((row : ℕ) (k : Key) → slice_get w.keys row ≡ Some k → (x : ℕ) → 0 < tally row x a.funded → x < k.limit))
     → IsWorldKept w → IsWorldKept record w { actors = actors }
 same_actors w actors same each kept =
     record {
@@ -82,7 +83,7 @@ arm_keeps w id row None is kept =
     same_actors w (w.actors ++ a' ∷ []) (λ q x. total-snoc (unused q x) w.actors a' ∙ omega arith)
     (λ i a e. ⊎_elim (λ old. (kept.actors i a old, λ q k at x h. (kept.keys q k at).funded i a old x h))
     (λ same. subst (λ (z : Doer). DoerKept z
-    × ((q : ℕ) (k : Key) → slice_get w.keys q ≡ Some k → (x : ℕ) → 0 < times q x z.funded → x < k.limit)) same
+    × ((q : ℕ) (k : Key) → slice_get w.keys q ≡ Some k → (x : ℕ) → 0 < tally q x z.funded → x < k.limit)) same
     (record { drawn = λ q x. omega arith; funded = λ f. absurd (false≢true f) }, λ q k at x h. absurd (omega arith)))
     (get_snoc w.actors a' a i e))
     kept
@@ -93,7 +94,7 @@ arm_keeps w id row (Some f) is kept =
     same_actors w (set w.actors f.0 a') (λ q x. let t = total_set (unused q x) w.actors f.0 f.1 a' at in omega arith)
     (λ i a e. ⊎_elim
     (λ same. subst (λ (z : Doer). DoerKept z
-    × ((q : ℕ) (k : Key) → slice_get w.keys q ≡ Some k → (x : ℕ) → 0 < times q x z.funded → x < k.limit)) same.1
+    × ((q : ℕ) (k : Key) → slice_get w.keys q ≡ Some k → (x : ℕ) → 0 < tally q x z.funded → x < k.limit)) same.1
     (record { drawn = old.drawn; funded = old.funded }, λ q k k_at x h. (kept.keys q k k_at).funded f.0 f.1 at x h))
     (λ o. (kept.actors i a o.1, λ q k k_at x h. (kept.keys q k k_at).funded i a o.1 x h))
     (get_set w.actors f.0 i a' a e))
@@ -150,7 +151,7 @@ draw_keeps w i row a k at k_at kept =
           used = λ x. rw same_durable (old.used x);
           funded = λ j b e x h.
               rw same_limit
-              (⊎_elim (λ s. old.funded i a at x (subst (λ (z : Doer). 0 < times q x z.funded) (sym s.1) h))
+              (⊎_elim (λ s. old.funded i a at x (subst (λ (z : Doer). 0 < tally q x z.funded) (sym s.1) h))
               (λ o. old.funded j b o.1 x h) (get_set w.actors i j (drawing row k.next a) b e));
           lifted = let l = old.lifted in omega arith;
           stored = let l = old.stored in omega arith;
@@ -166,11 +167,11 @@ peek_keeps w i a p k at last k_at below kept =
     same_actors w (set w.actors i a') (λ q x. let t = total_set (unused q x) w.actors i a a' at in omega arith)
     (λ j b e. ⊎_elim
     (λ same. subst (λ (z : Doer). DoerKept z
-    × ((q : ℕ) (c : Key) → slice_get w.keys q ≡ Some c → (x : ℕ) → 0 < times q x z.funded → x < c.limit)) same.1 (
+    × ((q : ℕ) (c : Key) → slice_get w.keys q ≡ Some c → (x : ℕ) → 0 < tally q x z.funded → x < c.limit)) same.1 (
       record {
         drawn = sane.drawn;
         funded = λ f r is. let s : p ≡ r = some_same (sym last ∙ is) in
-            subst (λ (z : ℕ × ℕ). 0 < times z.0 z.1 (a.funded ++ p ∷ [])) s (let o = same_pair p in
+            subst (λ (z : ℕ × ℕ). 0 < tally z.0 z.1 (a.funded ++ p ∷ [])) s (let o = same_pair p in
             let t = times-append p.0 p.1 a.funded (p ∷ []) in omega arith);
       },
       λ q c c_at x h.
@@ -206,7 +207,7 @@ spend_keeps w i a p at last is_funded kept =
                 ⊎_elim
                 (λ y.
                 let below : x < c.limit =
-                old.funded i a at x (subst (λ (z : ℕ × ℕ). 0 < times z.0 z.1 a.funded) (pair_is p q x y.0 y.1)
+                old.funded i a at x (subst (λ (z : ℕ × ℕ). 0 < tally z.0 z.1 a.funded) (pair_is p q x y.0 y.1)
                 (sane.funded is_funded p last)) in
                 let l = old.lifted in let one = once_below_yes x c.durable (omega arith) in
                 let most = once_below_one x c.next in
@@ -215,7 +216,7 @@ spend_keeps w i a p at last is_funded kept =
                 (λ z. let u = old.used x in omega arith)
                 (is_pair q x p);
             funded = λ j b e x h.
-                ⊎_elim (λ s. old.funded i a at x (subst (λ (z : Doer). 0 < times q x z.funded) (sym s.1) h))
+                ⊎_elim (λ s. old.funded i a at x (subst (λ (z : Doer). 0 < tally q x z.funded) (sym s.1) h))
                 (λ o. old.funded j b o.1 x h) (get_set w.actors i j a' b e);
             lifted = old.lifted;
             stored = old.stored;
@@ -355,7 +356,7 @@ take_step_keeps w id None kept = same_core w (Some id) w.epoch kept
 take_step_keeps w id (Some h) kept = kept
 
 -- each step keeps it
-pub step_keeps : (w : Core) (s : Step) → IsWorldKept w → IsWorldKept (after w s)
+pub step_keeps : (w : Core) (s : Step) → IsWorldKept w → IsWorldKept (world_after w s)
 step_keeps w (Arm actor key) kept = on_keeps w (key_of key w.keys) (arm_step w actor) kept (λ k e.
     if_keeps w (record w { actors = arm_found w.actors actor k.0 (doer_of actor w.actors) })
     (ltb k.1.next (end_of k.1.id)) kept (arm_keeps w actor k.0 (doer_of actor w.actors) refl kept))
@@ -391,9 +392,9 @@ step_keeps w (Turn actor) kept =
 step_keeps w Crash kept = crash_keeps w kept
 
 -- and so does each list of steps
-pub steps_keep : (w : Core) (steps : List Step) → IsWorldKept w → IsWorldKept (after_all w steps)
+pub steps_keep : (w : Core) (steps : List Step) → IsWorldKept w → IsWorldKept (world_after_all w steps)
 steps_keep w [] kept = kept
-steps_keep w (s ∷ ss) kept = steps_keep (after w s) ss (step_keeps w s kept)
+steps_keep w (s ∷ ss) kept = steps_keep (world_after w s) ss (step_keeps w s kept)
 
 -- it holds at the beginning
 pub beginning_kept : (keys : List (ℕ × ℕ)) → IsWorldKept (beginning keys)
@@ -451,7 +452,7 @@ take_count : (w : Core) (id : ℕ) (o : Option ℕ) → length (take_step w id o
 take_count w id None = refl
 take_count w id (Some h) = refl
 
-same_count : (w : Core) (s : Step) → length (after w s).keys ≡ length w.keys
+same_count : (w : Core) (s : Step) → length (world_after w s).keys ≡ length w.keys
 same_count w (Arm actor key) =
     on_count _ w (key_of key w.keys) (arm_step w actor) refl
     (λ k. if_count _ w (record w { actors = arm_found w.actors actor k.0 (doer_of actor w.actors) })
@@ -486,9 +487,9 @@ same_count w (Turn actor) =
     (holds_turn actor w.holder) refl refl
 same_count w Crash = length-mapped restarted w.keys
 
-same_counts : (w : Core) (steps : List Step) → length (after_all w steps).keys ≡ length w.keys
+same_counts : (w : Core) (steps : List Step) → length (world_after_all w steps).keys ≡ length w.keys
 same_counts w [] = refl
-same_counts w (s ∷ ss) = same_counts (after w s) ss ∙ same_count w s
+same_counts w (s ∷ ss) = same_counts (world_after w s) ss ∙ same_count w s
 
 there : (keys : List Key) (row : ℕ) → row < length keys → (k : Key) × (slice_get keys row ≡ Some k)
 there [] row b = absurd (omega arith)
@@ -496,9 +497,9 @@ there (k ∷ ks) zero b = (k, refl)
 there (k ∷ ks) (suc row) b = there ks row (omega arith)
 
 pub used_differ : (keys : List (ℕ × ℕ)) (steps : List Step) (row x : ℕ) → row < length keys
-    → times row x (after_all (beginning keys) steps).used ≤ 1
+    → tally row x (world_after_all (beginning keys) steps).used ≤ 1
 used_differ keys steps row x b =
-    let w = after_all (beginning keys) steps in
+    let w = world_after_all (beginning keys) steps in
     let count : length w.keys ≡ length keys = same_counts (beginning keys) steps ∙ length-mapped begun keys in
     let k = there w.keys row (omega arith) in
     let kept = (steps_keep (beginning keys) steps (beginning_kept keys)).keys row k.0 k.1 in
@@ -506,31 +507,32 @@ used_differ keys steps row x b =
 
 -- one more step
 after_suc : (w : Core) (steps : List Step) (i : ℕ) (s : Step) → i < length steps → s ≡ get_or steps i s
-    → after_all w (take (suc i) steps) ≡ after (after_all w (take i steps)) s
+    → world_after_all w (take (suc i) steps) ≡ world_after (world_after_all w (take i steps)) s
 after_suc w [] i s b e = absurd (omega arith)
-after_suc w (x ∷ xs) zero s b e = ap (after w) (sym e)
-after_suc w (x ∷ xs) (suc i) s b e = after_suc (after w x) xs i s (omega arith) e
+after_suc w (x ∷ xs) zero s b e = ap (world_after w) (sym e)
+after_suc w (x ∷ xs) (suc i) s b e = after_suc (world_after w x) xs i s (omega arith) e
 
 pub after_more : (w : Core) (steps : List Step) (i : ℕ) (s : Step) → i < length steps → s ≡ get_or steps i s
-    → after_all w (take (i + 1) steps) ≡ after (after_all w (take i steps)) s
+    → world_after_all w (take (i + 1) steps) ≡ world_after (world_after_all w (take i steps)) s
 after_more w steps i s b e = let n : i + 1 ≡ suc i = omega arith in
-    ap (λ k. after_all w (take k steps)) n ∙ after_suc w steps i s b e
+    ap (λ k. world_after_all w (take k steps)) n ∙ after_suc w steps i s b e
 
 pub take_whole : (w : Core) (steps : List Step) (i : ℕ) → length steps ≤ i
-    → after_all w (take i steps) ≡ after_all w steps
+    → world_after_all w (take i steps) ≡ world_after_all w steps
 take_whole w [] zero b = refl
 take_whole w [] (suc i) b = refl
 take_whole w (x ∷ xs) zero b = absurd (omega arith)
-take_whole w (x ∷ xs) (suc i) b = take_whole (after w x) xs i (omega arith)
+take_whole w (x ∷ xs) (suc i) b = take_whole (world_after w x) xs i (omega arith)
 
 -- whatever a call answers
-pub answer_keeps : {E : Type 0} (r : Result (Unit {0}) E) (w w' : Core) (s : Step) → OnOk r (w' ≡ after w s)
+pub answer_keeps : {E : Type 0} (r : Result (Unit {0}) E) (w w' : Core) (s : Step) → OnOk r (w' ≡ world_after w s)
     → OnErr r (w' ≡ w) → IsWorldKept w → IsWorldKept w'
 answer_keeps (Ok u) w w' s ok err kept = subst IsWorldKept (sym ok) (step_keeps w s kept)
 answer_keeps (Err e) w w' s ok err kept = subst IsWorldKept (sym err) kept
 
 pub answers_keep : {E : Type 0} (r : Result (Unit {0}) E) (w w' : Core) (steps : List Step)
-    → OnOk r (w' ≡ after_all w steps) → OnErr r ((count : ℕ) × (w' ≡ after_all w (take count steps))) → IsWorldKept w
+    → OnOk r (w' ≡ world_after_all w steps) → OnErr r ((count : ℕ) × (w' ≡ world_after_all w (take count steps)))
+    → IsWorldKept w
     → IsWorldKept w'
 answers_keep (Ok u) w w' steps ok err kept = subst IsWorldKept (sym ok) (steps_keep w steps kept)
 answers_keep (Err e) w w' steps ok err kept = subst IsWorldKept (sym err.1) (steps_keep w (take err.0 steps) kept)

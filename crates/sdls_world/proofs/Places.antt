@@ -7,7 +7,7 @@ use Rattle.std.proofs.lemmas.Bool.Decides.{nat_tests}
 use mathlib.Core.Logic.{dite}
 use native.Mathlib.Decide.{ℕ_discrete}
 use Rattle.sdls_world.specs.Core.{find_place, further}
-use Rattle.sdls_base.specs.Numbers.{one_if, times, total, once_below}
+use Rattle.sdls_base.specs.Numbers.{one_if, tally, total, once_below}
 
 pub some_same : {A : Type 0} {a b : A} → Some a ≡ Some b → a ≡ b
 some_same e = cc
@@ -71,7 +71,7 @@ get_map f [] i y e = absurd (let n : None ≡ Some y = e in cc)
 get_map f (x ∷ xs) zero y e = (x, refl, cc)
 get_map f (x ∷ xs) (suc i) y e = get_map f xs i y e
 
-pub times-append : (row x : ℕ) (ps qs : List (ℕ × ℕ)) → times row x (ps ++ qs) ≡ times row x ps + times row x qs
+pub times-append : (row x : ℕ) (ps qs : List (ℕ × ℕ)) → tally row x (ps ++ qs) ≡ tally row x ps + tally row x qs
 times-append row x [] qs = omega arith
 times-append row x (p ∷ ps) qs = let h = times-append row x ps qs in omega arith
 

@@ -132,25 +132,25 @@ abbrev pub if_holder : Core → ℕ → Core → Core
 if_holder w id after = if holds_turn id w.holder then after else w
 
 -- one step. One that is not open to its actor, or names a key that is not there, changes nothing
-abbrev pub after : Core → Step → Core
-after w (Arm actor key) = on_found w (key_of key w.keys) (arm_step w actor)
-after w (Draw actor) = on_found w (doer_of actor w.actors) (λ a. draw_step w a a.1.armed)
-after w (Peek actor) = on_found w (doer_of actor w.actors) (λ a. peek_step w a a.1.is_funded a.1.last)
-after w (Spend actor) = on_found w (doer_of actor w.actors) (λ a. spend_step w a a.1.is_funded a.1.last)
-after w (See actor) = w
-after w (Take actor) = take_step w actor w.holder
-after w (Give actor) = if_holder w actor (record w { holder = None })
-after w (Write actor key mark) = if_holder w actor (on_found w (key_of key w.keys) (write_step w mark))
-after w (Sync actor) = if_holder w actor (record w { keys = map synced w.keys })
-after w (Lift actor key) = if_holder w actor (on_found w (key_of key w.keys) (lift_step w))
-after w (RaiseNext actor key number) = if_holder w actor (on_found w (key_of key w.keys) (raise_step w number))
-after w (Turn actor) = if_holder w actor (record
+abbrev pub world_after : Core → Step → Core
+world_after w (Arm actor key) = on_found w (key_of key w.keys) (arm_step w actor)
+world_after w (Draw actor) = on_found w (doer_of actor w.actors) (λ a. draw_step w a a.1.armed)
+world_after w (Peek actor) = on_found w (doer_of actor w.actors) (λ a. peek_step w a a.1.is_funded a.1.last)
+world_after w (Spend actor) = on_found w (doer_of actor w.actors) (λ a. spend_step w a a.1.is_funded a.1.last)
+world_after w (See actor) = w
+world_after w (Take actor) = take_step w actor w.holder
+world_after w (Give actor) = if_holder w actor (record w { holder = None })
+world_after w (Write actor key mark) = if_holder w actor (on_found w (key_of key w.keys) (write_step w mark))
+world_after w (Sync actor) = if_holder w actor (record w { keys = map synced w.keys })
+world_after w (Lift actor key) = if_holder w actor (on_found w (key_of key w.keys) (lift_step w))
+world_after w (RaiseNext actor key number) = if_holder w actor (on_found w (key_of key w.keys) (raise_step w number))
+world_after w (Turn actor) = if_holder w actor (record
     w { epoch = if nat_lt w.epoch 18446744073709551615 then w.epoch + 1 else w.epoch })
-after w Crash = record { keys = map restarted w.keys; actors = []; holder = None; epoch = 0; used = w.used }
+world_after w Crash = record { keys = map restarted w.keys; actors = []; holder = None; epoch = 0; used = w.used }
 
-abbrev pub after_all : Core → List Step → Core
-after_all w [] = w
-after_all w (s ∷ ss) = after_all (after w s) ss
+abbrev pub world_after_all : Core → List Step → Core
+world_after_all w [] = w
+world_after_all w (s ∷ ss) = world_after_all (world_after w s) ss
 
 -- the keys at the beginning, each with its durable mark
 abbrev pub begun : ℕ × ℕ → Key

@@ -4,7 +4,8 @@ ghost use Rattle.std.specs.Prelude.{map, take, slice_get};
 ghost use Rattle.sdls_base.specs.KeyId.{end_of};
 ghost use Rattle.sdls_world.specs.declared.step.Step.TheVariants.{Arm, Draw, Peek, Spend, See, Take, Give, Write, Sync};
 ghost use Rattle.sdls_world.specs.declared.step.Step.TheVariants.{Lift, RaiseNext, Turn, Crash};
-ghost use Rattle.sdls_world.specs.Core.{key_of, doer_of, holds_turn, after, after_all, begun, beginning, synced};
+ghost use Rattle.sdls_world.specs.Core.{key_of, doer_of, holds_turn, world_after, world_after_all, begun, beginning};
+ghost use Rattle.sdls_world.specs.Core.{synced};
 ghost use Rattle.sdls_world.specs.Core.{restarted};
 ghost use Rattle.sdls_world.specs.Kept.{IsWorldKept};
 
@@ -78,7 +79,7 @@ impl World {
 
     /// Does one step. Lack of memory changes nothing, and comes also where a word would pass 2^64 - 1.
     pub fn step(&mut self, step: &Step) -> Result<(), NoMemory>
-        ensures ok { OnOk result (self.new ≡ after self.old step.now) }
+        ensures ok { OnOk result (self.new ≡ world_after self.old step.now) }
         ensures err { OnErr result (self.new ≡ self.old) }
         ensures kept { IsWorldKept self.old → IsWorldKept self.new }
     {
@@ -87,15 +88,15 @@ impl World {
 
     /// Does the steps, one after the other. After lack of memory it has done some first ones.
     pub fn run(&mut self, steps: &[Step]) -> Result<(), NoMemory>
-        ensures ok { OnOk result (self.new ≡ after_all self.old steps.now) }
-        ensures err { OnErr result ((count : ℕ) × (self.new ≡ after_all self.old (take count steps.now))) }
+        ensures ok { OnOk result (self.new ≡ world_after_all self.old steps.now) }
+        ensures err { OnErr result ((count : ℕ) × (self.new ≡ world_after_all self.old (take count steps.now))) }
         ensures kept { IsWorldKept self.old → IsWorldKept self.new }
     {
         self.change_all(steps)
     }
 
     fn change(&mut self, step: &Step) -> Result<(), NoMemory>
-        ensures ok { OnOk result (self.new ≡ after self.old step.now) }
+        ensures ok { OnOk result (self.new ≡ world_after self.old step.now) }
         ensures err { OnErr result (self.new ≡ self.old) }
     {
         match *step {
@@ -140,8 +141,8 @@ impl World {
     }
 
     fn change_all(&mut self, steps: &[Step]) -> Result<(), NoMemory>
-        ensures ok { OnOk result (self.new ≡ after_all self.old steps.now) }
-        ensures err { OnErr result ((count : ℕ) × (self.new ≡ after_all self.old (take count steps.now))) }
+        ensures ok { OnOk result (self.new ≡ world_after_all self.old steps.now) }
+        ensures err { OnErr result ((count : ℕ) × (self.new ≡ world_after_all self.old (take count steps.now))) }
     {
         for step in steps {
             self.change(step)?;
@@ -186,7 +187,7 @@ impl World {
     }
 
     fn arm(&mut self, actor: u64, key: KeyId) -> Result<(), NoMemory>
-        ensures ok { OnOk result (self.new ≡ after self.old (Arm actor key)) }
+        ensures ok { OnOk result (self.new ≡ world_after self.old (Arm actor key)) }
         ensures err { OnErr result (self.new ≡ self.old) }
     {
         let Some((row, key)) = self.key(key) else {
@@ -206,7 +207,7 @@ impl World {
     }
 
     fn draw(&mut self, actor: u64) -> Result<(), NoMemory>
-        ensures ok { OnOk result (self.new ≡ after self.old (Draw actor)) }
+        ensures ok { OnOk result (self.new ≡ world_after self.old (Draw actor)) }
         ensures err { OnErr result (self.new ≡ self.old) }
     {
         let Some((place, found)) = self.actor(actor) else {
@@ -228,7 +229,7 @@ impl World {
     }
 
     fn peek(&mut self, actor: u64) -> Result<(), NoMemory>
-        ensures ok { OnOk result (self.new ≡ after self.old (Peek actor)) }
+        ensures ok { OnOk result (self.new ≡ world_after self.old (Peek actor)) }
         ensures err { OnErr result (self.new ≡ self.old) }
     {
         let Some((place, found)) = self.actor(actor) else {
@@ -249,7 +250,7 @@ impl World {
     }
 
     fn spend(&mut self, actor: u64) -> Result<(), NoMemory>
-        ensures ok { OnOk result (self.new ≡ after self.old (Spend actor)) }
+        ensures ok { OnOk result (self.new ≡ world_after self.old (Spend actor)) }
         ensures err { OnErr result (self.new ≡ self.old) }
     {
         let Some((place, found)) = self.actor(actor) else {
@@ -268,7 +269,7 @@ impl World {
     }
 
     fn take(&mut self, actor: u64)
-        ensures { self.new ≡ after self.old (Take actor) }
+        ensures { self.new ≡ world_after self.old (Take actor) }
     {
         if self.holder.is_none() {
             self.holder = Some(actor);
@@ -276,7 +277,7 @@ impl World {
     }
 
     fn give(&mut self, actor: u64)
-        ensures { self.new ≡ after self.old (Give actor) }
+        ensures { self.new ≡ world_after self.old (Give actor) }
     {
         if self.is_holder(actor) {
             self.holder = None;
@@ -284,7 +285,7 @@ impl World {
     }
 
     fn write(&mut self, actor: u64, key: KeyId, mark: u64)
-        ensures { self.new ≡ after self.old (Write actor key mark) }
+        ensures { self.new ≡ world_after self.old (Write actor key mark) }
     {
         if !self.is_holder(actor) {
             return;
@@ -297,7 +298,7 @@ impl World {
     }
 
     fn sync(&mut self, actor: u64)
-        ensures { self.new ≡ after self.old (Sync actor) }
+        ensures { self.new ≡ world_after self.old (Sync actor) }
     {
         if self.is_holder(actor) {
             sync_all(&mut self.keys);
@@ -305,7 +306,7 @@ impl World {
     }
 
     fn lift(&mut self, actor: u64, key: KeyId)
-        ensures { self.new ≡ after self.old (Lift actor key) }
+        ensures { self.new ≡ world_after self.old (Lift actor key) }
     {
         if !self.is_holder(actor) {
             return;
@@ -317,7 +318,7 @@ impl World {
     }
 
     fn raise_next(&mut self, actor: u64, key: KeyId, number: u64)
-        ensures { self.new ≡ after self.old (RaiseNext actor key number) }
+        ensures { self.new ≡ world_after self.old (RaiseNext actor key number) }
     {
         if !self.is_holder(actor) {
             return;
@@ -331,7 +332,7 @@ impl World {
     }
 
     fn turn(&mut self, actor: u64)
-        ensures { self.new ≡ after self.old (Turn actor) }
+        ensures { self.new ≡ world_after self.old (Turn actor) }
     {
         if self.is_holder(actor) && self.epoch < u64::MAX {
             self.epoch += 1;
@@ -339,7 +340,7 @@ impl World {
     }
 
     fn crash(&mut self)
-        ensures { self.new ≡ after self.old Crash }
+        ensures { self.new ≡ world_after self.old Crash }
     {
         restart_all(&mut self.keys);
         self.actors.clear();

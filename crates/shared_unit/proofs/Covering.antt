@@ -1,7 +1,7 @@
 -- The numbers spent before a take are below the marks of the book found, as it is seen from before what led to the
 -- take.
 use Rattle.std.proofs.Common.{◌≡◌, ◌⊎◌, inl, inr, ℕ, ◌≤◌, Bool, List, ap, subst, sym, ◌∙◌}
-use Rattle.sdls_base.specs.Numbers.{times, once_below}
+use Rattle.sdls_base.specs.Numbers.{tally, once_below}
 use Rattle.sdls_base.specs.declared.TheConstants.{MOST_KEYS}
 use Rattle.counter_table.specs.declared.view.Known.{Known}
 use Rattle.counter_table.specs.declared.view.Numbers.{Numbers}
@@ -23,7 +23,7 @@ back_spent row end n v w back = ap (λ (k : Numbers). k.spent) back.is ∙ ap (�
 covers_before : (v u : Numbers) (book : Known) → u.spent ≡ v.spent → IsCovered MOST_KEYS u book
     → IsCovered MOST_KEYS v book
 covers_before v u book same covered = λ row x there.
-    subst (λ (spent : List (ℕ × ℕ)). times row x spent ≤ once_below x (known_mark book row)) same (covered row x there)
+    subst (λ (spent : List (ℕ × ℕ)). tally row x spent ≤ once_below x (known_mark book row)) same (covered row x there)
 
 module _ (told : Bool) where
   pub covers_none : (v w : View) → w.turn ≡ v.turn → CoversIfTaken told v w

@@ -5,7 +5,7 @@ ghost use Rattle.counter_table.specs.Numbers.{joined, keeper, newcomer, ALL_SHAR
 ghost use Rattle.counter_table.specs.Turn.{beginner, merged};
 ghost use Rattle.counter_table.specs.Whole.{IsWhole, Meet};
 ghost use Rattle.counter_table.specs.Worker.{view, IsSame};
-ghost use Rattle.sdls_base.specs.Numbers.{times};
+ghost use Rattle.sdls_base.specs.Numbers.{tally};
 ghost use Rattle.sdls_base.specs.declared.TheConstants.{MOST_KEYS};
 ghost use Rattle.unit_book.specs.Book.{IsKept};
 ghost use Rattle.shared_unit.specs.Told.{known_of_book};
@@ -50,7 +50,7 @@ impl<O: Site> Unit<O> {
 
         // No number of a row was drawn twice, and what both knew is of an earlier time.
         ensures apart { (row x : ℕ) → row < MOST_KEYS
-            → times row x (view worker.old).numbers.drawn + times row x (view other).numbers.drawn ≤ 1 }
+            → tally row x (view worker.old).numbers.drawn + tally row x (view other).numbers.drawn ≤ 1 }
         ensures meet { Meet (view worker.old).turn (view other).turn }
 
         // Who has all shares did all.

@@ -8,14 +8,14 @@ use Rattle.answer_text.specs.declared.listing.AnswersEnd.{AnswersEnd}
 use Rattle.answer_text.specs.declared.listing.AnswersEnd.TheVariants as ends
 use Rattle.answer_text.specs.declared.form.Form.{Form}
 use Rattle.answer_text.specs.Line.{HasLine}
-use Rattle.answer_text.specs.Listing.{EndsAt, Place, behind}
+use Rattle.answer_text.specs.Listing.{EndsAt, ListingPlace, behind}
 use Rattle.text_streams.specs.declared.ends.End.{End}
 use Rattle.text_streams.specs.declared.ends.End.TheVariants.{Done, LineFault, LongLine, CutAnswer, NoAnswer, NoItem}
 use Rattle.text_streams.specs.declared.ends.End.TheVariants.{SourceFault, OutputFault, NoMemory}
 use Rattle.text_streams.specs.AnswerLines.{AreLines, FailsNext, PutsAnswers, PutsLine, TakesLine, end_of, first_place}
 use Rattle.text_streams.proofs.Writing.{between_behind}
 
-pub fails_of : (form : Form) (end : AnswersEnd) (place : Place) (left left_new old new : List ℕ)
+pub fails_of : (form : Form) (end : AnswersEnd) (place : ListingPlace) (left left_new old new : List ℕ)
     → EndsAt place.offset left left_new end
     → new ≡ old → FailsNext form place left old new (end_of end)
 fails_of form ends.Whole place left left_new old new is same = (is, same)
@@ -26,7 +26,7 @@ fails_of form ends.NoMemory place left left_new old new is same = same
 
 -- ---- one line more
 
-lines_more : (form : Form) (place last : Place) (answers : List Answer) (answer : Answer) (text line : List ℕ)
+lines_more : (form : Form) (place last : ListingPlace) (answers : List Answer) (answer : Answer) (text line : List ℕ)
     → AreLines form place answers last text
     → HasLine form last.index answer (λ its. line ≡ its)
     → AreLines form place (answers ++ answer ∷ []) (behind last answer) (text ++ line)
@@ -48,13 +48,14 @@ octets_more (first ∷ answers) answer =
     ∙ sym (append_assoc (answer_octets first) (answers_octets answers) (answer_octets answer))
 
 -- the lines of so many answers
-pub record Lines (form : Form) (left left_now : List ℕ) (place : Place) (count : ℕ) (text : List ℕ) : Type 0 where
+pub record Lines (form : Form) (left left_now : List ℕ) (place : ListingPlace) (count : ℕ)
+    (text : List ℕ) : Type 0 where
   pub answers : List Answer
   pub taken : left ≡ answers_octets answers ++ left_now
   pub counted : length answers ≡ count
   pub lines : AreLines form first_place answers place text
 
-more_lines : (form : Form) (left left_now left_next text line : List ℕ) (place place_next : Place) (count : ℕ)
+more_lines : (form : Form) (left left_now left_next text line : List ℕ) (place place_next : ListingPlace) (count : ℕ)
     → Lines form left left_now place count text
     → TakesLine form place place_next left_now left_next line
     → Lines form left left_next place_next (count + 1) (text ++ line)
@@ -71,12 +72,12 @@ more_lines form left left_now left_next text line place place_next count so_far 
     }
 
 -- they were put
-pub record Progress (form : Form) (left old left_now now : List ℕ) (place : Place) (count : ℕ) : Type 0 where
+pub record Progress (form : Form) (left old left_now now : List ℕ) (place : ListingPlace) (count : ℕ) : Type 0 where
   pub text : List ℕ
   pub lines : Lines form left left_now place count text
   pub put : now ≡ old ++ text
 
-pub forth : (form : Form) (left old left_now now left_next next : List ℕ) (place place_next : Place) (count : ℕ)
+pub forth : (form : Form) (left old left_now now left_next next : List ℕ) (place place_next : ListingPlace) (count : ℕ)
     → Progress form left old left_now now place count → PutsLine form place place_next left_now left_next now next
     → Progress form left old left_next next place_next (count + 1)
 forth form left old left_now now left_next next place place_next count so_far (line, takes, put) = record {
@@ -87,7 +88,7 @@ forth form left old left_now now left_next next place place_next count so_far (l
 
 -- ---- the ends
 
-pub ends_as : (form : Form) (end : End) (left old left_now now new : List ℕ) (place : Place) (count : ℕ)
+pub ends_as : (form : Form) (end : End) (left old left_now now new : List ℕ) (place : ListingPlace) (count : ℕ)
     → Progress form left old left_now now place count → FailsNext form place left_now now new end
     → PutsAnswers form left old new end
 ends_as form Done left old left_now now new place count so_far fails = record {

@@ -6,7 +6,7 @@ use Rattle.unit_plan.specs.Lines.{lines_of}
 use Rattle.record_io.specs.Input.{Item, item_octets, items_octets}
 use Rattle.input_text.specs.declared.line.Line.{Line}
 use Rattle.input_text.specs.Plain.{is_skipped}
-use Rattle.input_text.specs.Line.{Says, line_item}
+use Rattle.input_text.specs.Line.{SaysLine, line_item}
 use Rattle.text_streams.specs.Spelling.{SayItems}
 use Rattle.text_streams.specs.TextLine.{AddsNext, Reads}
 
@@ -20,7 +20,7 @@ skipped_more (line ∷ lines) items text (inr (says, rest, is, more, items_are))
     inr (says, rest, is, skipped_more lines rest text more skipped, items_are)
 
 said_more : (lines : List (List ℕ)) (items : List Item) (text : List ℕ) (next : Line) → SayItems lines items
-    → Says text next
+    → SaysLine text next
     → SayItems (lines ++ text ∷ []) (items ++ line_item next ∷ [])
 said_more [] items text next said is =
     inr (next, [], is, refl, ap (λ items. items ++ line_item next ∷ []) said)

@@ -3,11 +3,11 @@ use Rattle.std.proofs.Common.{◌≡◌, ℕ, List, [], ◌∷◌, ◌++◌, inr
 use Rattle.unit_plan.specs.Lines.{lines_of}
 use Rattle.record_io.specs.Input.{Item}
 use Rattle.input_text.specs.declared.line.Line.{Line}
-use Rattle.input_text.specs.Line.{IsLine, Says, line_item, line_words}
+use Rattle.input_text.specs.Line.{IsLine, SaysLine, line_item, line_words}
 use Rattle.text_streams.specs.Spelling.{AddsLine, IsNamed, SayItems, Spells, SpellsAll, joined, line_text}
 use Rattle.text_streams.proofs.PlainLines.{line_read, one_line}
 
-pub says_itself : (line : Line) → IsLine line → Says (joined (line_words line)) line
+pub says_itself : (line : Line) → IsLine line → SaysLine (joined (line_words line)) line
 says_itself line is = record { bounds = is; words = line_read line is }
 
 spells : (line : Line) (item : Item) → IsLine line → line_item line ≡ item → IsNamed line → Spells item (line_text line)

@@ -10,18 +10,18 @@ use Rattle.record_io.specs.declared.answer_cursor.NextAnswer.TheVariants as next
 use Rattle.record_io.specs.NextAnswer.{Stands}
 use Rattle.answer_text.specs.declared.form.Form.{Form}
 use Rattle.answer_text.specs.Line.{HasLine}
-use Rattle.answer_text.specs.Listing.{AddsLine, Place, StandsForeign, behind}
+use Rattle.answer_text.specs.Listing.{AddsLine, ListingPlace, StandsForeign, behind}
 use Rattle.text_streams.specs.declared.ends.End.{End}
 use Rattle.text_streams.specs.declared.ends.End.TheVariants.{Done, LineFault, LongLine, CutAnswer, NoAnswer, NoItem}
 use Rattle.text_streams.specs.declared.ends.End.TheVariants.{SourceFault, OutputFault, NoMemory}
 use Rattle.text_streams.specs.TextLine.{WasPut}
 
 -- before the first answer
-abbrev pub first_place : Place
+abbrev pub first_place : ListingPlace
 first_place = record { index = 0; offset = 0 }
 
 -- the text is the lines of these answers in this form, one after the other, from one place to another
-abbrev pub AreLines : Form → Place → List Answer → Place → List ℕ → Type 0
+abbrev pub AreLines : Form → ListingPlace → List Answer → ListingPlace → List ℕ → Type 0
 AreLines form place [] last text = (last ≡ place) × (text ≡ [])
 AreLines form place (answer ∷ answers) last text = (line rest : List ℕ)
     × HasLine form place.index answer (λ its. line ≡ its)
@@ -33,7 +33,7 @@ BeginsForeign left = (left_new : List ℕ) × (Stands left left_new next.Long �
 
 -- Why no line follows: nothing is left; what is left is cut; or what is left begins with what is no answer. Each is
 -- told with its offset.
-abbrev pub EndsNextAnswer : Place → List ℕ → End → Type 0
+abbrev pub EndsNextAnswer : ListingPlace → List ℕ → End → Type 0
 EndsNextAnswer place left Done = left ≡ []
 EndsNextAnswer place left (LineFault at fault) = ⊥
 EndsNextAnswer place left (LongLine at) = ⊥
@@ -46,17 +46,17 @@ EndsNextAnswer place left OutputFault = ⊥
 EndsNextAnswer place left NoMemory = ⊤
 
 -- the next answer was taken, and its line is this
-abbrev pub TakesLine : Form → Place → Place → List ℕ → List ℕ → List ℕ → Type 0
+abbrev pub TakesLine : Form → ListingPlace → ListingPlace → List ℕ → List ℕ → List ℕ → Type 0
 TakesLine form place place_new left left_new line = AddsLine form place place_new left left_new [] line
 
 -- the next answer was taken, and its line put
-abbrev pub PutsLine : Form → Place → Place → List ℕ → List ℕ → List ℕ → List ℕ → Type 0
+abbrev pub PutsLine : Form → ListingPlace → ListingPlace → List ℕ → List ℕ → List ℕ → List ℕ → Type 0
 PutsLine form place place_new left left_new old new = (line : List ℕ)
     × TakesLine form place place_new left left_new line × (new ≡ old ++ line)
 
 -- the next answer was taken, and of its line a front was put; or no line follows
-abbrev pub FailsNext : Form → Place → List ℕ → List ℕ → List ℕ → End → Type 0
-FailsNext form place left old new OutputFault = (place_new : Place) × (left_new line : List ℕ)
+abbrev pub FailsNext : Form → ListingPlace → List ℕ → List ℕ → List ℕ → End → Type 0
+FailsNext form place left old new OutputFault = (place_new : ListingPlace) × (left_new line : List ℕ)
     × TakesLine form place place_new left left_new line × Between old (old ++ line) new
 FailsNext form place left old new Done = EndsNextAnswer place left Done × (new ≡ old)
 FailsNext form place left old new (LineFault at fault) = ⊥
@@ -81,7 +81,7 @@ MOST_ANSWERS = 2 ^ 64 - 1
 
 -- Why no line follows behind so many answers: as for the next one; the output may have failed, and 2^64 - 1 answers
 -- count as ended.
-abbrev pub EndsBehindAnswers : ℕ → Place → List ℕ → End → Type 0
+abbrev pub EndsBehindAnswers : ℕ → ListingPlace → List ℕ → End → Type 0
 EndsBehindAnswers count place left Done = (left ≡ []) ⊎ (count ≡ MOST_ANSWERS)
 EndsBehindAnswers count place left (LineFault at fault) = ⊥
 EndsBehindAnswers count place left (LongLine at) = ⊥
@@ -98,7 +98,7 @@ pub record PutsAnswers (form : Form) (left old new : List ℕ) (end : End) : Typ
   pub answers : List Answer
   pub left_new : List ℕ
   pub taken : left ≡ answers_octets answers ++ left_new
-  pub place : Place
+  pub place : ListingPlace
   pub text : List ℕ
   pub lines : AreLines form first_place answers place text
   pub ends : EndsBehindAnswers (length answers) place left_new end

@@ -16,7 +16,7 @@ use Rattle.input_text.specs.declared.line.Line.{Line}
 use Rattle.input_text.specs.declared.line.Line.TheVariants as lines
 use Rattle.text_words.specs.Words.{spaced}
 use Rattle.input_text.specs.Plain.{is_skipped}
-use Rattle.input_text.specs.Line.{Says, line_item, line_words}
+use Rattle.input_text.specs.Line.{SaysLine, line_item, line_words}
 
 -- words, a space before each
 abbrev pub all_spaced : List (List ℕ) → List ℕ
@@ -76,7 +76,7 @@ pub record Spells (item : Item) (text : List ℕ) : Type 0 where
   pub front : List ℕ
   pub one_line : (rest : List ℕ) → lines_of (text ++ rest) ≡ front ∷ lines_of rest
   pub line : Line
-  pub says : Says front line
+  pub says : SaysLine front line
   pub item_is : line_item line ≡ item
   pub named : IsNamed line
 
@@ -94,4 +94,4 @@ SpellsAll (item ∷ items) text = (front rest : List ℕ) × Spells item front �
 abbrev pub SayItems : List (List ℕ) → List Item → Type 0
 SayItems [] items = items ≡ []
 SayItems (text ∷ texts) items = (IsTrue (is_skipped text) × SayItems texts items)
-    ⊎ ((line : Line) × (rest : List Item) × Says text line × SayItems texts rest × (items ≡ line_item line ∷ rest))
+    ⊎ ((line : Line) × (rest : List Item) × SaysLine text line × SayItems texts rest × (items ≡ line_item line ∷ rest))

@@ -5,7 +5,7 @@ use Rattle.unit_plan.specs.Lines.{lines_of}
 use Rattle.record_io.specs.Input.{Item, beginning, item_octets, items_octets}
 use Rattle.input_text.specs.declared.line.Line.{Line}
 use Rattle.input_text.specs.Plain.{is_skipped}
-use Rattle.input_text.specs.Line.{Says, line_item}
+use Rattle.input_text.specs.Line.{SaysLine, line_item}
 use Rattle.text_streams.specs.Spelling.{SayItems}
 use Rattle.text_streams.specs.declared.ends.End.{End}
 use Rattle.text_streams.specs.declared.ends.End.TheVariants.{Done, LineFault, LongLine, CutAnswer, NoAnswer, NoItem}
@@ -42,7 +42,7 @@ TakesLine left left_new next.SourceFault = ⊤
 -- a line that is skipped adds nothing, and any other the octets of the item that it says
 abbrev pub Adds : List ℕ → List ℕ → List ℕ → Type 0
 Adds text old new =
-    (IsTrue (is_skipped text) × (new ≡ old)) ⊎ ((line : Line) × Says text line
+    (IsTrue (is_skipped text) × (new ≡ old)) ⊎ ((line : Line) × SaysLine text line
     × (new ≡ old ++ item_octets (line_item line)))
 
 -- the first line was taken, and added
@@ -53,7 +53,7 @@ pub record AddsNext (left left_new old new : List ℕ) : Type 0 where
 
 -- the line says nothing
 abbrev pub SaysNothing : List ℕ → Type 0
-SaysNothing text = (line : Line) → Says text line → ⊥
+SaysNothing text = (line : Line) → SaysLine text line → ⊥
 
 -- the fault of this line comes with its number, and only where the line says nothing; lack of memory needs no cause
 abbrev pub EndsAt : ℕ → List ℕ → End → Type 0

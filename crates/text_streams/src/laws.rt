@@ -3,13 +3,13 @@ ghost use Rattle.std.specs.Prelude.{ℕ, List};
 ghost use Rattle.unit_plan.specs.Lines.{lines_of};
 ghost use Rattle.record_io.specs.Input.{Item};
 ghost use Rattle.input_text.specs.declared.line.Line.{Line};
-ghost use Rattle.input_text.specs.Line.{IsLine, Says, line_words};
+ghost use Rattle.input_text.specs.Line.{IsLine, SaysLine, line_words};
 ghost use Rattle.text_streams.specs.Spelling.{SayItems, SpellsAll, joined};
 
 /// Law: the words of a line in bounds, one space between two of them, say this line.
 #[tactic(auto, using(crate::proofs::SaidAgain::says_itself))]
 pub fn line_says_itself()
-    ensures { (line : Line) → IsLine line → Says (joined (line_words line)) line }
+    ensures { (line : Line) → IsLine line → SaysLine (joined (line_words line)) line }
 {}
 
 /// Law: the lines of items, one after the other, say these items.

@@ -20,7 +20,7 @@ use Rattle.unit_state.specs.declared.state.State.{State}
 use Rattle.unit_state.specs.State.{key_row}
 use Rattle.unit_state.specs.Applied.{applied}
 use Rattle.unit_state.specs.Restart.{IsLight, counts, still, still_key, still_association}
-use Rattle.unit_state.specs.History.{after, after_first, at_epoch, epoch_after}
+use Rattle.unit_state.specs.History.{after_all, after_first, at_epoch, epoch_after}
 use Rattle.unit_state.specs.Laws.{ServeAlike}
 use Rattle.unit_state.proofs.Histories.{at_epoch_more, epochs_more}
 use Rattle.unit_state.proofs.StateLaws.{light_still, serves_alike}
@@ -61,7 +61,7 @@ one_less true n rest e = omega arith
 one_less false n rest e = omega arith
 
 still_at : (state : State) (entries : List Entry) (epoch : ℕ) → epoch ≡ epoch_after entries
-    → still (after state entries) ≡ still (at_epoch state entries epoch)
+    → still (after_all state entries) ≡ still (at_epoch state entries epoch)
 still_at state [] zero e = refl
 still_at state [] (suc epoch) e = absurd (let no : ⊥ = omega arith in no)
 still_at state (entry ∷ entries) zero e =

@@ -7,27 +7,27 @@ use Rattle.unit_image.specs.Image.{Becomes, HasOneClosed, Held, held, Holds, IsA
 use Rattle.unit_state.specs.declared.state.State.{State}
 use Rattle.unit_state.specs.Applied.{applied}
 use Rattle.unit_state.specs.Restart.{restarted}
-use Rattle.unit_state.specs.History.{after, after_first}
-use Rattle.unit_image.specs.Shows.{Says, Shows}
+use Rattle.unit_state.specs.History.{after_all, after_first}
+use Rattle.unit_image.specs.Shows.{SaysState, Shows}
 use Rattle.run_promise.specs.Sound.{ShowsAfter}
 use Rattle.unit_book.specs.Book.{ShowsFrom}
 
-pub after_entry : (start : State) (entries : List Entry) (entry : Entry) → after start (entries ++ entry ∷ [])
-    ≡ applied (after start entries) entry.change
+pub after_entry : (start : State) (entries : List Entry) (entry : Entry) → after_all start (entries ++ entry ∷ [])
+    ≡ applied (after_all start entries) entry.change
 after_entry start [] entry = refl
 after_entry start (first ∷ entries) entry = after_entry (applied start first.change) entries entry
 
 pub first_same : (start : State) (entries more : List Entry) (p : ℕ) → p ≤ length entries
     → after_first start (entries ++ more) p ≡ after_first start entries p
-first_same start entries more p low = ap (after start) (take-append-le p entries more low)
+first_same start entries more p low = ap (after_all start) (take-append-le p entries more low)
 
 pub first_all : (start : State) (entries : List Entry) (p : ℕ) → length entries ≤ p → after_first start entries p
-    ≡ after start entries
-first_all start entries p high = ap (after start) (take_all p entries high)
+    ≡ after_all start entries
+first_all start entries p high = ap (after_all start) (take_all p entries high)
 
 -- what an image that shows a state holds says the state
-pub says_held : (image : List ℕ) (state : State) → Shows image state → Says (held image) state
-says_held image state shows = subst (λ (what : Held). Says what state) (sym shows.holds.is) shows.says
+pub says_held : (image : List ℕ) (state : State) → Shows image state → SaysState (held image) state
+says_held image state shows = subst (λ (what : Held). SaysState what state) (sym shows.holds.is) shows.says
 
 -- an image at rest has no closed gate at all
 rests_settled : (image : List ℕ) → IsAtRest image → HasOneClosed image
@@ -67,7 +67,7 @@ shows_from_less start entries least more image low (p, above, shows) = (p, omega
 
 -- all entries are shown, by an image at rest
 pub shows_from_all : (start : State) (entries : List Entry) (image : List ℕ)
-    → Shows image (restarted (after start entries))
+    → Shows image (restarted (after_all start entries))
     → IsAtRest image → ShowsFrom start entries (length entries) image
 shows_from_all start entries image shows rests = (
   length entries,
@@ -84,18 +84,19 @@ shows_from_all start entries image shows rests = (
 -- An image in a change from what was held to what is held next: it shows all entries before the one more, and that one
 -- where it holds the next, as its opened forms do.
 pub shows_becomes : (start : State) (entries : List Entry) (entry : Entry) (old next : Held) (image : List ℕ)
-    → Becomes old next image → Says old (restarted (after start entries))
-    → Says next (restarted (after start (entries ++ entry ∷ [])))
+    → Becomes old next image → SaysState old (restarted (after_all start entries))
+    → SaysState next (restarted (after_all start (entries ++ entry ∷ [])))
     → ShowsFrom start (entries ++ entry ∷ []) (length entries) image
 shows_becomes start entries entry old next image becomes says_old says_next =
     let size : length (entries ++ entry ∷ []) ≡ length entries + 1 = length-append entries (entry ∷ []) in
-    let whole : after_first start (entries ++ entry ∷ []) (length entries + 1) ≡ after start (entries ++ entry ∷ []) =
+    let whole : after_first start (entries ++ entry ∷ []) (length entries + 1)
+    ≡ after_all start (entries ++ entry ∷ []) =
     first_all start (entries ++ entry ∷ []) (length entries + 1) (omega arith) in
-    let part : after_first start (entries ++ entry ∷ []) (length entries) ≡ after start entries =
+    let part : after_first start (entries ++ entry ∷ []) (length entries) ≡ after_all start entries =
     first_same start entries (entry ∷ []) (length entries) (omega arith) ∙ first_all start entries (length entries)
     (omega arith) in
-    let next_says : Says next (restarted (after_first start (entries ++ entry ∷ []) (length entries + 1))) =
-    subst (λ (s : State). Says next (restarted s)) (sym whole) says_next in
+    let next_says : SaysState next (restarted (after_first start (entries ++ entry ∷ []) (length entries + 1))) =
+    subst (λ (s : State). SaysState next (restarted s)) (sym whole) says_next in
     elim becomes.holds [
       | inl holds ↦ (
         length entries,
@@ -105,7 +106,7 @@ shows_becomes start entries entry old next image becomes says_old says_next =
           shows = record {
             what = old;
             holds = holds;
-            says = subst (λ (s : State). Says old (restarted s)) (sym part) says_old;
+            says = subst (λ (s : State). SaysState old (restarted s)) (sym part) says_old;
           };
           forms = λ form is. (
             length entries + 1,
@@ -146,7 +147,7 @@ shows_becomes start entries entry old next image becomes says_old says_next =
 -- an image at rest that holds the next shows the one more
 pub shows_next : (start : State) (entries : List Entry) (entry : Entry) (next : Held) (image : List ℕ)
     → Holds image next → IsAtRest image
-    → Says next (restarted (after start (entries ++ entry ∷ [])))
+    → SaysState next (restarted (after_all start (entries ++ entry ∷ [])))
     → ShowsFrom start (entries ++ entry ∷ []) (length entries + 1) image
 shows_next start entries entry next image holds rests says =
     subst (λ (n : ℕ). ShowsFrom start (entries ++ entry ∷ []) n image) (length-append entries (entry ∷ []))

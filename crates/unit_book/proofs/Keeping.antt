@@ -14,9 +14,9 @@ use Rattle.unit_state.specs.declared.state.State.{State}
 use Rattle.unit_state.specs.Applied.{applied}
 use Rattle.unit_state.specs.Allows.{Allows}
 use Rattle.unit_state.specs.Restart.{restarted, counts}
-use Rattle.unit_state.specs.History.{after, after_first, epoch_after}
+use Rattle.unit_state.specs.History.{after_all, after_first, epoch_after}
 use Rattle.unit_state.proofs.RulesKept.{rules_kept}
-use Rattle.unit_image.specs.Shows.{Says}
+use Rattle.unit_image.specs.Shows.{SaysState}
 use Rattle.unit_image.specs.Storing.{KeepsPlaces, LeavesRest, LeavesRestImage, Stores}
 use Rattle.unit_image.specs.declared.storing.SiteFault.{SiteFault}
 use Rattle.unit_image.proofs.Outside.{beside_then}
@@ -116,7 +116,7 @@ module _ (told : Bool) (old : BookView) (entry : Entry)
   pub all_stand : old.standing ≡ length (entries_of old.log)
   all_stand = r.kept.whole r.can.0
 
-  pub state_is : old.state ≡ after old.start (entries_of old.log)
+  pub state_is : old.state ≡ after_all old.start (entries_of old.log)
   state_is =
       let whole : old.standing ≡ length (entries_of old.log) = all_stand in
       r.kept.led ∙ first_all old.start (entries_of old.log) old.standing (omega arith)
@@ -134,7 +134,7 @@ module _ (told : Bool) (old : BookView) (entry : Entry)
       let longer : length (entries_of (old.log ++ logged.Entry entry ∷ [])) ≡ length (entries_of old.log) + 1 = size in
       ap (λ (s : State). applied s entry.change) state_is
       ∙ sym (after_entry old.start (entries_of old.log) entry)
-      ∙ ap (after old.start) (sym more)
+      ∙ ap (after_all old.start) (sym more)
       ∙ sym (first_all old.start (entries_of (old.log ++ logged.Entry entry ∷ [])) (old.standing + 1) (omega arith))
 
   epoch : old.changes + (if counts entry.change then 1 else 0)
@@ -157,19 +157,20 @@ module _ (told : Bool) (old : BookView) (entry : Entry)
       marks_then old.start old.state (applied old.state entry.change) (r.kept.marks parts.0) (r.keeps parts.1)
 
   -- the next says the state after the entry
-  next_entry : (next : Held) → (Says (held old.site.trace.now.image) (restarted old.state)
-      → Says next (restarted (applied old.state entry.change)))
+  next_entry : (next : Held) → (SaysState (held old.site.trace.now.image) (restarted old.state)
+      → SaysState next (restarted (applied old.state entry.change)))
       → IsTrue told → NextEntry old.start old.log entry old.site.trace.now.image next
   next_entry next leads is_told =
-      let says : Says (held old.site.trace.now.image) (restarted (after old.start (entries_of old.log))) =
-      says_held old.site.trace.now.image (restarted (after old.start (entries_of old.log)))
+      let says : SaysState (held old.site.trace.now.image) (restarted (after_all old.start (entries_of old.log))) =
+      says_held old.site.trace.now.image (restarted (after_all old.start (entries_of old.log)))
       (r.kept.current is_told r.can.0).shows in
       record {
         says = says;
-        then = subst (λ (s : State). Says next (restarted s))
+        then = subst (λ (s : State). SaysState next (restarted s))
             (ap (λ (s : State). applied s entry.change) state_is
             ∙ sym (after_entry old.start (entries_of old.log) entry))
-            (leads (subst (λ (s : State). Says (held old.site.trace.now.image) (restarted s)) (sym state_is) says));
+            (leads (subst (λ (s : State). SaysState (held old.site.trace.now.image) (restarted s))
+            (sym state_is) says));
       }
 
   -- the plan stays while the entry is stored
@@ -215,7 +216,8 @@ module _ (told : Bool) (old : BookView) (entry : Entry)
               shows = record {
                 what = s.next;
                 holds = record { opens = s.done.0.of_image.closed.of_image.opens; is = s.done.1 };
-                says = subst (λ (entries : List Entry). Says s.next (restarted (after old.start entries))) (sym more)
+                says = subst (λ (entries : List Entry). SaysState s.next (restarted (after_all old.start entries)))
+                    (sym more)
                     (next_entry s.next s.says is_told).then;
               };
             };

@@ -12,7 +12,7 @@ use Rattle.unit_state.specs.declared.state.State.{State}
 use Rattle.unit_state.specs.State.{KeepsRules}
 use Rattle.unit_state.specs.Applied.{applied}
 use Rattle.unit_state.specs.Restart.{still}
-use Rattle.unit_state.specs.History.{after, epoch_after}
+use Rattle.unit_state.specs.History.{after_all, epoch_after}
 use Rattle.unit_state.specs.Laws.{KeepsPlaces}
 use Rattle.unit_state.proofs.StateLaws.{places_kept}
 use Rattle.run_promise.specs.Log.{entries_of}
@@ -40,7 +40,7 @@ kept_changes told book kept =
 -- where the site has not failed, all entries stand
 pub kept_whole : (told : Bool) (book : BookView) → IsKept told book
     → ¬ Rose book.opened.faults book.site.faults
-    → (book.state ≡ after book.start (entries_of book.log)) × (book.changes ≡ epoch_after (entries_of book.log))
+    → (book.state ≡ after_all book.start (entries_of book.log)) × (book.changes ≡ epoch_after (entries_of book.log))
 kept_whole told book kept not =
     let whole : book.standing ≡ length (entries_of book.log) = kept.whole not in
     let all : length (entries_of book.log) ≤ book.standing = omega arith in (
@@ -59,7 +59,7 @@ bounds_of state rules = record {
   marks = λ key place there. mark_placed state key place there;
 }
 
-pub places_after : (state : State) (entries : List Entry) → KeepsPlaces state (after state entries)
+pub places_after : (state : State) (entries : List Entry) → KeepsPlaces state (after_all state entries)
 places_after state [] id place there = there
 places_after state (entry ∷ entries) id place there =
     places_after (applied state entry.change) entries id place (places_kept state entry.change id place there)

@@ -14,8 +14,8 @@ use Rattle.sdls_outside.proofs.Moments.{leaves_same}
 use Rattle.unit_image.specs.Image.{Becomes, EachImage, Held, held, IsAtRest, IsSettled, IsSettledImage, JournalView}
 use Rattle.unit_state.specs.declared.state.State.{State}
 use Rattle.unit_state.specs.Restart.{restarted}
-use Rattle.unit_state.specs.History.{after}
-use Rattle.unit_image.specs.Shows.{Says, Shows}
+use Rattle.unit_state.specs.History.{after_all}
+use Rattle.unit_image.specs.Shows.{SaysState, Shows}
 use Rattle.run_promise.specs.Log.{entries_of, pieces_of}
 use Rattle.unit_book.specs.Log.{sunk_between}
 use Rattle.unit_book.specs.Book.{ShowsFrom, Serves, IsHistory, IsCurrent}
@@ -215,7 +215,7 @@ puts_current octets old new start journal entries (inr sank) current = record {
     synced = sank_synced octets old new sank current.settled.synced;
     of_image = subst (λ (image : List ℕ). IsSettledImage image journal) (sym sank.image) current.settled.of_image;
   };
-  shows = subst (λ (image : List ℕ). Shows image (restarted (after start entries))) (sym sank.image) current.shows;
+  shows = subst (λ (image : List ℕ). Shows image (restarted (after_all start entries))) (sym sank.image) current.shows;
 }
 
 pub piece_current : (octets : List ℕ) (old new : Trace) (start : State) (journal : JournalView) (log : List Logged)
@@ -241,8 +241,8 @@ entry_pieces log entry = pieces_more log (logged.Entry entry) ∙ append_nil (pi
 -- is held
 -- next says the state after the entry too.
 pub record NextEntry (start : State) (log : List Logged) (entry : Entry) (image : List ℕ) (next : Held) : Type 0 where
-  pub says : Says (held image) (restarted (after start (entries_of log)))
-  pub then : Says next (restarted (after start (entries_of log ++ entry ∷ [])))
+  pub says : SaysState (held image) (restarted (after_all start (entries_of log)))
+  pub then : SaysState next (restarted (after_all start (entries_of log ++ entry ∷ [])))
 
 -- the moments while an entry is stored, which is one more
 append_moments : (opened old new : Trace) (start : State) (log : List Logged) (entry : Entry)

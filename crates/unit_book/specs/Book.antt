@@ -15,7 +15,7 @@ use Rattle.unit_state.specs.declared.state.State.{State}
 use Rattle.unit_state.specs.State.{KeepsRules}
 use Rattle.unit_state.specs.Applied.{applied}
 use Rattle.unit_state.specs.Restart.{restarted, counts, IsLight}
-use Rattle.unit_state.specs.History.{after, after_first, epoch_after}
+use Rattle.unit_state.specs.History.{after_all, after_first, epoch_after}
 use Rattle.unit_image.specs.Shows.{Shows}
 use Rattle.unit_book.specs.declared.fault.BookFault.{BookFault}
 use Rattle.unit_book.specs.declared.fault.BookFault.TheVariants.{SiteFault, Stopped, SessionFull, NoMemory}
@@ -71,7 +71,7 @@ pub record IsHistory (opened now : Trace) (start : State) (log : List Logged) (s
 -- the image shows all entries, and the next can be stored
 pub record IsCurrent (now : Trace) (start : State) (journal : JournalView) (entries : List Entry) : Type 0 where
   pub settled : IsSettled now journal
-  pub shows : Shows now.now.image (restarted (after start entries))
+  pub shows : Shows now.now.image (restarted (after_all start entries))
 
 -- outside its banks the image is the one that the opening left, and its plan has the octets that were read
 pub record IsAsOpened (read opened now : List ℕ) (journal : JournalView) : Type 0 where

@@ -9,7 +9,7 @@ use Rattle.replay_window.specs.declared.window.Window.{Window}
 use Rattle.replay_window.specs.Window.{accepted, IsAhead, IsLate, IsFresh}
 use Rattle.unit_state.specs.declared.state.State.{State}
 use Rattle.unit_state.specs.Applied.{applied}
-use Rattle.unit_state.specs.History.{after}
+use Rattle.unit_state.specs.History.{after_all}
 use Rattle.unit_state.proofs.Histories.{after_more}
 use Rattle.unit_drill.proofs.Judging.{receiving}
 use Rattle.unit_drill.proofs.Lanes.{accepted_on, begun, each, key_on, with_on}
@@ -26,7 +26,7 @@ pub record Taken (es : List Entry) : Type 0 where
   pub highs : ℕ → ℕ
   pub floors : ℕ → ℕ
   pub each_is : (lane : ℕ) → HasNoBack (windows lane) (highs lane)
-  pub is : after (receiving begun (each 0)) es ≡ receiving windows floors
+  pub is : after_all (receiving begun (each 0)) es ≡ receiving windows floors
 
 abbrev pub none_taken : Taken []
 none_taken = record {
@@ -68,7 +68,7 @@ taken_nothing es entry nothing t = (
     floors = t.floors;
     each_is = t.each_is;
     is = after_more (receiving begun (each 0)) es (entry ∷ [])
-        ∙ (ap (applied (after (receiving begun (each 0)) es)) nothing ∙ t.is);
+        ∙ (ap (applied (after_all (receiving begun (each 0)) es)) nothing ∙ t.is);
   },
   refl,
 )

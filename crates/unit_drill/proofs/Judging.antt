@@ -12,7 +12,7 @@ use Rattle.unit_drill.specs.Plans.{link_line}
 use Rattle.unit_drill.proofs.Read.{receiver_bare}
 use Rattle.unit_drill.proofs.Binding.{bound_to, clear_on, field_by}
 use Rattle.unit_drill.proofs.Lanes.{each, four, key_on, row_on, state_at, suite_on}
-use Rattle.unit_drill.proofs.Opening.{Judges, OpensOnce, judges}
+use Rattle.unit_drill.proofs.Opening.{JudgesOpening, OpensOnce, judges}
 
 abbrev pub receiving : (ℕ → Window) → (ℕ → ℕ) → State
 receiving windows floors = state_at 2 Receive (each 1) windows floors
@@ -28,7 +28,7 @@ pub judges_on : OpensOnce → (windows : ℕ → Window) (floors : ℕ → ℕ) 
     (reply : OpenReply) (lane : ℕ) → lane < 4
     → Protects (bound_to 1 (lane + 1) (suite_on lane) (key_on lane) (lane + 1)) n (clear_on lane s (field_by g)) out
     → IsOpenReply receiver_bare (receiving windows floors) 0 out reply field
-    → Judges (row_on Receive windows lane) (lane + 1) (key_on lane) n (field_by g) reply field
+    → JudgesOpening (row_on Receive windows lane) (lane + 1) (key_on lane) n (field_by g) reply field
 judges_on once windows floors n s g out field reply = four _
     (judges once (receiving windows floors) 0 1 (suite_on 0) (key_on 0) 1 (row_on Receive windows 0) (omega arith) refl
     (λ rest. refl)

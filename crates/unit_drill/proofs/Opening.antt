@@ -42,11 +42,11 @@ OpensOnce = (b : Binding) (frame : List ℕ) (n m : ℕ) (field other : List ℕ
     → Opens b frame m other → (n ≡ m) × (field ≡ other)
 
 -- the reply accepts the number, which is fresh, with this data field; or it tells that the number is not fresh
-pub data Judges (row : SaRow) (spi key n : ℕ) (own : List ℕ) (reply : OpenReply) (field : List ℕ) : Type 0 where
+pub data JudgesOpening (row : SaRow) (spi key n : ℕ) (own : List ℕ) (reply : OpenReply) (field : List ℕ) : Type 0 where
   takes : (from to : ℕ) → reply ≡ Accepted spi key n from to → field ≡ own → IsFresh row.window n (end_of key)
-      → Judges row spi key n own reply field
+      → JudgesOpening row spi key n own reply field
   refuses : (high width : ℕ) → reply ≡ Number key n high width → (IsFresh row.window n (end_of key) → ⊥)
-      → Judges row spi key n own reply field
+      → JudgesOpening row spi key n own reply field
 
 -- the parts of a clear frame
 abbrev plain : ℕ → ℕ → List ℕ → TcParts
@@ -143,7 +143,7 @@ module _ (once : OpensOnce) (state : State) (channel spi : ℕ) (suite : Suite) 
 
   judged : (n : ℕ) (out own field : List ℕ) → Opens receives out n own → (reply : OpenReply)
       → IsJudged row receives out reply field
-      → Judges row spi key n own reply field
+      → JudgesOpening row spi key n own reply field
   judged n out own field opens (Accepted spi_told key_told number from to) is =
       let same = once receives out number n field own is.opens opens in
       let named_so : Accepted spi_told key_told number from to ≡ Accepted spi key n from to =
@@ -172,7 +172,7 @@ module _ (once : OpensOnce) (state : State) (channel spi : ℕ) (suite : Suite) 
   replied : (n s : ℕ) (room out own field rest : List ℕ) (reply : OpenReply)
       → TcFrame (record { segment = false; fecf = true; most = 1024 }) (plain channel s room) out
       → room ≡ 0 ∷ spi ∷ rest → Opens receives out n own → IsReplyOn receiver_bare state 0 out reply field link_line
-      → Judges row spi key n own reply field
+      → JudgesOpening row spi key n own reply field
   replied n s room out own field rest reply framed begins opens r =
       let none : first_fault link_line.layout out ≡ None =
       no_fault link_line.layout (tc (plain channel s room)) out framed in
@@ -208,7 +208,7 @@ module _ (once : OpensOnce) (state : State) (channel spi : ℕ) (suite : Suite) 
 
   pub judges : (n s : ℕ) (g : ℕ → ℕ) (out field : List ℕ) (reply : OpenReply)
       → Protects sends n (clear_on channel s (field_by g)) out
-      → IsOpenReply receiver_bare state 0 out reply field → Judges row spi key n (field_by g) reply field
+      → IsOpenReply receiver_bare state 0 out reply field → JudgesOpening row spi key n (field_by g) reply field
   judges n s g out field reply is replies =
       let parts = clear_parts s g is.parts is.clear_framed in
       let framed : TcFrame (record { segment = false; fecf = true; most = 1024 }) (plain channel s is.room) out =

@@ -23,7 +23,7 @@ use Rattle.counter_table.specs.declared.view.View.{View}
 use Rattle.unit_plan.specs.PlanLines.{PlanLines}
 use Rattle.unit_state.specs.declared.state.State.{State}
 use Rattle.unit_state.specs.State.{KeepsRules}
-use Rattle.unit_state.specs.History.{after}
+use Rattle.unit_state.specs.History.{after_all}
 use Rattle.frame_shield.specs.Protects.{Protects}
 use Rattle.frame_checks.specs.declared.open_reply.OpenReply.{OpenReply}
 use Rattle.frame_checks.specs.declared.open_reply.OpenReply.TheVariants.{Accepted}
@@ -45,7 +45,7 @@ use Rattle.unit_drill.proofs.Accepting.{Taken, none_taken, above_fresh, fresh_ab
 use Rattle.unit_drill.proofs.Binding.{bound_to, field_by}
 use Rattle.unit_drill.proofs.Judging.{judges_on, receiving}
 use Rattle.unit_drill.proofs.Lanes.{begun, each, end_on, key_on, key_own, row_on, suite_on, with_on}
-use Rattle.unit_drill.proofs.Opening.{Judges, OpensOnce, refuses, takes}
+use Rattle.unit_drill.proofs.Opening.{JudgesOpening, OpensOnce, refuses, takes}
 use Rattle.unit_drill.proofs.Sending.{Done, clear_is, drawers_few, in_one, records_back}
 
 -- frames that a sender protected: their octets, and the numbers under which they were, which ascend on each lane
@@ -116,7 +116,7 @@ module _ (IsAt : ℕ → ℕ → Type 0) (once : OpensOnce) (layout : Layout) (b
   abbrev pub near : ℕ → ℕ → Type 0
   near = NearWord begin.start entries tasks
 
-  kept : KeepsRules (after begin.start entries)
+  kept : KeepsRules (after_all begin.start entries)
   kept = rules_at_end begin first now (map in_one tasks) deeds done.opened
       (subst (λ (ts : List Record). Does begin first now ts deeds) (sym (records_back tasks)) done.handled.does)
       done.whole done.plan_is done.rules
@@ -130,11 +130,11 @@ module _ (IsAt : ℕ → ℕ → Type 0) (once : OpensOnce) (layout : Layout) (b
 
   -- each entry is that of a frame that was opened
   opening_at : (p : ℕ) (entry : Entry) → slice_get entries p ≡ Some entry
-      → IsOpening receiver_bare (after (receiving begun (each 0)) (take p entries)) tasks entry
+      → IsOpening receiver_bare (after_all (receiving begun (each 0)) (take p entries)) tasks entry
   opening_at p entry there =
-      let legal_so : IsLegal near receiver_bare (after (receiving begun (each 0)) (take p entries)) tasks entry =
-      subst (λ (s : State). IsLegal near receiver_bare (after s (take p entries)) tasks entry) start
-      (subst (λ (l : PlanLines). IsLegal near l (after begin.start (take p entries)) tasks entry) plan
+      let legal_so : IsLegal near receiver_bare (after_all (receiving begun (each 0)) (take p entries)) tasks entry =
+      subst (λ (s : State). IsLegal near receiver_bare (after_all s (take p entries)) tasks entry) start
+      (subst (λ (l : PlanLines). IsLegal near l (after_all begin.start (take p entries)) tasks entry) plan
       (history.each p entry there)) in
       elim legal_so [
         | inl opening ↦ opening
@@ -188,21 +188,22 @@ module _ (IsAt : ℕ → ℕ → Type 0) (once : OpensOnce) (layout : Layout) (b
   -- what the receiver replies to a record in the state after some entries
   replies_to : (p : ℕ) (t : Taken (take p entries)) (task : Record) (hand : Handed IsAt total octets task)
       (reply : OpenReply) (field : List ℕ)
-      → IsOpenReply receiver_bare (after (receiving begun (each 0)) (take p entries)) task.link task.octets reply field
-      → Judges (row_on Receive t.windows (hand.frame % 4)) (hand.frame % 4 + 1) (key_on (hand.frame % 4))
+      → IsOpenReply receiver_bare
+      (after_all (receiving begun (each 0)) (take p entries)) task.link task.octets reply field
+      → JudgesOpening (row_on Receive t.windows (hand.frame % 4)) (hand.frame % 4 + 1) (key_on (hand.frame % 4))
       (numbers hand.frame)
       (data_field hand.frame) reply field
   replies_to p t task hand reply field is =
       let i = hand.frame in
       let same : IsOpenReply receiver_bare (receiving t.windows t.floors) 0 (octets i) reply field =
       subst (λ (s : State). IsOpenReply receiver_bare s 0 (octets i) reply field) t.is
-      (subst (λ (r : Record). IsOpenReply receiver_bare (after (receiving begun (each 0)) (take p entries)) r.link
+      (subst (λ (r : Record). IsOpenReply receiver_bare (after_all (receiving begun (each 0)) (take p entries)) r.link
       r.octets reply field) hand.is is) in
       let protects = subst (λ (c : List ℕ). Protects
       (bound_to 1 (i % 4 + 1) (suite_on (i % 4)) (key_on (i % 4)) (i % 4 + 1)) (numbers i) c (octets i))
       (clear_is i)
       (sent.protects i hand.within) in
-      subst (λ (own : List ℕ). Judges (row_on Receive t.windows (i % 4)) (i % 4 + 1) (key_on (i % 4))
+      subst (λ (own : List ℕ). JudgesOpening (row_on Receive t.windows (i % 4)) (i % 4 + 1) (key_on (i % 4))
       (numbers i) own reply field) (sym (field_is i))
       (judges_on once t.windows t.floors (numbers i) (i % 256) (field_octet i) (octets i) field reply (i % 4)
       (omega arith) protects same)
@@ -238,7 +239,7 @@ module _ (IsAt : ℕ → ℕ → Type 0) (once : OpensOnce) (layout : Layout) (b
   old_by false lane other number new old e low up = low
 
   module _ (p : ℕ) (entry : Entry) (there : slice_get entries p ≡ Some entry) (before : Took p (take p entries)) where
-    abbrev opening : IsOpening receiver_bare (after (receiving begun (each 0)) (take p entries)) tasks entry
+    abbrev opening : IsOpening receiver_bare (after_all (receiving begun (each 0)) (take p entries)) tasks entry
     opening = opening_at p entry there
 
     abbrev hand : Handed IsAt total octets opening.task
@@ -262,7 +263,7 @@ module _ (IsAt : ℕ → ℕ → Type 0) (once : OpensOnce) (layout : Layout) (b
         → IsFresh (before.taken.windows lane) number (end_of (key_on lane))
         → Took (suc p) (take p entries ++ entry ∷ [])
     took_number from to reply fresh =
-        let state = after (receiving begun (each 0)) (take p entries) in
+        let state = after_all (receiving begun (each 0)) (take p entries) in
         let change : entry.change ≡ changes.Accepted (lane + 1) (key_on lane) number
         (raised_floor receiver_bare (receiving before.taken.windows before.taken.floors)
         (key_on lane) number) =
@@ -338,7 +339,7 @@ module _ (IsAt : ℕ → ℕ → Type 0) (once : OpensOnce) (layout : Layout) (b
     took_next = elim (replies_to p before.taken opening.task hand opening.reply opening.field opening.replies) [
       | takes from to reply field fresh ↦ took_number from to reply fresh
       | refuses high width reply stale ↦ took_nothing (ap (λ (e : Entry). e.change) opening.entry_is
-          ∙ ap (frame_change receiver_bare (after (receiving begun (each 0)) (take p entries))) reply)
+          ∙ ap (frame_change receiver_bare (after_all (receiving begun (each 0)) (take p entries))) reply)
     ]
 
   pub took : (p : ℕ) → p ≤ length entries → Took p (take p entries)
@@ -365,10 +366,10 @@ module _ (IsAt : ℕ → ℕ → Type 0) (once : OpensOnce) (layout : Layout) (b
   pub record TellsEntry (task : Record) (answer : Answer) : Type 0 where
     pub reply : OpenReply
     pub field : List ℕ
-    pub replies : IsOpenReply receiver_bare (after (receiving begun (each 0)) (take (answer.position - 1) entries))
+    pub replies : IsOpenReply receiver_bare (after_all (receiving begun (each 0)) (take (answer.position - 1) entries))
         task.link task.octets reply field
     pub there : slice_get entries (answer.position - 1)
-        ≡ Some (frame_entry receiver_bare (after (receiving begun (each 0)) (take (answer.position - 1) entries))
+        ≡ Some (frame_entry receiver_bare (after_all (receiving begun (each 0)) (take (answer.position - 1) entries))
         task.index reply)
     pub tells : told_by answer ≡ opened_told reply field
 
@@ -378,13 +379,14 @@ module _ (IsAt : ℕ → ℕ → Type 0) (once : OpensOnce) (layout : Layout) (b
       record {
         reply = is.reply;
         field = is.field;
-        replies = subst (λ (s : State). IsOpenReply receiver_bare (after s (take place entries)) task.link task.octets
+        replies = subst (λ (s : State). IsOpenReply receiver_bare
+            (after_all s (take place entries)) task.link task.octets
             is.reply is.field) start
-            (subst (λ (l : PlanLines). IsOpenReply l (after begin.start (take place entries)) task.link task.octets
+            (subst (λ (l : PlanLines). IsOpenReply l (after_all begin.start (take place entries)) task.link task.octets
             is.reply is.field) plan is.replies);
         there = subst (λ (s : State). slice_get entries place
-            ≡ Some (frame_entry receiver_bare (after s (take place entries)) task.index is.reply)) start
-            (subst (λ (l : PlanLines). slice_get entries place ≡ Some (frame_entry l (after begin.start
+            ≡ Some (frame_entry receiver_bare (after_all s (take place entries)) task.index is.reply)) start
+            (subst (λ (l : PlanLines). slice_get entries place ≡ Some (frame_entry l (after_all begin.start
             (take place entries)) task.index is.reply)) plan is.stands.there);
         tells = is.told;
       }
@@ -484,7 +486,7 @@ module _ (IsAt : ℕ → ℕ → Type 0) (once : OpensOnce) (layout : Layout) (b
       let place = answer.position - 1 in
       let low = slice_get_within entries place _ is.there in
       let t = took place (omega arith) in
-      let state = after (receiving begun (each 0)) (take place entries) in
+      let state = after_all (receiving begun (each 0)) (take place entries) in
       elim (replies_to place t.taken task hand is.reply is.field is.replies) [
         | takes from to reply field fresh ↦
             let tells = is.tells ∙ ap (λ (r : OpenReply). opened_told r is.field) reply in

@@ -8,7 +8,7 @@ use Rattle.sdls_base.specs.declared.entry.Entry.{Entry}
 use Rattle.sdls_base.specs.declared.states.Direction.TheVariants.{Send}
 use Rattle.unit_state.specs.declared.state.State.{State}
 use Rattle.unit_state.specs.Applied.{applied}
-use Rattle.unit_state.specs.History.{after, epoch_after}
+use Rattle.unit_state.specs.History.{after_all, epoch_after}
 use Rattle.unit_state.specs.Restart.{counts}
 use Rattle.unit_state.proofs.Histories.{after_more, epochs_more}
 use Rattle.run_promise.specs.History.{IsReserve}
@@ -28,7 +28,7 @@ all_marks marks = marks 0 + marks 1 + marks 2 + marks 3
 -- least, and none counts for the epoch.
 pub record Reserved (es : List Entry) (bound : ℕ) : Type 0 where
   pub marks : ℕ → ℕ
-  pub is : after (sending (each 1)) es ≡ sending marks
+  pub is : after_all (sending (each 1)) es ≡ sending marks
   pub low : (lane : ℕ) → lane < 4 → marks lane ≤ bound + 64
   pub grown : 64 * length es + 4 ≤ all_marks marks
   pub epoch : epoch_after es ≡ 0
@@ -59,7 +59,7 @@ same_reserve marks number lane low below =
 -- one reserve more
 pub reserved_more : (near : ℕ → ℕ → Type 0) (es : List Entry) (bound : ℕ) (entry : Entry) → bound ≤ 200000
     → ((lane number : ℕ) → lane < 4 → near (key_on lane) number → number ≤ bound)
-    → Reserved es bound → IsReserve near sender_bare (after (sending (each 1)) es) entry
+    → Reserved es bound → IsReserve near sender_bare (after_all (sending (each 1)) es) entry
     → Reserved (es ++ entry ∷ []) bound
 reserved_more near es bound entry small near_low so_far reserves =
     let marks = so_far.marks in
@@ -77,7 +77,7 @@ reserved_more near es bound entry small near_low so_far reserves =
     ap (λ (e : Entry). e.change) r.entry_is
     ∙ (ap (λ (k : ℕ). (reserve_of sender_bare (sending marks) k number).change) (sym same)
     ∙ same_reserve marks number lane low (omega arith)) in
-    let next : after (sending (each 1)) (es ++ entry ∷ []) ≡ sending (with_on lane (number + 64) marks) =
+    let next : after_all (sending (each 1)) (es ++ entry ∷ []) ≡ sending (with_on lane (number + 64) marks) =
     after_more (sending (each 1)) es (entry ∷ [])
     ∙ (ap (λ (s : State). applied s entry.change) so_far.is
     ∙ (ap (applied (sending marks)) change ∙ marked_on marks (number + 64) lane low)) in

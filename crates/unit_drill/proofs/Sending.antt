@@ -23,7 +23,7 @@ use Rattle.unit_plan.specs.PlanLines.{PlanLines}
 use Rattle.unit_plan.specs.PlanRules.{IsPlan}
 use Rattle.unit_state.specs.declared.state.State.{State}
 use Rattle.unit_state.specs.State.{KeepsRules}
-use Rattle.unit_state.specs.History.{after, at_epoch, epoch_after}
+use Rattle.unit_state.specs.History.{after_all, at_epoch, epoch_after}
 use Rattle.frame_shield.specs.declared.binding.Binding.{Binding}
 use Rattle.frame_shield.specs.Protects.{Protects}
 use Rattle.frame_checks.specs.ProtectingFrames as protecting
@@ -102,7 +102,7 @@ module _ (layout : Layout) (begin : Begin) (first now : View) (tasks : List Reco
   abbrev pub near : ℕ → ℕ → Type 0
   near = NearWord begin.start entries tasks
 
-  kept : KeepsRules (after begin.start entries)
+  kept : KeepsRules (after_all begin.start entries)
   kept = rules_at_end begin first now (map in_one tasks) deeds done.opened
       (subst (λ (ts : List Record). Does begin first now ts deeds) (sym (records_back tasks)) done.handled.does)
       done.whole done.plan_is done.rules
@@ -125,11 +125,11 @@ module _ (layout : Layout) (begin : Begin) (first now : View) (tasks : List Reco
 
   -- each entry is a reserve
   reserve_at : (p : ℕ) (entry : Entry) → slice_get entries p ≡ Some entry
-      → IsReserve near sender_bare (after (sending (each 1)) (take p entries)) entry
+      → IsReserve near sender_bare (after_all (sending (each 1)) (take p entries)) entry
   reserve_at p entry there =
-      let legal_so : IsLegal near sender_bare (after (sending (each 1)) (take p entries)) tasks entry =
-      subst (λ (s : State). IsLegal near sender_bare (after s (take p entries)) tasks entry) start
-      (subst (λ (l : PlanLines). IsLegal near l (after begin.start (take p entries)) tasks entry) plan
+      let legal_so : IsLegal near sender_bare (after_all (sending (each 1)) (take p entries)) tasks entry =
+      subst (λ (s : State). IsLegal near sender_bare (after_all s (take p entries)) tasks entry) start
+      (subst (λ (l : PlanLines). IsLegal near l (after_all begin.start (take p entries)) tasks entry) plan
       (history.each p entry there)) in
       elim legal_so [
         | inl opening ↦

@@ -7,7 +7,7 @@ use Rattle.sdls_base.specs.declared.states.Direction.TheVariants.{Send, Receive}
 use Rattle.sdls_base.specs.declared.states.KeyState.TheVariants.{Active}
 use Rattle.sdls_base.specs.declared.states.Suite.{Suite}
 use Rattle.sdls_base.specs.declared.states.Suite.TheVariants.{Cmac, Gcm}
-use Rattle.unit_plan.specs.declared.channel_line.Place.{Place}
+use Rattle.unit_plan.specs.declared.channel_line.ChannelPlace.{ChannelPlace}
 use Rattle.unit_plan.specs.declared.plan.PlanKey.{PlanKey}
 use Rattle.unit_plan.specs.declared.plan.PlanSa.{PlanSa}
 use Rattle.unit_plan.specs.PlanLines.{PlanLines}
@@ -38,7 +38,7 @@ link_line = record {
   mask = record { octets = 0xC3 ∷ 0xFF ∷ 0xFC ∷ 0 ∷ 0 ∷ 0 ∷ []; length = 5 };
 }
 
-abbrev pub place_line : ℕ → ℕ × Place
+abbrev pub place_line : ℕ → ℕ × ChannelPlace
 place_line channel = (channel, record { link = 0; spacecraft = 1; channel = channel; map = None })
 
 -- sixteen octets

@@ -17,7 +17,7 @@ use Rattle.disk_journal.specs.Image.{Held, held, migrated, version_in}
 use Rattle.disk_journal.specs.Forms.{Becomes, Holds}
 use Rattle.disk_journal.specs.Journal.{IsSettled, JournalView}
 use Rattle.disk_journal.specs.declared.layout.Layout.{Layout}
-use Rattle.unit_image.specs.Shows.{Says, Shows}
+use Rattle.unit_image.specs.Shows.{SaysState, Shows}
 use Rattle.unit_image.specs.OpeningImage.{BringsUp, IsBroughtUp, IsHeldNext, LeftByOpening, Opening}
 use Rattle.unit_image.proofs.Stored.{on_ok, resting}
 use Rattle.unit_image.proofs.Turned.{says_migrated}
@@ -114,15 +114,15 @@ pub next_shows : (old new : List ℕ) (state : State) → Shows old state → Ho
 next_shows old new state shows holds (inl is) = record {
   what = held new;
   holds = holds;
-  says = subst (λ (what : Held). Says what state) (sym is)
-      (subst (λ (what : Held). Says what state) (sym shows.holds.is) shows.says);
+  says = subst (λ (what : Held). SaysState what state) (sym is)
+      (subst (λ (what : Held). SaysState what state) (sym shows.holds.is) shows.says);
 }
 next_shows old new state shows holds (inr (of_one, content, is)) = record {
   what = held new;
   holds = holds;
-  says = subst (λ (what : Held). Says what state) (sym is)
+  says = subst (λ (what : Held). SaysState what state) (sym is)
       (says_migrated (held old) state (content_of Two state)
-      (subst (λ (what : Held). Says what state) (sym shows.holds.is) shows.says) content);
+      (subst (λ (what : Held). SaysState what state) (sym shows.holds.is) shows.says) content);
 }
 
 -- ---- the whole opening

@@ -22,8 +22,8 @@ use Rattle.unit_state.specs.State.{KeepsRules}
 use Rattle.unit_state.specs.Applied.{applied}
 use Rattle.unit_state.specs.Restart.{restarted, restarted_row}
 use Rattle.unit_state.proofs.KeyRules.{stands}
-use Rattle.book_record.specs.KeyParts.{IsKeyRow, key_row_octets}
-use Rattle.book_record.specs.SaParts.{IsSaRow, sa_parts, sa_row_octets}
+use Rattle.book_record.specs.KeyParts.{AreKeyRowOctets, key_row_octets}
+use Rattle.book_record.specs.SaParts.{AreSaRowOctets, sa_parts, sa_row_octets}
 use Rattle.image_content.specs.Content.{sa_rows, content_of, replaced}
 use Rattle.image_content.specs.Reading.{HasRows, IsContent, IsTypedKey, IsTypedSa}
 use Rattle.unit_image.proofs.Restarted.{restarted_rules}
@@ -72,7 +72,7 @@ floor_parts floor row = ap (λ (field : ℕ). record (sa_parts row) { sa = recor
 typed_sa : (floor : ℕ) (b : Bool) (row : SaRow) → IsTypedSa row → IsTypedSa (cond b (with_floor row floor) row)
 typed_sa floor false row is = is
 typed_sa floor true row is =
-    subst (λ (parts : SaParts). IsSaRow parts (sa_row_octets parts)) (sym (floor_parts floor row)) is
+    subst (λ (parts : SaParts). AreSaRowOctets parts (sa_row_octets parts)) (sym (floor_parts floor row)) is
 
 pub marked_rows : (state : State) (key mark floor : ℕ) → mark < 2 ^ 64 → floor < 2 ^ 64 → HasRows Two state
     → HasRows Two (applied state (Marks key mark floor))
@@ -161,7 +161,7 @@ IsRowLaw = (state : State) (front back : List KeyRow) (old new : KeyRow) → Has
 pub marks_written : IsRowLaw → (state : State) (key mark floor place end : ℕ) (row : KeyRow) (octets old new : List ℕ)
     → AreKeyRows state.keys → HasRows Two state
     → place_of state.keys key ≡ Some place → row_of state.keys key ≡ Some row
-    → IsKeyRow (marked mark floor row) octets
+    → AreKeyRowOctets (marked mark floor row) octets
     → old ≡ content_of Two state → end ≡ 503 + 96 * place + length octets
     → take end new ≡ take (503 + 96 * place) old ++ octets
     → drop end new ≡ drop end old → new ≡ content_of Two (applied state (Marks key mark floor))

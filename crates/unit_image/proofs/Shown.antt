@@ -9,7 +9,7 @@ use Rattle.unit_image.specs.Shows.{LeadTo, IsBadRecord}
 use Rattle.sdls_base.specs.declared.version.Version.{Version}
 use Rattle.image_content.specs.Reading.{IsContent}
 use Rattle.disk_journal.specs.Image.{Held, held, record_at}
-use Rattle.unit_image.specs.Shows.{SaysBarePlan, IsContentUnder, Begins, Says, Shows, SaysNone, ShowsNone}
+use Rattle.unit_image.specs.Shows.{SaysBarePlan, IsContentUnder, Begins, SaysState, Shows, SaysNone, ShowsNone}
 use Rattle.unit_image.proofs.Leading.{IsOnce, led_once, no_way, same_place}
 
 abbrev ok_or : {X : Type 0} → X → Result X PlanFault → X
@@ -44,7 +44,7 @@ first_once one what a b begins too =
     (plan_once what.plan begins.plan too.plan begins.said too.said) begins.content)
     too.content
 
-says_once : IsOnce → IsOneState → (what : Held) (a b : State) → Says what a → Says what b → a ≡ b
+says_once : IsOnce → IsOneState → (what : Held) (a b : State) → SaysState what a → SaysState what b → a ≡ b
 says_once once one what a b says too =
     let first : says.first ≡ too.first = first_once one what says.first too.first says.begins too.begins in
     says.left
@@ -54,15 +54,15 @@ says_once once one what a b says too =
 
 pub shows_once : IsOnce → IsOneState → (image : List ℕ) (a b : State) → Shows image a → Shows image b → a ≡ b
 shows_once once one image a b shows too =
-    says_once once one (held image) a b (subst (λ (what : Held). Says what a) (sym shows.holds.is) shows.says)
-    (subst (λ (what : Held). Says what b) (sym too.holds.is) too.says)
+    says_once once one (held image) a b (subst (λ (what : Held). SaysState what a) (sym shows.holds.is) shows.says)
+    (subst (λ (what : Held). SaysState what b) (sym too.holds.is) too.says)
 
 slots_agree : (what : Held) (plan other : PlanLines) → SaysBarePlan what.plan plan → SaysBarePlan what.plan other
     → other.slots ≡ what.slots → plan.slots ≡ what.slots
 slots_agree what plan other said too same =
     ap (λ (p : PlanLines). p.slots) (plan_once what.plan plan other said too) ∙ same
 
-says_some : IsOnce → IsOneState → (image : List ℕ) (what : Held) (state : State) (offset : ℕ) → Says what state
+says_some : IsOnce → IsOneState → (image : List ℕ) (what : Held) (state : State) (offset : ℕ) → SaysState what state
     → ¬ SaysNone image what offset
 says_some once one image what state offset says (inl (no_plan, is)) = no_plan says.begins.plan says.begins.said
 says_some once one image what state offset says (inr (inl (plan, said, other, is))) =
@@ -83,7 +83,7 @@ pub shows_some : IsOnce → IsOneState → (image : List ℕ) (state : State) (o
 shows_some once one image state offset shows (inl fault) = none-some offset (sym shows.holds.opens ∙ fault)
 shows_some once one image state offset shows (inr (opens, none)) =
     says_some once one image (held image) state offset
-    (subst (λ (what : Held). Says what state) (sym shows.holds.is) shows.says) none
+    (subst (λ (what : Held). SaysState what state) (sym shows.holds.is) shows.says) none
 
 -- what is held is refused with one offset
 says_none_once : IsOnce → IsOneState → (image : List ℕ) (what : Held) (a b : ℕ) → SaysNone image what a

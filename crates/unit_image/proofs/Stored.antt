@@ -29,7 +29,7 @@ use Rattle.disk_journal.specs.Journal.{IsSettled, JournalView}
 use Rattle.disk_journal.specs.Rest.{IsRest}
 use Rattle.disk_journal.proofs.Turns.{rest_becomes}
 use Rattle.unit_image.specs.Image.{IsOfTwo}
-use Rattle.unit_image.specs.Shows.{Says}
+use Rattle.unit_image.specs.Shows.{SaysState}
 use Rattle.unit_image.specs.Storing.{Destroys, KeepsPlaces, LeavesRest, Stores, StoresChange}
 use Rattle.unit_image.proofs.Turned.{says_grown, says_turned}
 
@@ -65,7 +65,7 @@ stores_none state change result journal now rules allowed none settled = record 
   same_plan = refl;
   same_slots = refl;
   same_version = refl;
-  says = λ says. subst (Says (held now.now.image)) (sym (unstored_alike state change rules allowed none)) says;
+  says = λ says. subst (SaysState (held now.now.image)) (sym (unstored_alike state change rules allowed none)) says;
   moments = resting now journal settled;
   done = on_ok result (settled, refl);
 }
@@ -81,7 +81,7 @@ stores_as state change stored result journal old new rules allowed is stores = r
   same_plan = stores.same_plan;
   same_slots = stores.same_slots;
   same_version = stores.same_version;
-  says = λ says. subst (Says stores.next) (sym (stores_well state change stored rules allowed is).alike)
+  says = λ says. subst (SaysState stores.next) (sym (stores_well state change stored rules allowed is).alike)
       (stores.says says);
   moments = stores.moments;
   done = stores.done;

@@ -14,12 +14,14 @@ use Rattle.unit_image.specs.Shows.{LeadTo}
 use Rattle.image_content.specs.Reading.{IsContent}
 use Rattle.sdls_base.specs.declared.version.Version.TheVariants.{Two}
 use Rattle.disk_journal.specs.Image.{Held, grown, migrated, turned}
-use Rattle.unit_image.specs.Shows.{Says}
+use Rattle.unit_image.specs.Shows.{SaysState}
 use Rattle.unit_image.proofs.Leading.{led_more}
 
 -- What stands in an image that holds one record more: the state after the change that it is stored for.
-pub says_grown : (what : Held) (state : State) (change stored : Change) (body : List ℕ) → Says what (restarted state)
-    → StoresWell state change stored → IsRecord stored body → Says (grown body what) (restarted (applied state change))
+pub says_grown : (what : Held) (state : State) (change stored : Change) (body : List ℕ)
+    → SaysState what (restarted state)
+    → StoresWell state change stored → IsRecord stored body
+    → SaysState (grown body what) (restarted (applied state change))
 says_grown what state change stored body says well is_record = record {
   first = says.first;
   begins = record {
@@ -74,8 +76,9 @@ led_device state (body ∷ bodies) last (change, is_record, allows, rest) =
 -- What stands in an image behind a turn: the state whose content was written.
 pub says_turned : ((state : State) → restarted (restarted state) ≡ restarted state)
     → (what : Held) (state : State) (change : Change)
-    (content : List ℕ) → Says what (restarted state) → IsContent what.version (restarted (applied state change)) content
-    → Says (turned content what) (restarted (applied state change))
+    (content : List ℕ) → SaysState what (restarted state)
+    → IsContent what.version (restarted (applied state change)) content
+    → SaysState (turned content what) (restarted (applied state change))
 says_turned once what state change content says is = record {
   first = restarted (applied state change);
   begins = record {
@@ -96,8 +99,9 @@ says_turned once what state change content says is = record {
 }
 
 -- What stands in an image that was migrated: the state whose content was written.
-pub says_migrated : (what : Held) (state : State) (content : List ℕ) → Says what state → IsContent Two state content
-    → Says (migrated content what) state
+pub says_migrated : (what : Held) (state : State) (content : List ℕ) → SaysState what state
+    → IsContent Two state content
+    → SaysState (migrated content what) state
 says_migrated what state content says is = record {
   first = state;
   begins = record {

@@ -43,7 +43,7 @@ pub record Begins (what : Held) (first : State) : Type 0 where
   pub content : IsContentUnder plan what.version what.content first
 
 -- What stands in an image says this state: what a restart leaves of the content's state after the records.
-pub record Says (what : Held) (state : State) : Type 0 where
+pub record SaysState (what : Held) (state : State) : Type 0 where
   pub first : State
   pub begins : Begins what first
   pub last : State
@@ -54,7 +54,7 @@ pub record Says (what : Held) (state : State) : Type 0 where
 pub record Shows (image : List ℕ) (state : State) : Type 0 where
   pub what : Held
   pub holds : Holds image what
-  pub says : Says what state
+  pub says : SaysState what state
 
 -- the body at this place is no record of a change that the state allows
 pub record IsNoChangeAt (bodies : List (List ℕ)) (place : ℕ) (state : State) : Type 0 where

@@ -21,7 +21,7 @@ use Rattle.disk_journal.specs.Initial.{front_image, rest_image}
 use Rattle.disk_journal.specs.Forms.{Becomes}
 use Rattle.disk_journal.specs.Journal.{IsSettled, JournalView}
 use Rattle.disk_journal.specs.Rest.{IsRest}
-use Rattle.unit_image.specs.Shows.{Says}
+use Rattle.unit_image.specs.Shows.{SaysState}
 
 -- the change takes away the octets of keys
 abbrev pub Destroys : Change → Type 0
@@ -44,7 +44,7 @@ pub record Stores {T E : Type 0} (state : State) (change : Change) (result : Res
   pub same_plan : next.plan ≡ (held old.now.image).plan
   pub same_slots : next.slots ≡ (held old.now.image).slots
   pub same_version : next.version ≡ (held old.now.image).version
-  pub says : Says (held old.now.image) (restarted state) → Says next (restarted (applied state change))
+  pub says : SaysState (held old.now.image) (restarted state) → SaysState next (restarted (applied state change))
   pub moments : EachImage old new (Becomes (held old.now.image) next)
   pub done : OnOk result (IsSettled new journal × (held new.now.image ≡ next))
 

@@ -3,7 +3,7 @@ ghost use Rattle.std.specs.Prelude.{◌≡◌, length, MatchOption, IsSome};
 ghost use Rattle.key_book.specs.KeyRow as key_rows;
 ghost use Rattle.sdls_base.specs.declared.change.Change.TheVariants.{Marks};
 ghost use Rattle.sdls_base.specs.declared.version.Version.TheVariants.{Two};
-ghost use Rattle.book_record.specs.KeyParts.{IsKeyRow};
+ghost use Rattle.book_record.specs.KeyParts.{AreKeyRowOctets};
 ghost use Rattle.unit_state.specs.State.{KeepsRules, key_row};
 ghost use Rattle.unit_state.specs.Allows.{Allows};
 ghost use Rattle.unit_state.specs.Applied.{applied};
@@ -22,7 +22,7 @@ use unit_state::State;
 /// The row of a key, with another mark and another floor.
 fn marked_row(row: &KeyRow, mark: u64, floor: u64) -> [u8; KEY_ROW_LENGTH]
     requires { key_rows.IsKeyRow row.now }
-    ensures { IsKeyRow (record row.now { mark = mark; floor = floor }) result }
+    ensures { AreKeyRowOctets (record row.now { mark = mark; floor = floor }) result }
 {
     spell_key_row(&KeyRow {
         mark,

@@ -12,7 +12,7 @@ ghost use Rattle.sdls_outside.specs.Moments.{Trace};
 ghost use Rattle.disk_journal.specs.Changes.{KeepsBeside};
 ghost use Rattle.disk_journal.specs.Image.{Held, grown, turned, migrated};
 ghost use Rattle.disk_journal.specs.Journal.{IsSettled, JournalView};
-ghost use Rattle.unit_image.specs.Shows.{Says, Shows, ShowsNone};
+ghost use Rattle.unit_image.specs.Shows.{SaysState, Shows, ShowsNone};
 ghost use Rattle.unit_image.specs.Storing.{LeavesRest, LeavesRestImage};
 
 use book_record::one_change;
@@ -39,25 +39,25 @@ pub fn refused_with_one()
 
 /// Law: what is held says a state; with the record of what is stored for a change, it says the state after that change.
 pub fn says_grown()
-    ensures { (what : Held) (state : State) (change stored : Change) (body : List ℕ) → Says what (restarted state)
+    ensures { (what : Held) (state : State) (change stored : Change) (body : List ℕ) → SaysState what (restarted state)
         → StoresWell state change stored → IsRecord stored body
-        → Says (grown body what) (restarted (applied state change)) }
+        → SaysState (grown body what) (restarted (applied state change)) }
 {}
 
 /// Law: what is held says a state; with the content of the state after a change in place of content and records, it
 /// says that state.
 pub fn says_turned()
-    ensures { (what : Held) (state : State) (change : Change) (content : List ℕ) → Says what (restarted state)
+    ensures { (what : Held) (state : State) (change : Change) (content : List ℕ) → SaysState what (restarted state)
         → IsContent what.version (restarted (applied state change)) content
-        → Says (turned content what) (restarted (applied state change)) }
+        → SaysState (turned content what) (restarted (applied state change)) }
 {
     restarts_once();
 }
 
 /// Law: what is held says a state; migrated to version 2 with the content of that state, it says it too.
 pub fn says_migrated()
-    ensures { (what : Held) (state : State) (content : List ℕ) → Says what state → IsContent Two state content
-        → Says (migrated content what) state }
+    ensures { (what : Held) (state : State) (content : List ℕ) → SaysState what state → IsContent Two state content
+        → SaysState (migrated content what) state }
 {}
 
 /// Law: an image is as it was when it was opened, but for its banks, and of these each octet is stated. Had it then a

@@ -10,7 +10,7 @@ use Rattle.unit_plan.specs.declared.plan_error.PlanCause.{PlanCause}
 use Rattle.unit_plan.specs.declared.plan_error.PlanCause.TheVariants.{Long, Form, Order, Range, Twice, Unknown}
 use Rattle.unit_plan.specs.declared.plan_error.PlanFault.{PlanFault}
 use Rattle.unit_plan.specs.Lines.{lines_of, words_of}
-use Rattle.unit_plan.specs.Plan.{plan_of, after, taken, is_skipped, version_taken, device_taken, slots_taken}
+use Rattle.unit_plan.specs.Plan.{plan_of, plan_after, taken, is_skipped, version_taken, device_taken, slots_taken}
 use Rattle.unit_plan.specs.Plan.{block_taken, accept_taken, link_taken, channel_taken, key_taken, association_taken}
 use Rattle.unit_plan.specs.Plan.{association_added, number_in_order, is_on_link, in_order, key_admitted, admitted}
 use Rattle.unit_plan.specs.LineForm.{version_said, device_said, number_said, association_of, bounded, channel_id}
@@ -283,7 +283,7 @@ taken_bares n m plan (word ∷ words) named =
 -- the lines that are kept lead where all lines lead
 abbrev Leads : List (List ℕ) → Type 0
 Leads lines = (n m : ℕ) (plan : PlanLines)
-    → Bares (after n plan lines) (after m (without_rows plan) (filter is_bare lines))
+    → Bares (plan_after n plan lines) (plan_after m (without_rows plan) (filter is_bare lines))
 
 pub record Bound {A : Type 0} (r : Result A PlanFault) (f : A → Result PlanLines PlanFault) (last : PlanLines) : Type 0
   where
@@ -301,11 +301,11 @@ leads_on : (line : List ℕ) (lines : List (List ℕ)) (skipped named : Bool) �
     → Leads lines → Leads (line ∷ lines)
 leads_on line lines true named is_so says others n m plan last e = rw is_so (others (n + 1) m plan last (rw is_so at e))
 leads_on line lines false true is_so says others n m plan last e =
-    let split = bound (taken n plan (words_of line)) (λ next. after (n + 1) next lines) last (rw is_so at e) in
-    rw (is_so, says) (subst (λ (bare : PlanLines). after m bare (filter is_bare lines) ≡ Ok (without_rows last))
+    let split = bound (taken n plan (words_of line)) (λ next. plan_after (n + 1) next lines) last (rw is_so at e) in
+    rw (is_so, says) (subst (λ (bare : PlanLines). plan_after m bare (filter is_bare lines) ≡ Ok (without_rows last))
     (taken_keeps n plan (words_of line) says split.first split.is) (others (n + 1) m split.first last split.onward))
 leads_on line lines false false is_so says others n m plan last e =
-    let split = bound (taken n plan (words_of line)) (λ next. after (n + 1) next lines) last (rw is_so at e) in
+    let split = bound (taken n plan (words_of line)) (λ next. plan_after (n + 1) next lines) last (rw is_so at e) in
     let first = taken_bares n m plan (words_of line) says split.first split.is in
     rw (is_so, says, is_so, first) (others (n + 1) (m + 1) split.first last split.onward)
 
@@ -323,7 +323,7 @@ pub reads_if_short : (text : List ℕ) (plan : PlanLines) → plan_of text ≡ O
 reads_if_short text plan is short =
     let lines = filter is_bare (lines_of text) in
     let read : lines_of (bare_of text) ≡ lines = lines_read lines (kept_are is_bare (lines_of text) (lines_are text)) in
-    let all = not_long (nat_lt 65536 (length text)) (after 1 no_lines (lines_of text)) plan is in
+    let all = not_long (nat_lt 65536 (length text)) (plan_after 1 no_lines (lines_of text)) plan is in
     rw (le-ltb 65536 (length (bare_of text)) short, read) (leads (lines_of text) 1 1 no_lines plan all)
 
 -- ---- the line that is written next

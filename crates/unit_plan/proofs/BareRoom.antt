@@ -11,7 +11,7 @@ use Rattle.std.proofs.lemmas.Bool.Decides.{nat_tests}
 use Rattle.sdls_base.specs.declared.link.AnyLayout.{AnyLayout}
 use Rattle.sdls_base.specs.declared.link.AnyLayout.TheVariants.{Tc, Tm, Aos}
 use Rattle.sdls_base.specs.declared.link.Link.{Link}
-use Rattle.unit_plan.specs.declared.channel_line.Place.{Place}
+use Rattle.unit_plan.specs.declared.channel_line.ChannelPlace.{ChannelPlace}
 use Rattle.unit_plan.specs.declared.plan_error.PlanCause.{PlanCause}
 use Rattle.unit_plan.specs.declared.plan_error.PlanCause.TheVariants.{Form, Order, Range, Twice, Unknown}
 use Rattle.unit_plan.specs.declared.plan_error.PlanFault.{PlanFault}
@@ -20,7 +20,7 @@ use Rattle.unit_plan.specs.ChannelLine.{channel_said, is_map, is_place}
 use Rattle.unit_plan.specs.LineForm.{bounded, channel_id, version_said, device_said, number_said}
 use Rattle.unit_plan.specs.Lines.{lines_of, words_of}
 use Rattle.unit_plan.specs.LinkLine.{link_said, is_link, is_layout}
-use Rattle.unit_plan.specs.Plan.{plan_of, after, taken, is_skipped, version_taken, device_taken, slots_taken}
+use Rattle.unit_plan.specs.Plan.{plan_of, plan_after, taken, is_skipped, version_taken, device_taken, slots_taken}
 use Rattle.unit_plan.specs.Plan.{block_taken, accept_taken, link_taken, channel_taken, number_in_order, is_on}
 use Rattle.unit_plan.specs.Plan.{is_on_link, link_admitted, channel_admitted}
 use Rattle.unit_plan.specs.PlanError.{◌>>=◌, check, require}
@@ -232,12 +232,12 @@ map_small : (wanted : Bool) (map : Option ℕ) → is_map wanted map ≡ true �
 map_small wanted None e = tt
 map_small wanted (Some n) e = at_most n 63 (both_true wanted (nat_le n 63) e).1
 
-record IsSmallOn (place : Place) : Type 0 where
+record IsSmallOn (place : ChannelPlace) : Type 0 where
   spacecraft : place.spacecraft ≤ 1023
   channel : place.channel ≤ 63
   map : IsSmall place.map
 
-place_small : (layout : AnyLayout) (place : Place) → is_place layout place ≡ true → IsSmallOn place
+place_small : (layout : AnyLayout) (place : ChannelPlace) → is_place layout place ≡ true → IsSmallOn place
 place_small (Tc layout) place e =
     let a = both_true (nat_le place.spacecraft 1023) (nat_le place.channel 63 && is_map layout.segment place.map) e in
     let b = both_true (nat_le place.channel 63) (is_map layout.segment place.map) a.1 in
@@ -263,7 +263,8 @@ place_small (Aos layout) place e =
       map = map_small false place.map b.1;
     }
 
-on_small : (links : List (ℕ × Link)) (place : Place) → has_link links place.link ≡ true → is_on_link links place ≡ true
+on_small : (links : List (ℕ × Link)) (place : ChannelPlace) → has_link links place.link ≡ true → is_on_link links place
+    ≡ true
     → IsSmallOn place
 on_small links place known on =
     let found = any_found (λ (entry : ℕ × Link). entry.0 == place.link) links known in
@@ -299,12 +300,12 @@ channel_spends n plan next words e =
     let on = on_small plan.links place (checked n Unknown (has_link plan.links place.link) k.first k.is)
     (checked n Range (is_on_link plan.links place) r.first r.is) in
     let low = at_most place.link 15 (checked n Range (nat_le place.link 15) l.first l.is) in
-    let row : ℕ × Place = (b.first, place) in
+    let row : ℕ × ChannelPlace = (b.first, place) in
     let fewer = free_less (has_channel plan.channels) (has_channel (plan.channels ++ row ∷ [])) said.0 64
     (omega (arith, small.0)) once
-    (any_new (λ (entry : ℕ × Place). entry.0 == said.0) plan.channels row
+    (any_new (λ (entry : ℕ × ChannelPlace). entry.0 == said.0) plan.channels row
     (ap (λ (m : ℕ). m == said.0) id ∙ eq_self said.0))
-    (λ j other. any_old (λ (entry : ℕ × Place). entry.0 == j) plan.channels row
+    (λ j other. any_old (λ (entry : ℕ × ChannelPlace). entry.0 == j) plan.channels row
     (ne_eqb b.first j (λ same. other (sym same ∙ id)))) in
     record {
       cheap = omega (
@@ -379,7 +380,7 @@ line_spends n plan next (word ∷ words) named e =
 -- ---- all lines, one after the other
 
 abbrev Fits : List (List ℕ) → Type 0
-Fits lines = (n : ℕ) (plan last : PlanLines) → after n plan lines ≡ Ok last
+Fits lines = (n : ℕ) (plan last : PlanLines) → plan_after n plan lines ≡ Ok last
     → length (flat_map ended (filter is_bare lines)) ≤ 128 * room plan
 
 same_room : (plan next : PlanLines) → without_rows next ≡ without_rows plan → room next ≡ room plan
@@ -391,11 +392,11 @@ fits_on : (line : List ℕ) (lines : List (List ℕ)) (skipped named : Bool) →
     → Fits lines → Fits (line ∷ lines)
 fits_on line lines true named is_so says others n plan last e = rw is_so (others (n + 1) plan last (rw is_so at e))
 fits_on line lines false true is_so says others n plan last e =
-    let split = took (taken n plan (words_of line)) (λ next. after (n + 1) next lines) last (rw is_so at e) in
+    let split = took (taken n plan (words_of line)) (λ next. plan_after (n + 1) next lines) last (rw is_so at e) in
     let same = same_room plan split.first (taken_keeps n plan (words_of line) says split.first split.is) in
     rw (is_so, says) (omega (arith, same, others (n + 1) split.first last split.onward))
 fits_on line lines false false is_so says others n plan last e =
-    let split = took (taken n plan (words_of line)) (λ next. after (n + 1) next lines) last (rw is_so at e) in
+    let split = took (taken n plan (words_of line)) (λ next. plan_after (n + 1) next lines) last (rw is_so at e) in
     let spends = line_spends n plan split.first (words_of line) says split.is in
     let rest = others (n + 1) split.first last split.onward in
     rw (is_so, says) (omega (
@@ -413,14 +414,14 @@ fits [] n plan last e = omega arith
 fits (line ∷ lines) n plan last e =
     fits_on line lines (is_skipped line) (names_rows (words_of line)) refl refl (fits lines) n plan last e
 
-few_octets : (text : List ℕ) (plan : PlanLines) → after 1 no_lines (lines_of text) ≡ Ok plan
+few_octets : (text : List ℕ) (plan : PlanLines) → plan_after 1 no_lines (lines_of text) ≡ Ok plan
     → length (bare_of text) ≤ 10880
 unfolding room free
 few_octets text plan is = omega (arith, fits (lines_of text) 1 no_lines plan is)
 
 pub bare_plan_is_short : (text : List ℕ) (plan : PlanLines) → plan_of text ≡ Ok plan → length (bare_of text) ≤ 65536
 bare_plan_is_short text plan is =
-    let all = not_long (nat_lt 65536 (length text)) (after 1 no_lines (lines_of text)) plan is in
+    let all = not_long (nat_lt 65536 (length text)) (plan_after 1 no_lines (lines_of text)) plan is in
     omega (arith, few_octets text plan all)
 
 pub bare_plan_reads : (text : List ℕ) (plan : PlanLines) → plan_of text ≡ Ok plan

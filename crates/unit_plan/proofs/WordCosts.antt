@@ -22,7 +22,7 @@ use Rattle.unit_plan.specs.LineForm.{version_said, device_said, number_said}
 use Rattle.unit_plan.specs.LinkLine.{mask_of, mask_said, mask_at, tc_at, tm_at, aos_at, frame_of, frame_at, link_said}
 use Rattle.unit_plan.specs.LinkLine.{is_layout}
 use Rattle.unit_plan.specs.ChannelLine.{channel_said}
-use Rattle.unit_plan.specs.declared.channel_line.Place.{Place}
+use Rattle.unit_plan.specs.declared.channel_line.ChannelPlace.{ChannelPlace}
 
 -- the octets of words, each with a space
 abbrev pub cost : List (List ℕ) → ℕ
@@ -300,14 +300,14 @@ optional_cost words rest map e small =
     let w = one_word optional words map rest e in
     word_cost words rest w.word 20 w.is (optional_short w.word map w.read small)
 
-pub record IsSmallPlace (number : ℕ) (place : Place) : Type 0 where
+pub record IsSmallPlace (number : ℕ) (place : ChannelPlace) : Type 0 where
   pub number_small : number ≤ 63
   pub link : place.link ≤ 15
   pub spacecraft : place.spacecraft ≤ 1023
   pub channel : place.channel ≤ 63
   pub map : IsSmall place.map
 
-pub channel_cost : (words : List (List ℕ)) (said : ℕ × Place) → channel_said words ≡ Some said
+pub channel_cost : (words : List (List ℕ)) (said : ℕ × ChannelPlace) → channel_said words ≡ Some said
     → IsSmallPlace said.0 said.1 → cost words ≤ 105
 unfolding channel_said
 channel_cost words said e small =
@@ -317,7 +317,7 @@ channel_cost words said e small =
     let d = got (capped_at 255 c.first.1) _ said c.onward in
     let m = got (optional_at d.first.1) _ said d.onward in
     let z = got (end_of m.first.1) _ said m.onward in
-    let own = subst (λ (pair : ℕ × Place). IsSmallPlace pair.0 pair.1) (sym (some_same _ _ z.onward)) small in
+    let own = subst (λ (pair : ℕ × ChannelPlace). IsSmallPlace pair.0 pair.1) (sym (some_same _ _ z.onward)) small in
     let one = capped_cost 255 words a.first.1 a.first.0 (omega arith) a.is (omega (arith, own.number_small)) in
     let two = capped_cost 255 a.first.1 b.first.1 b.first.0 (omega arith) b.is (omega (arith, own.link)) in
     let three = capped_cost 65535 b.first.1 c.first.1 c.first.0 (omega arith) c.is (omega (arith, own.spacecraft)) in

@@ -2,12 +2,12 @@
 use Rattle.std.specs.Prelude.{ℕ, ◌==◌, nat_le, Bool, true, false, not, ◌&&◌, List, Option, Some, None}
 use Rattle.sdls_base.specs.declared.link.AnyLayout.{AnyLayout}
 use Rattle.sdls_base.specs.declared.link.AnyLayout.TheVariants.{Tc, Tm, Aos}
-use Rattle.unit_plan.specs.declared.channel_line.Place.{Place}
+use Rattle.unit_plan.specs.declared.channel_line.ChannelPlace.{ChannelPlace}
 use Rattle.unit_plan.specs.Reading.{◌>>=◌, end_of}
 use Rattle.unit_plan.specs.Field.{capped_at, optional_at}
 
 -- number and place
-unfoldable pub channel_said : List (List ℕ) → Option (ℕ × Place)
+unfoldable pub channel_said : List (List ℕ) → Option (ℕ × ChannelPlace)
 channel_said words = do
   n ← capped_at 255 words
   link ← capped_at 255 n.1
@@ -24,7 +24,7 @@ is_same_number None (Some b) = false
 is_same_number (Some a) None = false
 
 -- the same link, spacecraft, virtual channel and access point
-abbrev pub is_same_place : Place → Place → Bool
+abbrev pub is_same_place : ChannelPlace → ChannelPlace → Bool
 is_same_place a b =
     (a.link == b.link) && ((a.spacecraft == b.spacecraft) && ((a.channel == b.channel) && is_same_number a.map b.map))
 
@@ -34,7 +34,7 @@ is_map wanted (Some n) = wanted && nat_le n 63
 is_map wanted None = not wanted
 
 -- the bounds on a link (CCSDS 232.0-B-4, 132.0-B-3 and 732.0-B-4; of AOS 63 is the channel of idle frames)
-abbrev pub is_place : AnyLayout → Place → Bool
+abbrev pub is_place : AnyLayout → ChannelPlace → Bool
 is_place (Tc layout) place = nat_le place.spacecraft 1023 &&
     (nat_le place.channel 63 && is_map layout.segment place.map)
 is_place (Tm layout) place = nat_le place.spacecraft 1023 && (nat_le place.channel 7 && is_map false place.map)

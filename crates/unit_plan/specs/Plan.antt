@@ -1,7 +1,7 @@
 -- Profile: what the lines of a plan say, or the first line that has a cause with its first cause.
 use Rattle.std.specs.Prelude.{◌≡◌, ⊤, ℕ, ◌+◌, ◌==◌, nat_le, nat_lt, Bool, true, not, List, [], ◌∷◌, ◌++◌, length}
 use Rattle.std.specs.Prelude.{Option, Some, None, Result, Ok, Err, if◌then◌else◌}
-use Rattle.unit_plan.specs.declared.channel_line.Place.{Place}
+use Rattle.unit_plan.specs.declared.channel_line.ChannelPlace.{ChannelPlace}
 use Rattle.unit_plan.specs.declared.kind.Kind.{Kind}
 use Rattle.unit_plan.specs.declared.kind.Kind.TheVariants as kinds
 use Rattle.sdls_base.specs.declared.link.Link.{Link}
@@ -74,14 +74,14 @@ link_taken line plan words = do
   Ok (record plan { links = plan.links ++ said ∷ [] })
 
 -- a place is one on its link, where that has a line
-abbrev pub is_on : Option Link → Place → Bool
+abbrev pub is_on : Option Link → ChannelPlace → Bool
 is_on None place = true
 is_on (Some link) place = is_place link.layout place
 
-abbrev pub is_on_link : List (ℕ × Link) → Place → Bool
+abbrev pub is_on_link : List (ℕ × Link) → ChannelPlace → Bool
 is_on_link links place = is_on (link_of links place.link) place
 
-abbrev pub channel_admitted : ℕ → PlanLines → ℕ → Place → Result ℕ PlanFault
+abbrev pub channel_admitted : ℕ → PlanLines → ℕ → ChannelPlace → Result ℕ PlanFault
 channel_admitted line plan number place = do
   ordered ← in_order line plan 5
   id ← require line Range (channel_id number)
@@ -158,13 +158,13 @@ abbrev pub line_taken : ℕ → PlanLines → List ℕ → Result PlanLines Plan
 line_taken line plan text = if is_skipped text then Ok plan else taken line plan (words_of text)
 
 -- the lines from this number on, behind those of a plan; skipped lines count
-abbrev pub after : ℕ → PlanLines → List (List ℕ) → Result PlanLines PlanFault
-after line plan [] = check line Order (plan.heads == 5) >>= λ ended. Ok plan
-after line plan (text ∷ lines) = line_taken line plan text >>= λ next. after (line + 1) next lines
+abbrev pub plan_after : ℕ → PlanLines → List (List ℕ) → Result PlanLines PlanFault
+plan_after line plan [] = check line Order (plan.heads == 5) >>= λ ended. Ok plan
+plan_after line plan (text ∷ lines) = line_taken line plan text >>= λ next. plan_after (line + 1) next lines
 
 -- a whole text
 abbrev pub plan_of : List ℕ → Result PlanLines PlanFault
-plan_of text = if nat_lt 65536 (length text) then fault 1 Long else after 1 no_lines (lines_of text)
+plan_of text = if nat_lt 65536 (length text) then fault 1 Long else plan_after 1 no_lines (lines_of text)
 
 -- what a call answers, and what it left, is what taking a line gives, unless memory ran out
 abbrev pub TakesPlanLine : Result (Unit {0}) PlanError → Result PlanLines PlanFault → PlanLines → Type 0

@@ -6,7 +6,7 @@ ghost use Rattle.unit_plan.specs.Above.{missing_head};
 
 use crate::association_line::before_list;
 use crate::bounds::LEAST_SLOTS;
-use crate::channel_line::{Place, channel};
+use crate::channel_line::{ChannelPlace, channel};
 use crate::expected::{Expected, NamedAbove, Spot};
 use crate::heads::{device, number, version};
 use crate::key_line::before_octets;
@@ -31,14 +31,14 @@ pub struct Above {
 
 /// What a line says that later lines are tested by.
 #[derive(Clone, Copy)]
-enum Says {
+enum LineSays {
     Link(AnyLayout),
-    Place(Place),
+    Place(ChannelPlace),
     Other,
 }
 
 /// Reads the words of a line behind the first.
-fn read_words(kind: Kind, words: &mut Reader<'_>) -> Says {
+fn read_words(kind: Kind, words: &mut Reader<'_>) -> LineSays {
     match kind {
         Kind::Version => {
             version(words);
@@ -54,12 +54,12 @@ fn read_words(kind: Kind, words: &mut Reader<'_>) -> Says {
         }
         Kind::Link => {
             if let Some((_, link)) = link(words) {
-                return Says::Link(link.layout);
+                return LineSays::Link(link.layout);
             }
         }
         Kind::Channel => {
             if let Some((_, place)) = channel(words) {
-                return Says::Place(place);
+                return LineSays::Place(place);
             }
         }
         Kind::Key => {
@@ -69,7 +69,7 @@ fn read_words(kind: Kind, words: &mut Reader<'_>) -> Says {
             before_list(words);
         }
     }
-    Says::Other
+    LineSays::Other
 }
 
 /// The first word, without a byte order mark, and the number that the second one spells, whatever spaces part them.
@@ -135,7 +135,7 @@ impl Above {
         line: u32,
         kind: Kind,
         number: u64,
-        says: Says,
+        says: LineSays,
         spot: Option<Spot>,
     ) -> Result<Option<Spot>, NoMemory> {
         let known = self.names.note(kind, number, line)?;
@@ -144,8 +144,8 @@ impl Above {
         }
         let mut taken = None;
         match says {
-            Says::Link(layout) if known.is_none() => self.names.note_room(number, &layout)?,
-            Says::Place(place) => taken = self.names.note_place(place, line)?,
+            LineSays::Link(layout) if known.is_none() => self.names.note_room(number, &layout)?,
+            LineSays::Place(place) => taken = self.names.note_place(place, line)?,
             _ => {}
         }
         if let Some(line) = known {
@@ -163,7 +163,7 @@ impl Above {
         line: u32,
         kind: Kind,
         text: &[u8],
-        says: Says,
+        says: LineSays,
         spot: Option<Spot>,
     ) -> Result<Option<Spot>, NoMemory> {
         match loose_words(text).1 {
@@ -186,7 +186,7 @@ impl Above {
         if kind.place() < 5 {
             self.heads = self.heads.max(kind.place().saturating_add(1));
         }
-        self.note_line(line, kind, text, Says::Other, Some(spot))
+        self.note_line(line, kind, text, LineSays::Other, Some(spot))
     }
 
     fn spot_of_words(&mut self, line: u32, text: &[u8]) -> Result<Option<Spot>, NoMemory> {

@@ -13,7 +13,7 @@ use sdls_base::{AnyLayout, Link};
 
 /// Where a channel lies.
 #[derive(Clone, Copy, Debug, PartialEq, Eq)]
-pub struct Place {
+pub struct ChannelPlace {
     /// The number of its link.
     pub link: u8,
     pub spacecraft: u16,
@@ -24,7 +24,7 @@ pub struct Place {
 
 /// The number of a channel, and its place. One that the link has no room for is noted, and read too.
 #[tactic(auto, unfolding(crate::specs::ChannelLine::channel_said))]
-pub(crate) fn channel(words: &mut Reader<'_>) -> Option<(u8, Place)>
+pub(crate) fn channel(words: &mut Reader<'_>) -> Option<(u8, ChannelPlace)>
     ensures { result ≡ channel_said words.old }
 {
     let number = octet(words, MOST_CHANNEL, Expected::Channel(ChannelWord::Number))?;
@@ -38,7 +38,7 @@ pub(crate) fn channel(words: &mut Reader<'_>) -> Option<(u8, Place)>
     words.end()?;
     Some((
         number,
-        Place {
+        ChannelPlace {
             link,
             spacecraft,
             channel,
@@ -57,7 +57,7 @@ fn is_same_number(a: Option<u8>, b: Option<u8>) -> bool
     }
 }
 
-pub(crate) fn is_same_place(a: &Place, b: &Place) -> bool
+pub(crate) fn is_same_place(a: &ChannelPlace, b: &ChannelPlace) -> bool
     ensures { result ≡ is_same_place a.now b.now }
 {
     a.link == b.link
@@ -77,7 +77,7 @@ fn is_map(wanted: bool, map: Option<u8>) -> bool
 }
 
 /// Whether the place is one on the link.
-pub(crate) fn is_place(link: &Link, place: &Place) -> bool
+pub(crate) fn is_place(link: &Link, place: &ChannelPlace) -> bool
     ensures { result ≡ is_place link.now.layout place.now }
 {
     match &link.layout {

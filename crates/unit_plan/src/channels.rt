@@ -2,7 +2,7 @@ ghost use Rattle.std.specs.Prelude.{◌≡◌, ◌||◌, [], ◌∷◌, ◌++◌
 ghost use Rattle.std.specs.Option.{option_map};
 ghost use Rattle.unit_plan.specs.Channels.{has_channel, has_place, are_known, channel_at};
 
-use crate::channel_line::{Place, is_same_place};
+use crate::channel_line::{ChannelPlace, is_same_place};
 use crate::plan_error::PlanError;
 use sdls_base::{ChannelId, NoMemory};
 use std::alloc::Global;
@@ -11,15 +11,15 @@ use std::marker::Model;
 /// The channels of a plan with their places, in the order of the lines.
 #[derive(Drop)]
 pub(crate) struct Channels {
-    rows: Vec<(ChannelId, Place)>,
+    rows: Vec<(ChannelId, ChannelPlace)>,
     ids: Vec<ChannelId>,
 }
 
 impl Model for Channels {
     ghost use Rattle.std.specs.Prelude.{◌≡◌, ℕ, List, map};
-    ghost use Rattle.unit_plan.specs.declared.channel_line.Place.{Place};
+    ghost use Rattle.unit_plan.specs.declared.channel_line.ChannelPlace.{ChannelPlace};
 
-    ghost Value = { List (ℕ × Place) };
+    ghost Value = { List (ℕ × ChannelPlace) };
 
     ghost view = { λ channels. channels.rows.items };
 
@@ -36,7 +36,7 @@ impl Channels {
         }
     }
 
-    pub(crate) fn push(&mut self, id: ChannelId, place: Place) -> Result<(), PlanError>
+    pub(crate) fn push(&mut self, id: ChannelId, place: ChannelPlace) -> Result<(), PlanError>
         ensures added { OnOk result (self.new ≡ self.old ++ (id, place) ∷ []) }
         ensures refused { IfErr result (λ e. e ≡ PlanError.NoMemory) }
     {
@@ -73,14 +73,14 @@ impl Channels {
         self.rows.iter().any(|row| row.0.get() == number)
     }
 
-    pub(crate) fn has_place(&self, place: &Place) -> bool
+    pub(crate) fn has_place(&self, place: &ChannelPlace) -> bool
         ensures { result ≡ has_place self.now place.now }
     {
         self.rows.iter().any(|row| is_same_place(&row.1, place))
     }
 
     /// The channel at a place.
-    pub(crate) fn at(&self, place: &Place) -> Option<ChannelId>
+    pub(crate) fn at(&self, place: &ChannelPlace) -> Option<ChannelId>
         ensures { result ≡ channel_at self.now place.now }
     {
         let row = self.rows.iter().find(|row| is_same_place(&row.1, place))?;

@@ -35,7 +35,7 @@ pub use above::{Above, stand_in};
 pub use association_line::are_channel_ids;
 pub use bare::write_bare_plan;
 pub use bare_laws::{bare_plan_is_short, bare_plan_reads};
-pub use channel_line::Place;
+pub use channel_line::ChannelPlace;
 pub use expected::{
     AssociationWord, ChannelWord, Expected, HeadWord, KeyWord, LinkWord, MapWord, NamedAbove,
     Spelling, Spot,

@@ -3,7 +3,7 @@
 use crate::bounds::{
     MOST_AOS_CHANNEL, MOST_AOS_SPACECRAFT, MOST_SPACECRAFT, MOST_TC_CHANNEL, MOST_TM_CHANNEL,
 };
-use crate::channel_line::{Place, is_same_place};
+use crate::channel_line::{ChannelPlace, is_same_place};
 use crate::expected::MapWord;
 use crate::kind::Kind;
 use sdls_base::{AnyLayout, NoMemory};
@@ -54,7 +54,7 @@ impl Room {
 pub(crate) struct Names {
     rows: Vec<(Kind, u64, u32)>,
     rooms: Vec<(u64, Room)>,
-    places: Vec<(Place, u32)>,
+    places: Vec<(ChannelPlace, u32)>,
 }
 
 impl Names {
@@ -103,7 +103,11 @@ impl Names {
     }
 
     /// Notes the line of a channel at a place, unless one above it has one there, and answers that one.
-    pub(crate) fn note_place(&mut self, place: Place, line: u32) -> Result<Option<u32>, NoMemory> {
+    pub(crate) fn note_place(
+        &mut self,
+        place: ChannelPlace,
+        line: u32,
+    ) -> Result<Option<u32>, NoMemory> {
         for row in &self.places {
             if is_same_place(&row.0, &place) {
                 return Ok(Some(row.1));

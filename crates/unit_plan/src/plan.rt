@@ -7,10 +7,10 @@ ghost use Rattle.unit_plan.specs.PlanLines.{no_lines, link_of, has_link, has_key
 ghost use Rattle.sdls_base.specs.Bounds.{IsKeyLength};
 ghost use Rattle.sdls_base.specs.Link.{IsLink};
 ghost use Rattle.unit_plan.specs.PlanRules.{IsAssociation};
-ghost use Rattle.unit_plan.specs.Plan.{plan_of, after};
+ghost use Rattle.unit_plan.specs.Plan.{plan_of, plan_after};
 
 use crate::MOST_OCTETS;
-use crate::channel_line::Place;
+use crate::channel_line::ChannelPlace;
 use crate::channels::Channels;
 use crate::lines::Lines;
 use crate::plan_error::{PlanCause, PlanError, check, refused};
@@ -115,7 +115,7 @@ impl Plan {
 
     fn read_lines(alloc: Global, text: &[u8]) -> Result<Plan, PlanError>
         requires { length text.now ≤ 65536 }
-        ensures { Gives result (after 1 no_lines (lines_of text.now)) }
+        ensures { Gives result (plan_after 1 no_lines (lines_of text.now)) }
     {
         let mut plan = Plan::new(alloc);
         let mut number = 1;
@@ -195,7 +195,7 @@ impl Plan {
         ensures { result ≡ channel_at self.now.channels
             (record { link = link; spacecraft = spacecraft; channel = channel; map = map }) }
     {
-        self.channels.at(&Place {
+        self.channels.at(&ChannelPlace {
             link,
             spacecraft,
             channel,

@@ -12,7 +12,7 @@ ghost use Rattle.unit_plan.specs.Plan.{association_added, association_taken, tak
 
 use crate::association_line::{AssociationLine, are_channel_ids, association};
 use crate::bounds::{LEAST_SLOTS, MOST_COUNT, MOST_KEY, MOST_LINK, MOST_NUMBER, MOST_SPI};
-use crate::channel_line::{Place, channel, is_place};
+use crate::channel_line::{ChannelPlace, channel, is_place};
 use crate::expected::Expected;
 use crate::heads::{device, number, version};
 use crate::key_line::key;
@@ -184,7 +184,7 @@ impl Plan {
     }
 
     /// Whether the place is one on its link, where that has a line.
-    fn is_on_link(&self, place: &Place) -> bool
+    fn is_on_link(&self, place: &ChannelPlace) -> bool
         ensures { result ≡ is_on_link self.now.links place.now }
     {
         match self.link(place.link) {
@@ -194,7 +194,12 @@ impl Plan {
     }
 
     /// The identifier of a channel that may have a line here.
-    fn admit_channel(&self, line: u32, number: u8, place: &Place) -> Result<ChannelId, PlanError>
+    fn admit_channel(
+        &self,
+        line: u32,
+        number: u8,
+        place: &ChannelPlace,
+    ) -> Result<ChannelId, PlanError>
         ensures { Gives result (channel_admitted line self.now number place.now) }
     {
         self.in_order(line, 5)?;

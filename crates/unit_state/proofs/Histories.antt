@@ -4,10 +4,10 @@ use Rattle.sdls_base.specs.declared.entry.Entry.{Entry}
 use Rattle.unit_state.specs.declared.state.State.{State}
 use Rattle.unit_state.specs.Applied.{applied}
 use Rattle.unit_state.specs.Restart.{counts}
-use Rattle.unit_state.specs.History.{after, epoch_after, at_epoch}
+use Rattle.unit_state.specs.History.{after_all, epoch_after, at_epoch}
 
 pub after_more : (state : State) (entries more : List Entry)
-    → after state (entries ++ more) ≡ after (after state entries) more
+    → after_all state (entries ++ more) ≡ after_all (after_all state entries) more
 after_more state [] more = refl
 after_more state (entry ∷ entries) more = after_more (applied state entry.change) entries more
 

@@ -6,13 +6,13 @@ use Rattle.unit_state.specs.Applied.{applied}
 use Rattle.unit_state.specs.Restart.{counts}
 
 -- the state after the changes of all entries
-abbrev pub after : State → List Entry → State
-after state [] = state
-after state (entry ∷ entries) = after (applied state entry.change) entries
+abbrev pub after_all : State → List Entry → State
+after_all state [] = state
+after_all state (entry ∷ entries) = after_all (applied state entry.change) entries
 
 -- the state after the first p entries
 abbrev pub after_first : State → List Entry → ℕ → State
-after_first state entries p = after state (take p entries)
+after_first state entries p = after_all state (take p entries)
 
 -- the epoch after the entries: how many of them count
 abbrev pub epoch_after : List Entry → ℕ

@@ -9,7 +9,7 @@ ghost use Rattle.unit_state.specs.State.{KeepsRules};
 ghost use Rattle.unit_state.specs.Applied.{applied};
 ghost use Rattle.unit_state.specs.Allows.{Allows};
 ghost use Rattle.unit_state.specs.Restart.{AreAlike, IsLight, IsStorable, restarted, still, stored_as};
-ghost use Rattle.unit_state.specs.History.{after, at_epoch, epoch_after};
+ghost use Rattle.unit_state.specs.History.{after_all, at_epoch, epoch_after};
 ghost use Rattle.unit_state.specs.Laws.{Rises, FallOnlyTo, IsNoMarks, KeepsPlaces, HaveOwnBytes, ServeAlike};
 ghost use Rattle.unit_state.specs.Laws.{StoresWell};
 
@@ -82,7 +82,7 @@ pub fn alike_allows()
 /// Law: a history that goes on goes on from the state that it reached.
 pub fn histories_go_on()
     ensures { (state : State) (entries more : List Entry)
-        → after state (entries ++ more) ≡ after (after state entries) more }
+        → after_all state (entries ++ more) ≡ after_all (after_all state entries) more }
 {}
 
 /// Law: the epoch of a history is the sum of those of its parts.

@@ -19,5 +19,5 @@ pub use laws::{
     numbers_rise, octets_differ, places_stay, rest_stays, restarts_once, rules_stay, serve_alike,
     stored_well, unstored_stays,
 };
-pub use state::State;
+pub use state::{State, restarted_high};
 pub use taking::least_with;

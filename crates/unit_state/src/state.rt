@@ -21,8 +21,8 @@ pub struct State {
     pub device: [u8; 4],
 }
 
-/// The highest number that a restart gives an association.
-fn restarted_high(keys: &KeyBook, row: &SaRow) -> u64
+/// The highest number that a restart gives an association: the floor of the key with which it receives, or its own.
+pub fn restarted_high(keys: &KeyBook, row: &SaRow) -> u64
     ensures high { result ≡ restarted_high keys.now row.now.direction row.now.key row.now.window.high }
     ensures fits { IsSaRow row.now → HasHigh row.now.direction row.now.key result }
 {

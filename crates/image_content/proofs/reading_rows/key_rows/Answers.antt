@@ -4,7 +4,7 @@ use Rattle.std.proofs.lemmas.List.{flat_map_more, take-append-drop}
 use Rattle.std.proofs.lemmas.List.Elements.{All-nil, All-push}
 use Rattle.std.proofs.lemmas.Result.{err_from_is_err_and}
 use Rattle.book_record.proofs.Rows.{one_key_row}
-use Rattle.book_record.specs.KeyParts.{key_row_octets, IsKeyRow}
+use Rattle.book_record.specs.KeyParts.{key_row_octets, AreKeyRowOctets}
 use Rattle.key_book.specs.declared.key_row.KeyRow.{KeyRow}
 use Rattle.image_content.specs.Content.{key_rows}
 use Rattle.image_content.specs.Reading.{AreKeyRows, IsTypedKey}
@@ -35,7 +35,7 @@ loop-rest-preserved c =
     record {
       each = subst (All IsTypedKey) (sym items)
           (All-push IsTypedKey rows row before.each
-          (subst (IsKeyRow row) is.spelled is));
+          (subst (AreKeyRowOctets row) is.spelled is));
       put = ap (λ (rows : List KeyRow). key_rows rows ++ behind) items
           ∙ ap (λ (s : List ℕ). s ++ behind) (sym (flat_map_more key_row_octets [] rows row))
           ∙ append_assoc (key_rows rows) (key_row_octets row) behind
@@ -43,7 +43,7 @@ loop-rest-preserved c =
           ∙ before.put;
       only = λ all are.
           let s = before.only all are in
-          let h = head_of key_row_octets IsKeyRow 96 (omega arith) key_sized first behind
+          let h = head_of key_row_octets AreKeyRowOctets 96 (omega arith) key_sized first behind
           (omega (arith, c.split_at.ensures.front_len)) s.others s.behind.each (joined ∙ s.behind.spelled) in
           let one = one_key_row row h.head first is h.is in
           subst (λ (rows : List KeyRow). SplitAt (λ others. AreKeyRows others behind) rows all) (sym items)
@@ -69,7 +69,7 @@ returns-in_err-key_row-clause-fault c =
     rw (p.1, p.2) (whole_cause c.in_err-key_row.field-0.0
     (λ none all are.
     let s = c.loop-rest.invariant.only all are in
-    let h = head_of key_row_octets IsKeyRow 96 (omega arith) key_sized first behind
+    let h = head_of key_row_octets AreKeyRowOctets 96 (omega arith) key_sized first behind
     (omega (arith, c.split_at.ensures.front_len)) s.others s.behind.each (joined ∙ s.behind.spelled) in
     none h.head h.is)
     c.in_err-key_row.ensures.fault)

@@ -1,5 +1,5 @@
 use Rattle.std.proofs.Common.{rules, ℕ, List, ◌≡◌, ◌≤◌, ◌++◌, ◌∙◌, ap, arith, subst}
-use Rattle.sdls_base.specs.Numbers.{times}
+use Rattle.sdls_base.specs.Numbers.{tally}
 use Rattle.counter_table.proofs.Sums.{times-append}
 use Rattle.counter_table.specs.Turn.{merged}
 use Rattle.counter_table.proofs.Meeting.{meets}
@@ -25,8 +25,8 @@ returns-clause-apart g c row x below =
     let drawn : c.join_seat.new.seat.me.0.numbers.drawn ≡ mine ++ its =
     ap (λ m. m.0.numbers.drawn) c.join_seat.ensures.2 ∙ ap (λ s. mine ++ s.me.0.numbers.drawn)
     c.into_seat-seat.ensures in
-    let once : times row x (mine ++ its) ≤ 1 =
-    subst (λ (z : List (ℕ × ℕ)). times row x z ≤ 1) drawn (c.look.ensures.apart row x below) in
+    let once : tally row x (mine ++ its) ≤ 1 =
+    subst (λ (z : List (ℕ × ℕ)). tally row x z ≤ 1) drawn (c.look.ensures.apart row x below) in
     omega (arith, times-append row x mine its)
 
 pub returns-clause-meet : goal.returns-clause-meet
