@@ -1,6 +1,7 @@
 // Drills, as their gate sees them.
 use crate::runs::call;
-use sdls_outside::{MemSite, SureSource};
+use crate::watch::Watch;
+use sdls_outside::MemSite;
 use sdls_run::Gate;
 use sdls_run::status::DONE;
 use std::sync::atomic::{AtomicU64, Ordering};
@@ -8,7 +9,7 @@ use std::test::Fail;
 
 /// How often each of its calls was made.
 #[derive(Drop)]
-struct Counting {
+pub(crate) struct Counting {
     passed: AtomicU64,
     done: AtomicU64,
 }
@@ -32,9 +33,9 @@ fn a_drill_handles_its_records(rt: HostRuntime) -> Result<(), Fail> {
         passed: AtomicU64::new(0),
         done: AtomicU64::new(0),
     };
-    let mut source = SureSource::new(Vec::new(alloc));
+    let watch = Watch::Counting(&gate);
     let site = MemSite::new(alloc, Vec::new(alloc), Vec::new(alloc), None);
-    let (status, entries, site) = call(&rt, alloc, "drill 1000", &mut source, site, &gate)?;
+    let (status, entries, site) = call(&rt, alloc, "drill 1000", Vec::new(alloc), site, &watch)?;
     assert_eq!(rt; (status, entries), (DONE, 0));
     assert_eq!(rt;
         site.sunk(),
@@ -54,9 +55,16 @@ fn a_drill_over_a_link_handles_what_arrives(rt: HostRuntime) -> Result<(), Fail>
         passed: AtomicU64::new(0),
         done: AtomicU64::new(0),
     };
-    let mut source = SureSource::new(Vec::new(alloc));
+    let watch = Watch::Counting(&gate);
     let site = MemSite::new(alloc, Vec::new(alloc), Vec::new(alloc), None);
-    let (status, entries, site) = call(&rt, alloc, "drill link 1000", &mut source, site, &gate)?;
+    let (status, entries, site) = call(
+        &rt,
+        alloc,
+        "drill link 1000",
+        Vec::new(alloc),
+        site,
+        &watch,
+    )?;
     assert_eq!(rt; (status, entries), (DONE, 0));
     assert_eq!(rt;
         site.sunk(),

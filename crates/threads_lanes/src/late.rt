@@ -2,9 +2,9 @@
 use crate::answers::{Head, counted};
 use crate::runs::life;
 use crate::support::told;
+use crate::watch::Watch;
 use case_units::{BEGINNING, FENCE, TELECOMMAND_SENDER, image_of, image_of_sender, push_frame};
 use sdls_outside::MemSite;
-use sdls_run::OpenGate;
 use sdls_run::status::DONE;
 use std::alloc::{AllocError, Global};
 use std::sync::Wait;
@@ -50,7 +50,7 @@ fn protected<R: Threads + Wait + Sync>(rt: &R, alloc: Global) -> Result<Vec<u8>,
     for _ in 0..ALL {
         push_frame(&mut input, 0)?;
     }
-    let (_, _, site) = life(rt, alloc, input, site, &OpenGate)?;
+    let (_, _, site) = life(rt, alloc, input, site, &Watch::Open)?;
     Ok(Vec::from_slice(alloc, site.sunk())?)
 }
 
@@ -110,7 +110,7 @@ fn each_number_is_accepted_once(rt: HostRuntime) -> Result<(), Fail> {
         image,
         Vec::new(alloc),
         records(alloc, protected.as_slice())?,
-        &OpenGate,
+        &Watch::Open,
         2 * ALL + 2,
     )?;
     // an entry for the command and for each frame

@@ -29,3 +29,5 @@ mod stops;
 mod support;
 #[cfg(test)]
 mod waits;
+#[cfg(test)]
+mod watch;

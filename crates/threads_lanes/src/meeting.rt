@@ -2,6 +2,7 @@
 use crate::answers::Head;
 use crate::support::told;
 use crate::waits::Flag;
+use crate::watch::Watch;
 use case_units::{BEGINNING, TELECOMMAND, TWO_SENDERS, image_of_sender};
 use sdls_run::Gate;
 use sdls_run::status::DONE;
@@ -98,7 +99,7 @@ fn two_lanes_run_beside_each_other(rt: HostRuntime) -> Result<(), Fail> {
         image,
         Vec::new(alloc),
         records(alloc)?,
-        &gate,
+        &Watch::Meeting(&gate),
         101,
     )?;
     assert!(rt; gate.has_held());

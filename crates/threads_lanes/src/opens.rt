@@ -2,6 +2,7 @@
 use crate::answers::Head;
 use crate::support::told;
 use crate::waits::{Count, Flag};
+use crate::watch::Watch;
 use case_units::{BEGINNING, image_of, push_on_lane};
 use sdls_run::Gate;
 use sdls_run::status::DONE;
@@ -36,7 +37,7 @@ const NUMBER: u8 = 0x17;
 
 /// A gate at which the first records of all lanes wait for each other.
 #[derive(Drop)]
-struct Crowd {
+pub(crate) struct Crowd {
     come: Count,
     missed: Flag,
 }
@@ -95,7 +96,7 @@ fn sixteen_lanes_accept_a_frame_once(rt: HostRuntime) -> Result<(), Fail> {
         image,
         Vec::new(alloc),
         records(alloc)?,
-        &gate,
+        &Watch::Crowd(&gate),
         17,
     )?;
     assert_eq!(rt; (gate.come.value(), gate.missed.is_set()), (16, false));

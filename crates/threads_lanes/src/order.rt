@@ -1,7 +1,7 @@
 // Records of one lane alone.
 use crate::support::told;
+use crate::watch::Watch;
 use case_units::{BEGINNING, TELECOMMAND_SENDER, image_of_sender, push_frame};
-use sdls_run::OpenGate;
 use sdls_run::status::DONE;
 use std::alloc::{AllocError, Global};
 use std::test::Fail;
@@ -25,7 +25,7 @@ fn one_lane_answers_number_after_number(rt: HostRuntime) -> Result<(), Fail> {
         image,
         Vec::new(alloc),
         records(alloc)?,
-        &OpenGate,
+        &Watch::Open,
         1025,
     )?;
     // One reserve: its mark is the number that comes next, so that nothing is released.

@@ -2,6 +2,7 @@
 use crate::answers::{Head, numbers_of};
 use crate::meeting::{Meeting, TELEMETRY};
 use crate::support::told;
+use crate::watch::Watch;
 use case_units::{BEGINNING, TELECOMMAND, TWO_SENDERS, image_of_sender, push_on_lane};
 use sdls_run::status::DONE;
 use std::alloc::{AllocError, Global};
@@ -62,7 +63,7 @@ fn two_lanes_alternate_between_two_associations(rt: HostRuntime) -> Result<(), F
         image,
         Vec::new(alloc),
         records(alloc)?,
-        &gate,
+        &Watch::Meeting(&gate),
         RECORDS + 1,
     )?;
     assert!(rt; gate.has_held());

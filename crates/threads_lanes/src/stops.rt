@@ -1,8 +1,8 @@
 // A stop on one of sixteen lanes.
 use crate::answers::{Head, PROTECTED, counted, numbers_of};
 use crate::support::told;
+use crate::watch::Watch;
 use case_units::{BEGINNING, TELECOMMAND_SENDER, image_of_sender, push_frame};
-use sdls_run::OpenGate;
 use sdls_run::status::DONE;
 use std::alloc::{AllocError, Global};
 use std::test::Fail;
@@ -59,7 +59,7 @@ fn each_frame_is_judged_at_its_position(rt: HostRuntime) -> Result<(), Fail> {
         image,
         Vec::new(alloc),
         records(alloc)?,
-        &OpenGate,
+        &Watch::Open,
         RECORDS + 1,
     )?;
     assert_eq!(rt; told.status, DONE);

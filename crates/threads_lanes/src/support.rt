@@ -1,8 +1,8 @@
 // What the tests share.
 use crate::answers::{Head, heads};
 use crate::runs::life;
+use crate::watch::Watch;
 use sdls_outside::MemSite;
-use sdls_run::Gate;
 use std::alloc::Global;
 use std::sync::Wait;
 use std::test::Fail;
@@ -17,17 +17,17 @@ pub(crate) struct Heard {
 }
 
 /// A run over an input, on a site that holds this image and fails at these calls. It writes so many answers.
-pub(crate) fn told<R: Threads + Wait + Sync, G: Gate + Sync>(
+pub(crate) fn told<R: Threads + Wait + Sync>(
     rt: &R,
     alloc: Global,
     image: Vec<u8>,
     failing: Vec<u64>,
     input: Vec<u8>,
-    gate: &G,
+    watch: &Watch<'_>,
     count: u64,
 ) -> Result<Heard, Fail> {
     let site = MemSite::new(alloc, image, failing, None);
-    let (status, entries, site) = life(rt, alloc, input, site, gate)?;
+    let (status, entries, site) = life(rt, alloc, input, site, watch)?;
     let heads = heads(alloc, site.sunk(), count)?;
     Ok(Heard {
         status,
