@@ -17,14 +17,12 @@ use Rattle.law_workers.specs.Lanes.{is_of_lane, of_lane, Part}
 use Rattle.law_workers.specs.Alone.{MovedInTurn}
 use Rattle.law_workers.specs.Began.{BeganWith}
 use Rattle.frame_workers.specs.declared.lane.Lane.{Lane}
-use Rattle.frame_workers.specs.Permits.{AreTrueFor}
 use Rattle.law_workers.specs.Ends.{EndsSegment}
 
 module _ {B : Type 0} (ready : Worker B → Type 0) where
-  -- the lane may run: its worker is ready, what it keeps is true, and it has room for the answers
+  -- the lane may run: its worker is ready, and it has room for the answers
   pub record CanRun (tasks : List Record) (lane : Lane B) : Type 0 where
     pub is_ready : ready lane.worker
-    pub kept : All (λ permits. AreTrueFor permits (view lane.worker).turn) lane.kept
     pub empty : lane.answers.items ≡ []
     pub room : length tasks ≤ vec_capacity lane.answers
     pub going : lane.full ≡ false

@@ -11,8 +11,6 @@ ghost use Rattle.frame_workers.specs.Lanes.{answers_of, HaveOwnNumbers, IsRoom, 
 ghost use Rattle.frame_workers.specs.Lanes.{parts_of};
 
 use crate::lane::Lane;
-use crate::permits::no_permits;
-use frame_shield::FRAME_ROOM;
 use record_io::{Answer, LANES, Record, SEGMENT_RECORDS, Spare};
 use sdls_base::NoMemory;
 use sdls_outside::Site;
@@ -133,11 +131,9 @@ pub(crate) fn split_lanes<O: Site>(
         lanes.push_reserved(Lane {
             number,
             worker: split,
-            kept: no_permits(),
             answers,
             full: false,
             spare: share_for(alloc, spare, count),
-            room: [0; FRAME_ROOM],
         });
     }
 }

@@ -8,7 +8,7 @@ ghost use Rattle.frame_workers.specs.Lanes.{CanRun, HasRun};
 
 use crate::gate::Gate;
 use crate::handling::handle;
-use crate::permits::{PLACES, Permits};
+use crate::permits::no_permits;
 use frame_shield::FRAME_ROOM;
 use record_io::{Answer, Record, Spare};
 use sdls_outside::Site;
@@ -18,18 +18,15 @@ use std::sync::Wait;
 use std::thread;
 use std::thread::Threads;
 
-/// A lane of a segment: its number, its worker with what the worker handles frames under, and the answers to its
-/// records, up to one for which the history was full.
+/// A lane of a segment: its number, its worker, and the answers to its records, up to one for which the history was
+/// full. It is handed from thread to thread, so what it needs only while it runs is made where it runs.
 pub struct Lane<B> {
     pub(crate) number: u8,
     pub(crate) worker: counter_table::Worker<B>,
-    pub(crate) kept: [Permits; PLACES],
     pub(crate) answers: Vec<Answer>,
     pub(crate) full: bool,
     /// Lists for the bodies of answers.
     pub(crate) spare: Spare,
-    /// Where the lane's frames are protected.
-    pub(crate) room: [u8; FRAME_ROOM],
 }
 
 impl<B> Drop for Lane<B> {
@@ -37,11 +34,9 @@ impl<B> Drop for Lane<B> {
         let Lane {
             number: _,
             worker: _,
-            kept: _,
             answers: _,
             full: _,
             spare: _,
-            room: _,
         } = self;
     }
 }
@@ -54,11 +49,9 @@ impl<B> Lane<B> {
         let Lane {
             number: _,
             worker,
-            kept: _,
             answers,
             full: _,
             spare,
-            room: _,
         } = self;
         (worker, answers, spare)
     }
@@ -78,6 +71,8 @@ pub(crate) fn run_lane<R: Wait, O: Site, G: Gate>(
     requires can { CanRun (IsReady unit.now.counters unit.now.plan) records.now lane.old }
     ensures ran { HasRun (IsReady unit.now.counters unit.now.plan) O.told records.now lane.old lane.new }
 {
+    let mut kept = no_permits();
+    let mut room = [0; FRAME_ROOM];
     for task in records {
         if task.lane != lane.number {
             continue;
@@ -88,8 +83,8 @@ pub(crate) fn run_lane<R: Wait, O: Site, G: Gate>(
             alloc,
             unit,
             &mut lane.worker,
-            &mut lane.kept,
-            &mut lane.room,
+            &mut kept,
+            &mut room,
             &mut lane.spare,
             task,
         );

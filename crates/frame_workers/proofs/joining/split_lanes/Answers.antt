@@ -51,7 +51,6 @@ rooms-preserved g c =
             used = used;
             can = record {
               is_ready = c.split-split.ensures.new;
-              kept = c.no_permits.ensures (view c.split-split.result).turn;
               empty = room.empty;
               room = room.roomy used;
               going = refl;

@@ -29,7 +29,7 @@ loop-task-init g c =
     record {
       number = refl;
       is_ready = can.is_ready;
-      kept = can.kept;
+      kept = c.no_permits-kept.ensures (view c.args.lane.now.worker).turn;
       shares = refl;
       going = can.going;
       room = can.room;
