@@ -1,11 +1,13 @@
 -- The answers of the lanes are placed in the order of the records.
 use Rattle.std.proofs.Common.{◌≡◌, ◌≢◌, ℕ, zero, suc, ◌+◌, ◌<◌, List, [], ◌∷◌, ◌++◌, length, take, drop, get_or}
-use Rattle.std.proofs.Common.{reverse, Bool, true, false, cond, Some, refl, sym, ◌∙◌, ap, subst, inl, inr, arith}
-use Rattle.std.proofs.Common.{add-one, Vec, set, length-append}
+use Rattle.std.proofs.Common.{Bool, true, false, cond, Some, refl, sym, ◌∙◌, ap, subst, inl, inr, arith}
+use Rattle.std.proofs.Common.{add-one, set, length-append}
 use Rattle.std.specs.List.{All, Contains, slice_get, slice_index_or}
+use Rattle.std.specs.Vec.Iter.{into_iter_items}
+use Rattle.std.specs.declared.vec.IntoIter.{IntoIter}
 use Rattle.std.proofs.lemmas.Bool.{cases_eq}
 use Rattle.std.proofs.lemmas.Bool.Decides.{nat_tests}
-use Rattle.std.proofs.lemmas.List.{length-take, reverse-append}
+use Rattle.std.proofs.lemmas.List.{length-take}
 use Rattle.std.proofs.lemmas.List.Elements.{All-push, All-head, All-tail}
 use Rattle.std.proofs.Math.Seq.{take-suc, drop-cons}
 use Rattle.record_io.specs.declared.records.Record.{Record}
@@ -17,43 +19,42 @@ use Rattle.frame_workers.specs.Lanes.{left_at, AreAmong}
 use Rattle.frame_workers.proofs.Steps.{deeds_step, lane_own, lane_other}
 
 module _ {A : Type 0} where
-  -- the list of a lane is set
-  pub left_set : (parts : List (Vec Answer A)) (i : ℕ) (room : Vec Answer A) → i < length parts
-      → left_at i (set parts i room) ≡ reverse room.items
-  left_set [] i room low = absurd (omega arith)
-  left_set (p ∷ parts) zero room low = refl
-  left_set (p ∷ parts) (suc i) room low = left_set parts i room (omega arith)
+  -- the answers of a lane are set
+  pub left_set : (parts : List (IntoIter Answer A)) (i : ℕ) (left : IntoIter Answer A) → i < length parts
+      → left_at i (set parts i left) ≡ into_iter_items left
+  left_set [] i left low = absurd (omega arith)
+  left_set (p ∷ parts) zero left low = refl
+  left_set (p ∷ parts) (suc i) left low = left_set parts i left (omega arith)
 
-  pub left_other : (parts : List (Vec Answer A)) (i n : ℕ) (room : Vec Answer A) → n ≢ i
-      → left_at n (set parts i room) ≡ left_at n parts
-  left_other [] i n room off = refl
-  left_other (p ∷ parts) zero zero room off = absurd (off refl)
-  left_other (p ∷ parts) zero (suc n) room off = refl
-  left_other (p ∷ parts) (suc i) zero room off = refl
-  left_other (p ∷ parts) (suc i) (suc n) room off = left_other parts i n room (λ e. off (ap suc e))
+  pub left_other : (parts : List (IntoIter Answer A)) (i n : ℕ) (left : IntoIter Answer A) → n ≢ i
+      → left_at n (set parts i left) ≡ left_at n parts
+  left_other [] i n left off = refl
+  left_other (p ∷ parts) zero zero left off = absurd (off refl)
+  left_other (p ∷ parts) zero (suc n) left off = refl
+  left_other (p ∷ parts) (suc i) zero left off = refl
+  left_other (p ∷ parts) (suc i) (suc n) left off = left_other parts i n left (λ e. off (ap suc e))
 
-  pub left_here : (parts : List (Vec Answer A)) (i : ℕ) (d : Vec Answer A) → i < length parts
-      → left_at i parts ≡ reverse (slice_index_or parts i d).items
+  pub left_here : (parts : List (IntoIter Answer A)) (i : ℕ) (d : IntoIter Answer A) → i < length parts
+      → left_at i parts ≡ into_iter_items (slice_index_or parts i d)
   left_here [] i d low = absurd (omega arith)
   left_here (p ∷ parts) zero d low = refl
   left_here (p ∷ parts) (suc i) d low = left_here parts i d (omega arith)
 
-  -- one more room, which is empty
-  pub left_push : (parts : List (Vec Answer A)) (room : Vec Answer A) → ((n : ℕ) → left_at n parts ≡ [])
-      → room.items ≡ []
-      → (n : ℕ) → left_at n (parts ++ room ∷ []) ≡ []
-  left_push [] room h e zero = ap reverse e
-  left_push [] room h e (suc n) = refl
-  left_push (p ∷ parts) room h e zero = h zero
-  left_push (p ∷ parts) room h e (suc n) = left_push parts room (λ m. h (suc m)) e n
+  -- one more, of which none are left
+  pub left_push : (parts : List (IntoIter Answer A)) (left : IntoIter Answer A) → ((n : ℕ) → left_at n parts ≡ [])
+      → into_iter_items left ≡ []
+      → (n : ℕ) → left_at n (parts ++ left ∷ []) ≡ []
+  left_push [] left h e zero = e
+  left_push [] left h e (suc n) = refl
+  left_push (p ∷ parts) left h e zero = h zero
+  left_push (p ∷ parts) left h e (suc n) = left_push parts left (λ m. h (suc m)) e n
 
   -- the next answer is taken
-  pub pop_own : (parts : List (Vec Answer A)) (i : ℕ) (d room : Vec Answer A) (a : Answer) → i < length parts
-      → (slice_index_or parts i d).items ≡ room.items ++ a ∷ [] → left_at i parts ≡ a ∷ left_at i (set parts i room)
-  pop_own parts i d room a low items =
-      left_here parts i d low
-      ∙ (ap reverse items
-      ∙ (reverse-append room.items (a ∷ []) ∙ ap (λ (l : List Answer). a ∷ l) (sym (left_set parts i room low))))
+  pub next_own : (parts : List (IntoIter Answer A)) (i : ℕ) (d left : IntoIter Answer A) (a : Answer) → i < length parts
+      → into_iter_items (slice_index_or parts i d) ≡ a ∷ into_iter_items left
+      → left_at i parts ≡ a ∷ left_at i (set parts i left)
+  next_own parts i d left a low items =
+      left_here parts i d low ∙ (items ∙ ap (λ (l : List Answer). a ∷ l) (sym (left_set parts i left low)))
 
 -- an element at its place
 pub got : {X : Type 0} (xs : List X) (k : ℕ) (x : X) → k < length xs → x ≡ get_or xs k x → slice_get xs k ≡ Some x

@@ -1,7 +1,9 @@
 -- The lanes of a segment, as they run (profile).
 use Rattle.std.specs.Prelude.{◌≡◌, ◌≢◌, ℕ, zero, suc, ◌<◌, ◌≤◌, ◌==◌, Bool, true, false, List, [], ◌∷◌, ◌++◌}
-use Rattle.std.specs.Prelude.{if◌then◌else◌, length, reverse, take, slice_get, Some, Vec, vec_capacity}
+use Rattle.std.specs.Prelude.{if◌then◌else◌, length, take, slice_get, Some, Vec, vec_capacity}
 use Rattle.std.specs.List.{All, Contains, list_any, slice_index_or}
+use Rattle.std.specs.Vec.Iter.{into_iter_items}
+use Rattle.std.specs.declared.vec.IntoIter.{IntoIter}
 use Rattle.counter_table.specs.declared.counters.Worker.{Worker}
 use Rattle.counter_table.specs.declared.view.View.{View}
 use Rattle.counter_table.specs.Worker.{view}
@@ -87,10 +89,10 @@ HaveOwnNumbers one other = one.number ≢ other.number
 abbrev pub IsThere : {B : Type 0} → ℕ → List (Lane B) → Type 0
 IsThere {B} number lanes = (lane : Lane B) × Contains lanes lane × (lane.number ≡ number)
 
--- the answers left of the lane with this number, of lists that have the last answer first
-abbrev pub left_at : {A : Type 0} → ℕ → List (Vec Answer A) → List Answer
+-- the answers left of the lane with this number
+abbrev pub left_at : {A : Type 0} → ℕ → List (IntoIter Answer A) → List Answer
 left_at number [] = []
-left_at zero (part ∷ parts) = reverse part.items
+left_at zero (part ∷ parts) = into_iter_items part
 left_at (suc number) (part ∷ parts) = left_at number parts
 
 -- the lane's records with these answers are among those answered

@@ -1,6 +1,7 @@
 -- A segment, handled (profile).
 use Rattle.std.specs.Prelude.{◌≡◌, ℕ, ◌<◌, ◌≤◌, Bool, true, List, [], Vec, length, vec_capacity}
 use Rattle.std.specs.List.{All, AllPairs, list_any}
+use Rattle.std.specs.declared.vec.IntoIter.{IntoIter}
 use Rattle.sdls_base.specs.declared.TheConstants.{MOST_KEYS}
 use Rattle.counter_table.specs.declared.counters.Worker.{Worker}
 use Rattle.counter_table.specs.declared.view.View.{View}
@@ -35,8 +36,8 @@ pub record HandlesSegment (told : Bool) (old new : View) (tasks : List Record) (
       → MovesWords begin old new tasks (deeds_of number tasks answers)
   pub whole : old.numbers.shares ≡ ALL_SHARES → IsWhole MOST_KEYS new
 
--- empty rooms for the answers of each lane, and one for all answers
-pub record HasRooms {A C : Type 0} (tasks : List Record) (parts : List (Vec Answer A))
+-- no answers yet of each lane, and an empty room for all answers
+pub record HasRooms {A C : Type 0} (tasks : List Record) (parts : List (IntoIter Answer A))
     (answers : Vec Answer C) : Type 0 where
   pub many : length parts ≡ LANES
   pub empty : (number : ℕ) → left_at number parts ≡ []

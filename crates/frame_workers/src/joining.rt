@@ -17,6 +17,7 @@ use sdls_outside::Site;
 use shared_unit::{SharedBook, Unit, Worker};
 use std::alloc::Global;
 use std::mem;
+use std::vec::IntoIter;
 
 /// The lanes that there may be.
 const MOST_LANES: usize = LANES as usize;
@@ -138,13 +139,13 @@ pub(crate) fn split_lanes<O: Site>(
     }
 }
 
-/// Joins the lanes' workers, the last lane first, and keeps the answers of each under its number, the last one first.
-/// Spare lists that a lane did not fill come back.
+/// Joins the lanes' workers, the last lane first, and keeps the answers of each under its number. Spare lists that a
+/// lane did not fill come back.
 pub(crate) fn join_lanes<O: Site>(
     unit: &Unit<O>,
     worker: &mut Worker<O>,
     mut lanes: Vec<Lane<SharedBook<O>>>,
-    parts: &mut [Vec<Answer>],
+    parts: &mut [IntoIter<Answer, Global>],
     spare: &mut Spare,
 )
     requires ready { IsReady unit.now.counters unit.now.plan worker.old }
@@ -161,10 +162,9 @@ pub(crate) fn join_lanes<O: Site>(
 {
     'lanes: while let Some(lane) = lanes.pop() {
         let number = usize::from(lane.number);
-        let (other, mut answers, left) = lane.into_parts();
+        let (other, answers, left) = lane.into_parts();
         unit.join(worker, other);
         spare.rejoin(left);
-        answers.reverse();
-        parts[number] = answers;
+        parts[number] = answers.into_iter();
     }
 }

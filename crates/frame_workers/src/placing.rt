@@ -8,12 +8,14 @@ ghost use Rattle.law_workers.specs.Deeds.{deeds_of};
 ghost use Rattle.frame_workers.specs.Lanes.{AreAmong, left_at, StopsAt};
 
 use record_io::{Answer, Record};
+use std::alloc::Global;
+use std::vec::IntoIter;
 
 /// Places the answers of the lanes in the order of the records, up to a record that has none, and says whether there is
 /// one.
 pub(crate) fn place_answers(
     records: &[Record],
-    parts: &mut [Vec<Answer>],
+    parts: &mut [IntoIter<Answer, Global>],
     answers: &mut Vec<Answer>,
 ) -> bool
     requires many { length parts.old ≡ LANES }
@@ -29,7 +31,7 @@ pub(crate) fn place_answers(
         (length answers.new.items) }
 {
     for task in records {
-        match parts[usize::from(task.lane)].pop() {
+        match parts[usize::from(task.lane)].next() {
             Some(answer) => answers.push_reserved(answer),
             None => return true,
         }

@@ -30,6 +30,7 @@ use shared_unit::{SharedBook, Unit, Worker};
 use std::alloc::Global;
 use std::sync::Wait;
 use std::thread::Threads;
+use std::vec::IntoIter;
 
 /// What a segment was answered.
 #[derive(Drop)]
@@ -40,16 +41,16 @@ pub struct Segment {
     pub full: bool,
 }
 
-/// Empty rooms for the answers of each lane.
-fn empty_rooms(alloc: Global) -> Result<Vec<Vec<Answer>>, NoMemory>
-    ensures many { IfOk result (λ rooms. length rooms.items ≡ LANES) }
-    ensures empty { IfOk result (λ rooms. (number : ℕ) → left_at number rooms.items ≡ []) }
+/// No answers yet of each lane.
+fn no_answers(alloc: Global) -> Result<Vec<IntoIter<Answer, Global>>, NoMemory>
+    ensures many { IfOk result (λ parts. length parts.items ≡ LANES) }
+    ensures empty { IfOk result (λ parts. (number : ℕ) → left_at number parts.items ≡ []) }
 {
-    let mut rooms = Vec::with_capacity(alloc, usize::from(LANES))?;
-    'rooms: while rooms.len() < usize::from(LANES) {
-        rooms.push_reserved(Vec::new(alloc));
+    let mut parts = Vec::with_capacity(alloc, usize::from(LANES))?;
+    'parts: while parts.len() < usize::from(LANES) {
+        parts.push_reserved(Vec::new(alloc).into_iter());
     }
-    Ok(rooms)
+    Ok(parts)
 }
 
 /// For contracts alone: splits a worker off and joins it at once. Who has all shares then knows that it did all.
@@ -68,7 +69,7 @@ fn look_back<O: Site>(unit: &Unit<O>, worker: &mut Worker<O>)
 /// A segment whose lanes are to run, with rooms for its answers.
 pub(crate) struct Begun<O: Site> {
     pub(crate) lanes: Vec<Lane<SharedBook<O>>>,
-    parts: Vec<Vec<Answer>>,
+    parts: Vec<IntoIter<Answer, Global>>,
     answers: Vec<Answer>,
 }
 
@@ -92,7 +93,7 @@ pub(crate) fn begin_segment<O: Site>(
     let used = used_lanes(records);
     let rooms = rooms_for(alloc, records, &used)?;
     let mut lanes = Vec::with_capacity(alloc, usize::from(LANES))?;
-    let parts = empty_rooms(alloc)?;
+    let parts = no_answers(alloc)?;
     let answers = Vec::with_capacity(alloc, records.len())?;
     split_lanes(
         alloc, unit, worker, records, &used, rooms, spare, &mut lanes,

@@ -1,6 +1,6 @@
-use Rattle.std.proofs.Common.{◌≡◌, ◌≢◌, ℕ, ◌<◌, List, length, ◌∷◌, slice_set, reverse, refl, sym, ap, subst, ◌∙◌, arith}
+use Rattle.std.proofs.Common.{◌≡◌, ◌≢◌, ℕ, ◌<◌, List, length, ◌∷◌, slice_set, refl, sym, ap, subst, ◌∙◌, arith}
 use Rattle.std.specs.Option.{IfSome}
-use Rattle.std.proofs.lemmas.List.{length-set, reverse-reverse}
+use Rattle.std.proofs.lemmas.List.{length-set}
 use Rattle.std.proofs.lemmas.List.Elements.{All-pop}
 use Rattle.record_io.specs.declared.kinds.TheConstants.{LANES}
 use Rattle.sdls_base.specs.declared.TheConstants.{MOST_KEYS}
@@ -66,18 +66,17 @@ lanes-preserved g c =
     let number : c.from-number.result ≡ lane.number = c.from-number.ensures in
     let many = inv.many in let below = one.1 in
     let low : c.from-number.result < length c.lanes.parts = omega arith in
-    let kept : left_at lane.number (slice_set c.lanes.parts c.from-number.result c.reverse.new.self)
+    let kept : left_at lane.number (slice_set c.lanes.parts c.from-number.result c.into_iter.result)
     ≡ lane.answers.items =
-    subst (λ (n : ℕ). left_at n (slice_set c.lanes.parts c.from-number.result c.reverse.new.self) ≡ lane.answers.items)
+    subst (λ (n : ℕ). left_at n (slice_set c.lanes.parts c.from-number.result c.into_iter.result) ≡ lane.answers.items)
     number
-    (left_set c.lanes.parts c.from-number.result c.reverse.new.self low
-    ∙ (ap reverse c.reverse.ensures.items
-    ∙ (reverse-reverse _ ∙ ap (λ part. part.items) c.into_parts-other.ensures.answers))) in
+    (left_set c.lanes.parts c.from-number.result c.into_iter.result low
+    ∙ (c.into_iter.ensures.rest ∙ ap (λ part. part.items) c.into_parts-other.ensures.answers)) in
     record {
       is_ready = c.join.ensures.ready;
       ready = ready.0;
       apart = apart.0;
-      many = length-set c.lanes.parts c.from-number.result c.reverse.new.self ∙ inv.many;
+      many = length-set c.lanes.parts c.from-number.result c.into_iter.result ∙ inv.many;
       joined = joined_next MOST_KEYS (view c.lanes.worker) (view c.join.new.worker) (view c.into_parts-other.result.0)
           (parts_of c.lanes.lanes.items) (parts_of left)
           (part_of lane) is met other ∙ inv.joined;
@@ -92,8 +91,8 @@ lanes-preserved g c =
             made = c.join.ensures.meet.made;
           }) all);
       parts = λ n. keeps_next (part_of lane) (parts_of left) (λ m. left_at m c.lanes.parts)
-          (λ m. left_at m (slice_set c.lanes.parts c.from-number.result c.reverse.new.self))
+          (λ m. left_at m (slice_set c.lanes.parts c.from-number.result c.into_iter.result))
           (parts_all (λ (p : Part). p.number ≢ lane.number) left apart.1) kept
-          (λ m off. left_other c.lanes.parts c.from-number.result m c.reverse.new.self (λ e. off (e ∙ number))) n
+          (λ m off. left_other c.lanes.parts c.from-number.result m c.into_iter.result (λ e. off (e ∙ number))) n
           ∙ (ap (λ (l : List Part). answers_or n l (left_at n c.lanes.parts)) (sym is) ∙ inv.parts n);
     }

@@ -1,7 +1,8 @@
 use Rattle.std.proofs.Common.{◌≡◌, ◌≢◌, ℕ, ◌+◌, ◌<◌, List, [], ◌∷◌, ◌++◌, length, take, drop, slice_set, slice_index_or}
 use Rattle.std.proofs.Common.{Some, sym, ◌∙◌, ap, subst, arith, add-one, append_assoc, length-append}
 use Rattle.std.specs.List.{All, Contains, slice_get}
-use Rattle.std.proofs.lemmas.List.{take_all, take-append-drop, length-take, length-set, length-reverse}
+use Rattle.std.specs.Vec.Iter.{into_iter_items}
+use Rattle.std.proofs.lemmas.List.{take_all, take-append-drop, length-take, length-set}
 use Rattle.record_io.specs.declared.records.Record.{Record}
 use Rattle.record_io.specs.declared.answers.Answer.{Answer}
 use Rattle.record_io.specs.declared.kinds.TheConstants.{LANES}
@@ -9,7 +10,7 @@ use Rattle.law_workers.specs.Deeds.{deeds_of}
 use Rattle.law_workers.specs.Lanes.{of_lane}
 use Rattle.frame_workers.specs.Lanes.{AreAmong, left_at}
 use Rattle.frame_workers.proofs.Steps.{deeds_short}
-use Rattle.frame_workers.proofs.Places.{left_here, left_other, pop_own, left_next, given_next, placed_next, got}
+use Rattle.frame_workers.proofs.Places.{left_here, left_other, next_own, left_next, given_next, placed_next, got}
 use Rattle.frame_workers.proofs.placing.place_answers.Goals as goal
 
 pub returns-in-None-clause-placed : goal.returns-in-None-clause-placed
@@ -36,12 +37,11 @@ returns-in-None-clause-stops c is =
     let many = inv.many in
     let low : c.from.result < length c.loop-task.parts = omega arith in
     let none = c.in-None.ensures.cases.0 in
-    let ok = (slice_index_or c.loop-task.parts c.from.result c.index-parts-from.result).ok in
-    let empty : length (slice_index_or c.loop-task.parts c.from.result c.index-parts-from.result).items ≡ 0 =
-    omega arith in
+    let ok = (slice_index_or c.loop-task.parts c.from.result c.index-parts-from.result).rest.ok.0 in
+    let empty : length (into_iter_items (slice_index_or c.loop-task.parts c.from.result c.index-parts-from.result))
+    ≡ 0 = omega arith in
     let size : length (left_at c.from.result c.loop-task.parts) ≡ 0 =
-    ap length (left_here c.loop-task.parts c.from.result c.index-parts-from.result low)
-    ∙ (length-reverse (slice_index_or c.loop-task.parts c.from.result c.index-parts-from.result).items ∙ empty) in
+    ap length (left_here c.loop-task.parts c.from.result c.index-parts-from.result low) ∙ empty in
     let at_lane : length (left_at r.lane c.loop-task.parts) ≡ 0 =
     subst (λ (n : ℕ). length (left_at n c.loop-task.parts) ≡ 0) lane size in
     let given = inv.given r.lane in
@@ -58,7 +58,7 @@ loop-task-preserved c =
     let rs : List Record = c.args.records.now in let k : ℕ = c.loop-task.task-index in
     let r : Record = c.task-item.result in
     let a : Answer = c.in-Some.answer in
-    let old = c.loop-task.parts in let new = slice_set c.loop-task.parts c.from.result c.pop.new.self in
+    let old = c.loop-task.parts in let new = slice_set c.loop-task.parts c.from.result c.next.new.self in
     let within = c.loop-task-test.true in
     let fits : r.lane < LANES = subst (λ (t : Record). t.lane < LANES) (sym c.task-item.is) (inv.lanes k r within) in
     let lane : c.from.result ≡ r.lane = c.from.ensures in
@@ -66,12 +66,12 @@ loop-task-preserved c =
     let low : c.from.result < length old = omega arith in
     let own : left_at r.lane old ≡ a ∷ left_at r.lane new =
     subst (λ (n : ℕ). left_at n old ≡ a ∷ left_at n new) lane
-    (pop_own old c.from.result c.index-parts-from.result c.pop.new.self a low c.in-Some.ensures.items) in
+    (next_own old c.from.result c.index-parts-from.result c.next.new.self a low c.in-Some.ensures.cases.0) in
     let others : (n : ℕ) → n ≢ r.lane → left_at n new ≡ left_at n old =
-    λ n off. left_other old c.from.result n c.pop.new.self (λ e. off (e ∙ lane)) in
+    λ n off. left_other old c.from.result n c.next.new.self (λ e. off (e ∙ lane)) in
     let pushed = c.push_reserved.ensures in
     record {
-      many = length-set old c.from.result c.pop.new.self ∙ inv.many;
+      many = length-set old c.from.result c.next.new.self ∙ inv.many;
       lanes = inv.lanes;
       room = let x = pushed.capacity in let y = inv.room in omega arith;
       count = ap length pushed.items
