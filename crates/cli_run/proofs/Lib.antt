@@ -6,5 +6,6 @@ pub mod Lying
 pub mod Looking
 pub mod Noting
 pub mod Messages
+pub mod Knowing
 pub mod Served
 pub mod Closed

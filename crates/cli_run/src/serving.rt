@@ -11,6 +11,7 @@ ghost use Rattle.counter_table.specs.declared.view.View.{View};
 ghost use Rattle.run_promise.specs.Call.{Begin};
 ghost use Rattle.law_workers.specs.Deeds.{Ascend};
 ghost use Rattle.law_workers.specs.Began.{BeganWith};
+ghost use Rattle.frame_workers.specs.Permits.{AreKept};
 ghost use Rattle.cli_run.specs.Putting.{IsAlone, OfRun};
 ghost use Rattle.fsr_log.specs.Report.{report_of};
 ghost use Rattle.cli_run.specs.Serving.{came_after, Comes, end_of_stop, EndsAs, Goes, Leads, served_as};
@@ -19,7 +20,7 @@ ghost use Rattle.cli_run.specs.Serving.{ServesSegment};
 use crate::putting::count_alone;
 use crate::reporting::{log_answer, note_all};
 use crate::session::Session;
-use frame_workers::{Crew, Gate, run_segment_by};
+use frame_workers::{Crew, Gate, KeptPermits, run_segment_by};
 use kept_threads::Named;
 use law_workers::looking_reports;
 use record_io::{Reader, Record, RecordKind, SegmentEnd, answers_have_widths};
@@ -119,6 +120,7 @@ impl<'u, O: Site + Send> Session<'u, O> {
         rt: &R,
         alloc: Global,
         crew: &mut Crew<'s, 'e, E, R, O, G, N>,
+        kept: &mut KeptPermits,
         records: &[Record],
         shared: &Arc<Vec<Record>, Global>,
     ) -> Result<(), Stop>
@@ -129,12 +131,14 @@ impl<'u, O: Site + Send> Session<'u, O> {
         requires lanes { All (λ (task : Record). task.lane < LANES) records.now }
         requires plain { All (λ (task : Record). task.kind ≢ RecordKind.Monitor) records.now }
         requires ascend { Ascend records.now }
+        requires kept { AreKept kept.old (view self.old.worker).turn }
         ensures alone { IsAlone self.new.unit.now.counters self.new.unit.now.plan self.new.worker }
         ensures same { self.new.unit.now ≡ self.old.unit.now }
         ensures opening { (view self.new.worker).turn.known.opening ≡ (view self.old.worker).turn.known.opening }
         ensures serves { OfRun O.told (view self.old.worker)
             (λ begin. ServesSegment begin records.now result (view self.old.worker) (view self.new.worker)
             self.old.log self.new.log) }
+        ensures kept { AreKept kept.new (view self.new.worker).turn }
     {
         let segment = match run_segment_by(
             crew,
@@ -143,6 +147,7 @@ impl<'u, O: Site + Send> Session<'u, O> {
             &mut self.worker,
             records,
             shared,
+            kept,
             &mut self.spare,
         ) {
             Ok(segment) => segment,
@@ -161,6 +166,7 @@ impl<'u, O: Site + Send> Session<'u, O> {
         rt: &R,
         alloc: Global,
         crew: &mut Crew<'s, 'e, E, R, O, G, N>,
+        kept: &mut KeptPermits,
         reader: &mut Reader,
         records: Vec<Record>,
     ) -> Result<(), Stop>
@@ -170,18 +176,20 @@ impl<'u, O: Site + Send> Session<'u, O> {
         requires lanes { All (λ (task : Record). task.lane < LANES) records.items }
         requires plain { All (λ (task : Record). task.kind ≢ RecordKind.Monitor) records.items }
         requires ascend { Ascend records.items }
+        requires kept { AreKept kept.old (view self.old.worker).turn }
         ensures alone { IsAlone self.new.unit.now.counters self.new.unit.now.plan self.new.worker }
         ensures same { self.new.unit.now ≡ self.old.unit.now }
         ensures opening { (view self.new.worker).turn.known.opening ≡ (view self.old.worker).turn.known.opening }
         ensures serves { OfRun O.told (view self.old.worker)
             (λ begin. ServesSegment begin records.items result (view self.old.worker) (view self.new.worker)
             self.old.log self.new.log) }
+        ensures kept { AreKept kept.new (view self.new.worker).turn }
         ensures read { reader.new ≡ reader.old }
     {
         let Ok(shared) = Arc::new(alloc, records) else {
             return Err(Stop::NoMemory);
         };
-        let served = self.serve(rt, alloc, crew, shared.as_slice(), &shared);
+        let served = self.serve(rt, alloc, crew, kept, shared.as_slice(), &shared);
         if let Ok(records) = Arc::try_unwrap(shared) {
             reader.take_back(records);
         }
@@ -202,6 +210,7 @@ impl<'u, O: Site + Send> Session<'u, O> {
         rt: &R,
         alloc: Global,
         crew: &mut Crew<'s, 'e, E, R, O, G, N>,
+        kept: &mut KeptPermits,
         source: &mut S,
         reader: &mut Reader,
     ) -> Option<RunEnd>
@@ -212,6 +221,7 @@ impl<'u, O: Site + Send> Session<'u, O> {
             source_seen S.told S.left S.faults source.old in
             (start : SourceSeen) × (items : List Item) × (read : List ℕ)
             × IsReading start before reader.old items read }
+        requires kept { AreKept kept.old (view self.old.worker).turn }
         ensures alone { IsAlone self.new.unit.now.counters self.new.unit.now.plan self.new.worker }
         ensures same { self.new.unit.now ≡ self.old.unit.now }
         ensures opening { (view self.new.worker).turn.known.opening ≡ (view self.old.worker).turn.known.opening }
@@ -222,12 +232,13 @@ impl<'u, O: Site + Send> Session<'u, O> {
             → Goes start before reader.old begin first (view self.old.worker) self.old.log
             → Leads start after reader.new begin first (view self.new.worker) self.new.log result }
         ensures forth { IfNone result (reader.old.taken < reader.new.taken) }
+        ensures kept { AreKept kept.new (view self.new.worker).turn }
     {
         let (records, end) = match reader.next_segment(alloc, source) {
             Ok(read) => read,
             Err(NoMemory) => return Some(RunEnd::NoMemory),
         };
-        match self.serve_read(rt, alloc, crew, reader, records) {
+        match self.serve_read(rt, alloc, crew, kept, reader, records) {
             Ok(()) => self.end_segment(rt, alloc, end),
             Err(stop) => Some(end_of(stop)),
         }
@@ -264,8 +275,9 @@ impl<'u, O: Site + Send> Session<'u, O> {
             → Comes before after begin (view self.old.worker) (view self.new.worker) result }
     {
         let mut reader = Reader::new(alloc);
+        let mut kept = KeptPermits::new(alloc);
         'segments: loop {
-            match self.serve_next(rt, alloc, crew, source, &mut reader) {
+            match self.serve_next(rt, alloc, crew, &mut kept, source, &mut reader) {
                 None => {}
                 Some(end) => return end,
             }

@@ -49,3 +49,8 @@ pub kept_at : (all : List Permits) (place : ℕ) (permits : Permits) (v w : Turn
 kept_at all place permits v w grows each here =
     All-set (λ p. AreTrueFor p w) all place permits here
     (λ k d low. permits_stay (get_or all k d) v w grows (each k d low))
+
+-- all stay true
+pub all_stay : (all : List Permits) (v w : Turn) → KnowsMoreOfBook v w → All (λ p. AreTrueFor p v) all
+    → All (λ p. AreTrueFor p w) all
+all_stay all v w grows each k d low = permits_stay (get_or all k d) v w grows (each k d low)

@@ -1,4 +1,5 @@
 pub mod Keeping
+pub mod Kept
 pub mod Steps
 pub mod Fulls
 pub mod Exactly

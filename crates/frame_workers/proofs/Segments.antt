@@ -37,6 +37,7 @@ use Rattle.law_workers.specs.Ends.{IsFullFor, EndsSegment}
 use Rattle.law_workers.specs.Began.{BeganWith}
 use Rattle.frame_workers.specs.Lanes.{HasRun, IsSplit, part_of, parts_of, answers_of, HaveOwnNumbers, IsThere, StopsAt}
 use Rattle.frame_workers.proofs.Keeping.{begun_at, began_at}
+use Rattle.frame_workers.proofs.Kept.{all_met}
 use Rattle.frame_workers.proofs.Steps.{lane_next, lane_whole, none_of_it}
 use Rattle.frame_workers.proofs.Fulls.{full_stays, looked_back}
 use Rattle.frame_workers.proofs.Exactly.{looked, none_exactly, joined_exactly}
@@ -195,6 +196,8 @@ none_elsewhere n rs r p at up off = none_of_it (indexed r.index (of_lane n rs)) 
 -- what is known of a segment once its lanes are joined, of the parts that they did
 pub record Served (told : Bool) (rs : List Record) (base last : View) (parts : List Part) : Type 0 where
   pub shares : last.numbers.shares ≡ base.numbers.shares
+  pub grows : KnowsMore base last
+  pub parts_grow : All (λ (p : Part). KnowsMore p.knows last) parts
   pub handled : (begin : Begin) (layout : Layout) (s : ℕ) → BeganWith told begin base.turn.known.opening
       → LiesIn layout s rs → (answers : List Answer) → All (Contains (parts_deeds s rs parts)) (deeds_of s rs answers)
       → Handled layout begin base last rs (deeds_of s rs answers)
@@ -317,6 +320,20 @@ module _ {B : Type 0} (ready : Worker B → Type 0) (told : Bool) (rs : List Rec
         let rows = (began_at told base.turn.known.opening).rows in
         lanes_grow begin now (parts_of new) now_free now_filled (λ k d low. same_opening k d low ∙ sym same)
         (subst (λ (n : ℕ). MeetAll n now (parts_of new)) (sym rows) meet)
+
+    base_grows : KnowsMore base joined
+    base_grows =
+        subst (λ (v : View). KnowsMore base (meeting_all v (parts_of new))) (sym given)
+        (grows_further base (giving_shares (length old) base)
+        (meeting_all (giving_shares (length old) base) (parts_of new))
+        (record {
+          nexts = λ r. omega arith;
+          earlier = (grows_itself base).earlier;
+          opening = refl;
+          epochs = omega arith;
+        })
+        (all_met MOST_KEYS (giving_shares (length old) base) (parts_of new) free filled
+        (subst (λ (v : View). MeetAll MOST_KEYS v (parts_of new)) given meet)))
 
     module _ (two : 1 < base.numbers.shares) (back : Meets MOST_KEYS (keeping joined) (starting joined)) where
       abbrev last : View
@@ -602,6 +619,9 @@ module _ {B : Type 0} (ready : Worker B → Type 0) (told : Bool) (rs : List Rec
       pub served : Served told rs base last (parts_of new)
       served = record {
         shares = (let shares = joined_shares in omega arith);
+        grows = grows_further base joined last base_grows last_grows;
+        parts_grow = λ k d low.
+            grows_further (slice_index_or (parts_of new) k d).knows joined last (joined_grows k d low) last_grows;
         handled = all_handled;
         moved = all_moved;
         alone = all_exactly;

@@ -5,6 +5,7 @@ use Rattle.std.specs.List.{All, Contains, list_any, slice_index_or}
 use Rattle.std.specs.Vec.Iter.{into_iter_items}
 use Rattle.std.specs.declared.vec.IntoIter.{IntoIter}
 use Rattle.counter_table.specs.declared.counters.Worker.{Worker}
+use Rattle.counter_table.specs.declared.view.Turn.{Turn}
 use Rattle.counter_table.specs.declared.view.View.{View}
 use Rattle.counter_table.specs.Worker.{view}
 use Rattle.record_io.specs.declared.records.Record.{Record}
@@ -19,12 +20,14 @@ use Rattle.law_workers.specs.Lanes.{is_of_lane, of_lane, Part}
 use Rattle.law_workers.specs.Alone.{MovedInTurn}
 use Rattle.law_workers.specs.Began.{BeganWith}
 use Rattle.frame_workers.specs.declared.lane.Lane.{Lane}
+use Rattle.frame_workers.specs.Permits.{AreTrueFor}
 use Rattle.law_workers.specs.Ends.{EndsSegment}
 
 module _ {B : Type 0} (ready : Worker B → Type 0) where
-  -- the lane may run: its worker is ready, and it has room for the answers
+  -- the lane may run: its worker is ready, what it keeps is true, and it has room for the answers
   pub record CanRun (tasks : List Record) (lane : Lane B) : Type 0 where
     pub is_ready : ready lane.worker
+    pub kept : All (λ permits. AreTrueFor permits (view lane.worker).turn) lane.kept.items
     pub empty : lane.answers.items ≡ []
     pub room : length tasks ≤ vec_capacity lane.answers
     pub going : lane.full ≡ false
@@ -33,6 +36,7 @@ module _ {B : Type 0} (ready : Worker B → Type 0) where
   pub record HasRun (told : Bool) (tasks : List Record) (old new : Lane B) : Type 0 where
     pub number : new.number ≡ old.number
     pub is_ready : ready new.worker
+    pub kept : All (λ permits. AreTrueFor permits (view new.worker).turn) new.kept.items
     pub shares : (view new.worker).numbers.shares ≡ (view old.worker).numbers.shares
     pub handled : (begin : Begin) (layout : Layout) (segment : ℕ)
         → BeganWith told begin (view old.worker).turn.known.opening
@@ -56,6 +60,10 @@ module _ {B : Type 0} (ready : Worker B → Type 0) where
     pub used : list_any (is_of_lane lane.number) tasks ≡ true
     pub can : CanRun tasks lane
     pub from : view lane.worker ≡ starting base
+
+-- what the lane keeps is true for a worker that knows this
+abbrev pub IsTrueLane : {B : Type 0} → Turn → Lane B → Type 0
+IsTrueLane v lane = All (λ permits. AreTrueFor permits v) lane.kept.items
 
 -- what came back of a lane
 abbrev pub part_of : {B : Type 0} → Lane B → Part

@@ -1,18 +1,20 @@
 // Lanes that are run by threads which last for the run.
-ghost use Rattle.std.specs.Prelude.{◌≡◌, ◌≢◌, ◌<◌, ℕ, All, IfOk, IfErr, IsOk, OnErr, Some, length, slice_get};
-ghost use Rattle.std.specs.Prelude.{vec_capacity};
+ghost use Rattle.std.specs.Prelude.{◌≡◌, ◌≢◌, ◌<◌, ℕ, All, Contains, IfOk, IfErr, IsOk, OnErr, Some, length};
+ghost use Rattle.std.specs.Prelude.{slice_get, vec_capacity};
 ghost use Rattle.record_io.specs.declared.kinds.TheConstants.{LANES};
 ghost use Rattle.counter_table.specs.Worker.{view};
 ghost use Rattle.frame_workers.specs.Segment.{HandlesSegment};
 ghost use Rattle.std.specs.Arc.{arc_value};
 ghost use mathlib.Core.List.{IsPrefix};
-ghost use Rattle.record_io.specs.declared.kinds.RecordKind.TheVariants.{Monitor};
+ghost use Rattle.record_io.specs.declared.kinds.RecordKind.TheVariants.{Command, Monitor};
 ghost use Rattle.record_io.specs.declared.records.Record.{Record};
 ghost use Rattle.shared_unit.specs.Turn.{IsReady};
 ghost use Rattle.law_workers.specs.Deeds.{Ascend};
 ghost use Rattle.frame_workers.specs.Lanes.{CanRun, HasRun, HaveRun};
+ghost use Rattle.frame_workers.specs.Permits.{AreKept, KeepsNone};
 
 use crate::gate::Gate;
+use crate::kept_permits::KeptPermits;
 use crate::lane::{Lane, run_lane};
 use crate::segment::{Segment, begin_segment, end_segment};
 use kept_threads::{Fresh, Helper, Jobs, Named, Work};
@@ -281,7 +283,8 @@ fn run_by_crew<
     );
 }
 
-/// As `run_segment`, by the threads of a crew, which share the records.
+/// As `run_segment`, by the threads of a crew, which share the records. A lane begins with the permits that it kept.
+/// Behind a segment with a command none is kept: that alone destroys a key, or stops an association.
 pub fn run_segment_by<
     's,
     'e: 's,
@@ -297,6 +300,7 @@ pub fn run_segment_by<
     worker: &mut Worker<O>,
     records: &[Record],
     shared: &Arc<Vec<Record>, Global>,
+    kept: &mut KeptPermits,
     spare: &mut Spare,
 ) -> Result<Segment, NoMemory>
     requires same { records.now ≡ (arc_value shared.now).items }
@@ -305,13 +309,19 @@ pub fn run_segment_by<
     requires lanes { All (λ (row : Record). row.lane < LANES) records.now }
     requires plain { All (λ (row : Record). row.kind ≢ Monitor) records.now }
     requires ascend { Ascend records.now }
+    requires kept { AreKept kept.old (view worker.old).turn }
     ensures ready { IsReady unit.now.counters unit.now.plan worker.new }
     ensures shares { (view worker.new).numbers.shares ≡ (view worker.old).numbers.shares }
     ensures no_memory { OnErr result (view worker.new ≡ view worker.old) }
     ensures handles { IfOk result (λ segment. HandlesSegment O.told (view worker.old) (view worker.new) records.now
         segment.answers.items segment.full) }
+    ensures kept { AreKept kept.new (view worker.new).turn }
+    ensures none_behind_command { IfOk result (λ segment. (row : Record) → Contains records.now row
+        → row.kind ≡ Command → KeepsNone kept.new) }
 {
-    let mut begun = begin_segment(alloc, unit, worker, records, spare)?;
+    let mut begun = begin_segment(alloc, unit, worker, records, kept, spare)?;
     run_by_crew(crew, unit, shared, &mut begun.lanes);
-    Ok(end_segment(unit, worker, records, begun, spare))
+    let segment = end_segment(unit, worker, records, begun, kept, spare);
+    kept.drop_behind_command(alloc, records);
+    Ok(segment)
 }

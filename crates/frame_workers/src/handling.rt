@@ -12,7 +12,7 @@ ghost use Rattle.frame_workers.specs.Records.{HandlesRecord};
 use crate::answering::{
     WINDOW_OCTETS, answer_no_memory, commanded_answer, opened_answer, protected_answer,
 };
-use crate::permits::{PLACES, Permits, place_for};
+use crate::permits::{Permits, place_for};
 use record_io::{Answer, Record, RecordKind, Spare};
 use sdls_outside::Site;
 use shared_unit::{OpenPermit, Permit, Unit, Worker};
@@ -150,25 +150,29 @@ fn handle_under<R: Wait, O: Site>(
     }
 }
 
-/// Handles a record, none of a monitoring message, and a frame that is to be protected in the room. There is no answer
-/// where the run has as many entries as it may.
+/// Handles a record, none of a monitoring message, and a frame that is to be protected in the room. Its permit is kept
+/// where there are places. There is no answer where the run has as many entries as it may.
 pub(crate) fn handle<R: Wait, O: Site>(
     rt: &R,
     alloc: Global,
     unit: &Unit<O>,
     worker: &mut Worker<O>,
-    kept: &mut [Permits; PLACES],
+    kept: &mut Vec<Permits>,
     room: &mut [u8],
     spare: &mut Spare,
     task: &Record,
 ) -> Option<Answer>
     requires plain { task.now.kind ≢ kinds.Monitor }
     requires ready { IsReady unit.now.counters unit.now.plan worker.old }
-    requires kept { All (λ permits. AreTrueFor permits (view worker.old).turn) kept.old }
+    requires kept { All (λ permits. AreTrueFor permits (view worker.old).turn) kept.old.items }
     requires room { length room.old ≡ FRAME_ROOM }
-    ensures kept { All (λ permits. AreTrueFor permits (view worker.new).turn) kept.new }
+    ensures kept { All (λ permits. AreTrueFor permits (view worker.new).turn) kept.new.items }
     ensures handles { HandlesRecord O.told unit.now.counters unit.now.plan worker.old worker.new task.now result }
 {
     let place = place_for(task);
-    handle_under(rt, alloc, unit, worker, &mut kept[place], room, spare, task)
+    if place < kept.len() {
+        return handle_under(rt, alloc, unit, worker, &mut kept[place], room, spare, task);
+    }
+    let mut unkept = Permits::new();
+    handle_under(rt, alloc, unit, worker, &mut unkept, room, spare, task)
 }

@@ -3,13 +3,16 @@ ghost use Rattle.std.specs.Prelude.{◌≡◌, ◌≢◌, ◌<◌, ◌≤◌, �
 ghost use Rattle.std.specs.Prelude.{vec_capacity};
 ghost use Rattle.std.specs.List.{AllPairs, list_any};
 ghost use Rattle.sdls_base.specs.declared.TheConstants.{MOST_KEYS};
+ghost use Rattle.counter_table.specs.declared.view.Turn.{Turn};
 ghost use Rattle.counter_table.specs.Worker.{view};
 ghost use Rattle.record_io.specs.declared.records.Record.{Record};
 ghost use Rattle.shared_unit.specs.Turn.{IsReady};
 ghost use Rattle.law_workers.specs.Lanes.{giving_shares, is_of_lane, MeetAll, meeting_all, Part};
 ghost use Rattle.frame_workers.specs.Lanes.{answers_of, HaveOwnNumbers, IsRoom, IsSplit, IsThere, IsUsed, left_at};
-ghost use Rattle.frame_workers.specs.Lanes.{parts_of};
+ghost use Rattle.frame_workers.specs.Lanes.{IsTrueLane, parts_of};
+ghost use Rattle.frame_workers.specs.Permits.{AreKept};
 
+use crate::kept_permits::KeptPermits;
 use crate::lane::Lane;
 use record_io::{Answer, LANES, Record, SEGMENT_RECORDS, Spare};
 use sdls_base::NoMemory;
@@ -96,7 +99,7 @@ pub(crate) fn rooms_for(
     Ok(rooms)
 }
 
-/// Splits a worker off for each lane that has records, and gives it a share of the spare lists.
+/// Splits a worker off for each lane that has records, and gives it its permits and a share of the spare lists.
 pub(crate) fn split_lanes<O: Site>(
     alloc: Global,
     unit: &Unit<O>,
@@ -104,11 +107,13 @@ pub(crate) fn split_lanes<O: Site>(
     records: &[Record],
     used: &Used,
     mut rooms: Vec<Vec<Answer>>,
+    kept: &mut KeptPermits,
     spare: &mut Spare,
     lanes: &mut Vec<Lane<SharedBook<O>>>,
 )
     requires ready { IsReady unit.now.counters unit.now.plan worker.old }
     requires shares { LANES < (view worker.old).numbers.shares }
+    requires kept { AreKept kept.old (view worker.old).turn }
     requires used { IsUsed used.now.lanes records.now }
     requires many { length rooms.items ≡ LANES }
     requires rooms { (k : ℕ) (d : _) → k < LANES → IsRoom records.now k (slice_index_or rooms.items k d) }
@@ -121,6 +126,7 @@ pub(crate) fn split_lanes<O: Site>(
     ensures apart { AllPairs HaveOwnNumbers lanes.new.items }
     ensures each { (number : ℕ) → number < LANES → list_any (is_of_lane number) records.now ≡ true
         → IsThere number lanes.new.items }
+    ensures left { (v : Turn) → AreKept kept.old v → AreKept kept.new v }
 {
     let count = used.count();
     'rooms: while let Some(answers) = rooms.pop() {
@@ -132,6 +138,7 @@ pub(crate) fn split_lanes<O: Site>(
         lanes.push_reserved(Lane {
             number,
             worker: split,
+            kept: kept.take(alloc, usize::from(number)),
             answers,
             full: false,
             spare: share_for(alloc, spare, count),
@@ -140,12 +147,13 @@ pub(crate) fn split_lanes<O: Site>(
 }
 
 /// Joins the lanes' workers, the last lane first, and keeps the answers of each under its number. Spare lists that a
-/// lane did not fill come back.
+/// lane did not fill come back, and its permits are kept.
 pub(crate) fn join_lanes<O: Site>(
     unit: &Unit<O>,
     worker: &mut Worker<O>,
     mut lanes: Vec<Lane<SharedBook<O>>>,
     parts: &mut [IntoIter<Answer, Global>],
+    kept: &mut KeptPermits,
     spare: &mut Spare,
 )
     requires ready { IsReady unit.now.counters unit.now.plan worker.old }
@@ -159,12 +167,14 @@ pub(crate) fn join_lanes<O: Site>(
     ensures meet { MeetAll MOST_KEYS (view worker.old) (parts_of lanes.items) }
     ensures many { length parts.new ≡ LANES }
     ensures parts { (number : ℕ) → left_at number parts.new ≡ answers_of number (parts_of lanes.items) }
+    ensures kept { (v : Turn) → AreKept kept.old v → All (IsTrueLane v) lanes.items → AreKept kept.new v }
 {
     'lanes: while let Some(lane) = lanes.pop() {
         let number = usize::from(lane.number);
-        let (other, answers, left) = lane.into_parts();
+        let (other, answers, left, places) = lane.into_parts();
         unit.join(worker, other);
         spare.rejoin(left);
+        kept.keep(number, places);
         parts[number] = answers.into_iter();
     }
 }

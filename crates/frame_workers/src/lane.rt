@@ -8,7 +8,7 @@ ghost use Rattle.frame_workers.specs.Lanes.{CanRun, HasRun};
 
 use crate::gate::Gate;
 use crate::handling::handle;
-use crate::permits::no_permits;
+use crate::permits::Permits;
 use frame_shield::FRAME_ROOM;
 use record_io::{Answer, Record, Spare};
 use sdls_outside::Site;
@@ -18,11 +18,14 @@ use std::sync::Wait;
 use std::thread;
 use std::thread::Threads;
 
-/// A lane of a segment: its number, its worker, and the answers to its records, up to one for which the history was
-/// full. It is handed from thread to thread, so what it needs only while it runs is made where it runs.
+/// A lane of a segment: its number, its worker with what the worker handles frames under, and the answers to its
+/// records, up to one for which the history was full. It is handed from thread to thread, so it has few octets: the
+/// room in which frames are protected is made where it runs.
 pub struct Lane<B> {
     pub(crate) number: u8,
     pub(crate) worker: counter_table::Worker<B>,
+    /// The permits that the lane keeps, at each of its places, or none where there are no places.
+    pub(crate) kept: Vec<Permits>,
     pub(crate) answers: Vec<Answer>,
     pub(crate) full: bool,
     /// Lists for the bodies of answers.
@@ -34,6 +37,7 @@ impl<B> Drop for Lane<B> {
         let Lane {
             number: _,
             worker: _,
+            kept: _,
             answers: _,
             full: _,
             spare: _,
@@ -42,18 +46,20 @@ impl<B> Drop for Lane<B> {
 }
 
 impl<B> Lane<B> {
-    pub(crate) fn into_parts(self) -> (counter_table::Worker<B>, Vec<Answer>, Spare)
+    pub(crate) fn into_parts(self) -> (counter_table::Worker<B>, Vec<Answer>, Spare, Vec<Permits>)
         ensures worker { result.0 ≡ self.worker }
         ensures answers { result.1 ≡ self.answers }
+        ensures kept { result.3 ≡ self.kept }
     {
         let Lane {
             number: _,
             worker,
+            kept,
             answers,
             full: _,
             spare,
         } = self;
-        (worker, answers, spare)
+        (worker, answers, spare, kept)
     }
 }
 
@@ -71,7 +77,6 @@ pub(crate) fn run_lane<R: Wait, O: Site, G: Gate>(
     requires can { CanRun (IsReady unit.now.counters unit.now.plan) records.now lane.old }
     ensures ran { HasRun (IsReady unit.now.counters unit.now.plan) O.told records.now lane.old lane.new }
 {
-    let mut kept = no_permits();
     let mut room = [0; FRAME_ROOM];
     for task in records {
         if task.lane != lane.number {
@@ -83,7 +88,7 @@ pub(crate) fn run_lane<R: Wait, O: Site, G: Gate>(
             alloc,
             unit,
             &mut lane.worker,
-            &mut kept,
+            &mut lane.kept,
             &mut room,
             &mut lane.spare,
             task,

@@ -10,6 +10,7 @@ mod crew;
 mod gate;
 mod handling;
 mod joining;
+mod kept_permits;
 mod lane;
 mod permits;
 mod placing;
@@ -17,4 +18,5 @@ mod segment;
 
 pub use crew::{Crew, LaneTask, LaneWork, Team, run_segment_by};
 pub use gate::{Gate, OpenGate};
+pub use kept_permits::KeptPermits;
 pub use segment::{Segment, run_segment};

@@ -5,6 +5,7 @@ ghost use Rattle.frame_workers.specs.Permits.{AreTrueFor};
 
 use record_io::Record;
 use shared_unit::{OpenPermit, Permit};
+use std::alloc::Global;
 
 /// The places at which a lane keeps permits, each for frames of other channels.
 pub(crate) const PLACES: usize = 4;
@@ -28,16 +29,20 @@ impl Permits {
     }
 }
 
-/// A lane's places for permits, with none yet.
-pub(crate) fn no_permits() -> [Permits; PLACES]
-    ensures { (v : Turn) → All (λ permits. AreTrueFor permits v) result }
+/// A lane's places, with no permit yet. If memory for them runs out there is none, and no permit is kept.
+pub(crate) fn new_places(alloc: Global) -> Vec<Permits>
+    ensures { (v : Turn) → All (λ permits. AreTrueFor permits v) result.items }
 {
-    [
+    let places: [Permits; PLACES] = [
         Permits::new(),
         Permits::new(),
         Permits::new(),
         Permits::new(),
-    ]
+    ];
+    match Vec::from_array(alloc, places) {
+        Ok(places) => places,
+        Err(_) => Vec::new(alloc),
+    }
 }
 
 /// The place of the permits for a record, by its link and those octets of a header that tell the channel. Frames of one

@@ -1,6 +1,7 @@
 // A segment.
 ghost use Rattle.std.specs.Prelude.{◌≡◌, ◌≢◌, ◌<◌, ◌≤◌, ℕ, All, [], IfOk, OnErr, length};
 ghost use Rattle.sdls_base.specs.declared.TheConstants.{MOST_KEYS};
+ghost use Rattle.counter_table.specs.declared.view.Turn.{Turn};
 ghost use Rattle.counter_table.specs.Whole.{IsWhole};
 ghost use Rattle.counter_table.specs.Worker.{view};
 ghost use Rattle.counter_table.specs.Numbers.{ALL_SHARES};
@@ -17,10 +18,12 @@ ghost use Rattle.law_workers.specs.Began.{BeganWith};
 ghost use Rattle.law_workers.specs.Views.{keeping, meeting, Meets, starting};
 ghost use Rattle.law_workers.specs.Ends.{EndsSegment};
 ghost use Rattle.frame_workers.specs.Lanes.{left_at};
+ghost use Rattle.frame_workers.specs.Permits.{AreKept};
 ghost use Rattle.frame_workers.specs.Segment.{AreSplit, HandlesSegment, HasRooms, RanFrom};
 
 use crate::gate::Gate;
 use crate::joining::{join_lanes, rooms_for, split_lanes, used_lanes};
+use crate::kept_permits::KeptPermits;
 use crate::lane::{Lane, run_lanes};
 use crate::placing::place_answers;
 use record_io::{Answer, LANES, Record, Spare};
@@ -73,22 +76,25 @@ pub(crate) struct Begun<O: Site> {
     answers: Vec<Answer>,
 }
 
-/// Splits a worker off for each lane that has records.
+/// Splits a worker off for each lane that has records, with the permits that it kept.
 pub(crate) fn begin_segment<O: Site>(
     alloc: Global,
     unit: &Unit<O>,
     worker: &mut Worker<O>,
     records: &[Record],
+    kept: &mut KeptPermits,
     spare: &mut Spare,
 ) -> Result<Begun<O>, NoMemory>
     requires ready { IsReady unit.now.counters unit.now.plan worker.old }
     requires shares { LANES < (view worker.old).numbers.shares }
+    requires kept { AreKept kept.old (view worker.old).turn }
     requires lanes { All (λ (task : Record). task.lane < LANES) records.now }
     ensures ready { IsReady unit.now.counters unit.now.plan worker.new }
     ensures no_memory { OnErr result (view worker.new ≡ view worker.old) }
     ensures split { IfOk result (λ begun. AreSplit (IsReady unit.now.counters unit.now.plan) records.now
         (view worker.old) (view worker.new) begun.lanes.items) }
     ensures rooms { IfOk result (λ begun. HasRooms records.now begun.parts.items begun.answers) }
+    ensures left { (v : Turn) → AreKept kept.old v → AreKept kept.new v }
 {
     let used = used_lanes(records);
     let rooms = rooms_for(alloc, records, &used)?;
@@ -96,7 +102,7 @@ pub(crate) fn begin_segment<O: Site>(
     let parts = no_answers(alloc)?;
     let answers = Vec::with_capacity(alloc, records.len())?;
     split_lanes(
-        alloc, unit, worker, records, &used, rooms, spare, &mut lanes,
+        alloc, unit, worker, records, &used, rooms, kept, spare, &mut lanes,
     );
     Ok(Begun {
         lanes,
@@ -105,12 +111,13 @@ pub(crate) fn begin_segment<O: Site>(
     })
 }
 
-/// Joins the workers of lanes that ran, and places their answers.
+/// Joins the workers of lanes that ran, keeps their permits, and places their answers.
 pub(crate) fn end_segment<O: Site>(
     unit: &Unit<O>,
     worker: &mut Worker<O>,
     records: &[Record],
     begun: Begun<O>,
+    kept: &mut KeptPermits,
     spare: &mut Spare,
 ) -> Segment
     requires ready { IsReady unit.now.counters unit.now.plan worker.old }
@@ -127,13 +134,16 @@ pub(crate) fn end_segment<O: Site>(
     ensures handles { (before : _) (old : _) → RanFrom (IsReady unit.now.counters unit.now.plan) O.told records.now
         before (view worker.old) old begun.lanes.items
         → HandlesSegment O.told (view before) (view worker.new) records.now result.answers.items result.full }
+    ensures kept { (before : _) (old : _) → RanFrom (IsReady unit.now.counters unit.now.plan) O.told records.now
+        before (view worker.old) old begun.lanes.items
+        → AreKept kept.old (view before).turn → AreKept kept.new (view worker.new).turn }
 {
     let Begun {
         lanes,
         mut parts,
         mut answers,
     } = begun;
-    join_lanes(unit, worker, lanes, parts.as_mut_slice(), spare);
+    join_lanes(unit, worker, lanes, parts.as_mut_slice(), kept, spare);
     look_back(unit, worker);
     let full = place_answers(records, parts.as_mut_slice(), &mut answers);
     Segment { answers, full }
@@ -187,7 +197,8 @@ pub fn run_segment<R: Threads + Wait + Sync, O: Site + Send, G: Gate + Sync>(
     ensures whole { (view worker.old).numbers.shares ≡ ALL_SHARES
         → IfOk result (λ segment. IsWhole MOST_KEYS (view worker.new)) }
 {
-    let mut begun = begin_segment(alloc, unit, worker, records, spare)?;
+    let mut kept = KeptPermits::nowhere(alloc);
+    let mut begun = begin_segment(alloc, unit, worker, records, &mut kept, spare)?;
     run_lanes(rt, alloc, unit, records, gate, begun.lanes.as_mut_slice());
-    Ok(end_segment(unit, worker, records, begun, spare))
+    Ok(end_segment(unit, worker, records, begun, &mut kept, spare))
 }

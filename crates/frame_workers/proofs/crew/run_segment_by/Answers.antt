@@ -21,19 +21,26 @@ module _ (g : given.Over) (c : After-run_by_crew g) where
         c.run_by_crew.ensures.ran;
   }
 
-pub end_segment-requires-clause-ran : goal.end_segment-requires-clause-ran
-end_segment-requires-clause-ran g c = (
+pub end_segment-segment-requires-clause-ran : goal.end_segment-segment-requires-clause-ran
+end_segment-segment-requires-clause-ran g c = (
   c.args.worker.now,
   c.in_ok-begun.begun.lanes.items,
-  ran_from g (goal.at.end_segment-requires-clause-ran g c).After-run_by_crew,
+  ran_from g (goal.at.end_segment-segment-requires-clause-ran g c).After-run_by_crew,
 )
 
 pub returns-clause-shares : goal.returns-clause-shares
 returns-clause-shares g c =
     let ran = ran_from g (goal.at.returns-clause-shares g c).After-run_by_crew in
-    c.end_segment.ensures.shares c.args.worker.now c.in_ok-begun.begun.lanes.items ran
+    c.end_segment-segment.ensures.shares c.args.worker.now c.in_ok-begun.begun.lanes.items ran
 
 pub returns-clause-handles : goal.returns-clause-handles
 returns-clause-handles g c =
     let ran = ran_from g (goal.at.returns-clause-handles g c).After-run_by_crew in
-    c.end_segment.ensures.handles c.args.worker.now c.in_ok-begun.begun.lanes.items ran
+    c.end_segment-segment.ensures.handles c.args.worker.now c.in_ok-begun.begun.lanes.items ran
+
+pub returns-clause-kept : goal.returns-clause-kept
+returns-clause-kept g c =
+    let ran = ran_from g (goal.at.returns-clause-kept g c).After-run_by_crew in
+    c.drop_behind_command.ensures.left (view c.end_segment-segment.new.worker).turn
+    (c.end_segment-segment.ensures.kept c.args.worker.now c.in_ok-begun.begun.lanes.items ran
+    (c.begin_segment.ensures.left (view c.args.worker.now).turn c.requires.kept))

@@ -1,4 +1,5 @@
 use Rattle.std.proofs.Common.{◌≡◌, ◌≢◌, ℕ, ◌<◌, List, length, ◌∷◌, slice_set, refl, sym, ap, subst, ◌∙◌, arith}
+use Rattle.std.specs.List.{All}
 use Rattle.std.specs.Option.{IfSome}
 use Rattle.std.proofs.lemmas.List.{length-set}
 use Rattle.std.proofs.lemmas.List.Elements.{All-pop}
@@ -7,7 +8,8 @@ use Rattle.sdls_base.specs.declared.TheConstants.{MOST_KEYS}
 use Rattle.counter_table.specs.Worker.{view}
 use Rattle.shared_unit.specs.Turn.{IsReady}
 use Rattle.law_workers.specs.Lanes.{Part}
-use Rattle.frame_workers.specs.Lanes.{HaveOwnNumbers, left_at, part_of, parts_of}
+use Rattle.frame_workers.specs.Lanes.{HaveOwnNumbers, IsTrueLane, left_at, part_of, parts_of}
+use Rattle.frame_workers.specs.Permits.{AreTrueFor}
 use Rattle.frame_workers.proofs.Joins.{parts_push, parts_all, joined_next, meet_next, answers_or, none_kept, keeps_next}
 use Rattle.frame_workers.proofs.Joins.{pairs_pop}
 use Rattle.frame_workers.proofs.Places.{left_set, left_other}
@@ -20,6 +22,7 @@ lanes-init g c = record {
   apart = c.requires.apart;
   many = c.requires.many;
   joined = refl;
+  kept = λ v kept lanes. (kept, lanes);
   meet = λ all. all;
   parts = λ n. ap (answers_or n (parts_of c.args.lanes.items)) (c.requires.empty n)
       ∙ none_kept n (parts_of c.args.lanes.items);
@@ -76,6 +79,15 @@ lanes-preserved g c =
       is_ready = c.join.ensures.ready;
       ready = ready.0;
       apart = apart.0;
+      kept = λ v old all.
+          let (kept, each) = inv.kept v old all in
+          let pops = All-pop (IsTrueLane v) c.lanes.lanes.items left c.pop.result c.pop.ensures.items each in
+          let own = subst (λ o. IfSome o (IsTrueLane v)) c.in-Some.is pops.1 in (
+            c.keep.ensures v kept
+                (subst (λ places. All (λ permits. AreTrueFor permits v) places.items)
+                (sym c.into_parts-other.ensures.kept) own),
+            pops.0,
+          );
       many = length-set c.lanes.parts c.from-number.result c.into_iter.result ∙ inv.many;
       joined = joined_next MOST_KEYS (view c.lanes.worker) (view c.join.new.worker) (view c.into_parts-other.result.0)
           (parts_of c.lanes.lanes.items) (parts_of left)

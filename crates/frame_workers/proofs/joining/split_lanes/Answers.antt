@@ -9,7 +9,10 @@ use Rattle.record_io.specs.declared.kinds.TheConstants.{LANES}
 use Rattle.counter_table.specs.Worker.{view}
 use Rattle.shared_unit.specs.Turn.{IsReady}
 use Rattle.law_workers.specs.Lanes.{giving_shares, is_of_lane}
+use Rattle.law_workers.specs.Views.{starting}
 use Rattle.frame_workers.specs.Lanes.{HaveOwnNumbers, IsRoom, IsSplit, IsThere}
+use Rattle.frame_workers.specs.Permits.{AreTrueFor}
+use Rattle.frame_workers.proofs.Kept.{places_later, starts_knowing}
 use Rattle.frame_workers.proofs.Splits.{gives_more, starts_so, there_push, there_last, room_last, rooms_left}
 use Rattle.frame_workers.proofs.Used.{used_at}
 use Rattle.frame_workers.proofs.joining.split_lanes.Goals as goal
@@ -34,8 +37,13 @@ rooms-preserved g c =
     let used : list_any (is_of_lane c.len-number.result) c.args.records.now ≡ true =
     used_at c.args.records.now c.args.used.now.lanes c.len-number.result c.from.result true c.requires.used
     (omega arith) c.from.ensures c.if-not-used-from.false in
+    let from : view c.split-split.result ≡ starting base =
+    starts_so base (view c.rooms.worker) (view c.split-split.result) (length c.rooms.lanes.items)
+    inv.given c.split-split.ensures.newcomer in
     record {
       is_ready = c.split-split.ensures.ready;
+      kept = c.take.ensures.left base.turn inv.kept;
+      left = λ v is. c.take.ensures.left v (inv.left v is);
       given = subst (λ (n : ℕ). view c.split-split.new.worker ≡ giving_shares n base) (sym more)
           (gives_more base (view c.rooms.worker) (view c.split-split.new.worker) (length c.rooms.lanes.items) inv.given
           c.split-split.ensures.keeper);
@@ -51,12 +59,14 @@ rooms-preserved g c =
             used = used;
             can = record {
               is_ready = c.split-split.ensures.new;
+              kept = subst (λ (u : View). All (λ permits. AreTrueFor permits u.turn) c.take.result.items) (sym from)
+                  (places_later base (starting base) (starts_knowing base) c.take.result.items
+                  (c.take.ensures.taken base.turn inv.kept));
               empty = room.empty;
               room = room.roomy used;
               going = refl;
             };
-            from = starts_so base (view c.rooms.worker) (view c.split-split.result) (length c.rooms.lanes.items)
-                inv.given c.split-split.ensures.newcomer;
+            from = from;
           }));
       above = subst (λ l. All (λ lane. length left ≤ lane.number) l) (sym pushed.items)
           (All-push (λ lane. length left ≤ lane.number) c.rooms.lanes.items _ (λ k d l. let a = inv.above k d l in
@@ -95,6 +105,8 @@ rooms-preserved-then-not-used-from g c =
       rooms = rooms_left c.args.records.now c.rooms.rooms.items left c.in-Some.answers items inv.rooms;
       room = inv.room;
       split = inv.split;
+      kept = inv.kept;
+      left = inv.left;
       above = λ k d l. let a = inv.above k d l in omega arith;
       apart = inv.apart;
       each = λ n low high there. elim (cases_eq (length left) n) [

@@ -5,6 +5,8 @@ use Rattle.counter_table.specs.Worker.{view}
 use Rattle.shared_unit.specs.Turn.{IsReady}
 use Rattle.law_workers.specs.Lanes.{giving_shares, is_of_lane}
 use Rattle.frame_workers.specs.Lanes.{HaveOwnNumbers, IsRoom, IsSplit, IsThere}
+use Rattle.counter_table.specs.declared.view.Turn.{Turn}
+use Rattle.frame_workers.specs.Permits.{AreKept}
 use Rattle.frame_workers.proofs.joining.split_lanes.Given as goal
 
 abbrev pub invariant-rooms : goal.invariant-rooms
@@ -18,6 +20,8 @@ invariant-rooms g l = record {
   split : All (IsSplit (IsReady l.unit.counters l.unit.plan) l.records (view l.initial.worker)) l.lanes.items;
   above : All (λ lane. length l.rooms.items ≤ lane.number) l.lanes.items;
   apart : AllPairs HaveOwnNumbers l.lanes.items;
+  kept : AreKept l.kept (view l.initial.worker).turn;
+  left : (v : Turn) → AreKept l.initial.kept v → AreKept l.kept v;
   each : (number : ℕ) → length l.rooms.items ≤ number → number < LANES → list_any (is_of_lane number) l.records ≡ true
       → IsThere number l.lanes.items;
 }

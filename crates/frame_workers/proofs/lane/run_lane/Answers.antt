@@ -29,7 +29,7 @@ loop-task-init g c =
     record {
       number = refl;
       is_ready = can.is_ready;
-      kept = c.no_permits-kept.ensures (view c.args.lane.now.worker).turn;
+      kept = can.kept;
       shares = refl;
       going = can.going;
       room = can.room;
@@ -96,6 +96,7 @@ returns-in-None g c =
       ran = record {
         number = inv.number;
         is_ready = c.handle-answer.ensures.handles.ready;
+        kept = c.handle-answer.ensures.kept;
         shares = c.handle-answer.ensures.handles.shares ∙ inv.shares;
         handled = λ begin layout s b.
             let x = inv.handled begin layout s b in
@@ -205,6 +206,7 @@ returns g c =
       ran = record {
         number = inv.number;
         is_ready = inv.is_ready;
+        kept = inv.kept;
         shares = inv.shares;
         handled = λ begin layout s b.
             subst (λ (l : List Record). Handled layout begin u v (of_lane n l) (deeds_of s (of_lane n l) xs)) whole

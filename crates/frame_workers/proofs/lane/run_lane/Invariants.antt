@@ -15,7 +15,7 @@ abbrev pub invariant-loop-task : goal.invariant-loop-task
 invariant-loop-task g l = record {
   number : l.lane.number ≡ l.initial.lane.number;
   is_ready : IsReady l.unit.counters l.unit.plan l.lane.worker;
-  kept : All (λ permits. AreTrueFor permits (view l.lane.worker).turn) l.kept;
+  kept : All (λ permits. AreTrueFor permits (view l.lane.worker).turn) l.lane.kept.items;
   shares : (view l.lane.worker).numbers.shares ≡ (view l.initial.lane.worker).numbers.shares;
   going : l.lane.full ≡ false;
   room : length l.records ≤ vec_capacity l.lane.answers;

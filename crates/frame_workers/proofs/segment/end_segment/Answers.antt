@@ -1,18 +1,20 @@
 use Rattle.std.proofs.Common.{◌≡◌, ℕ, ◌<◌, true, List, length, sym, ap, subst, ◌∙◌, arith}
-use Rattle.std.specs.List.{All, Contains}
+use Rattle.std.specs.List.{All, Contains, slice_index_or}
+use Rattle.std.proofs.lemmas.List.Elements.{All-contains}
 use Rattle.sdls_base.specs.declared.TheConstants.{MOST_KEYS}
 use Rattle.counter_table.specs.declared.counters.Worker.{Worker}
 use Rattle.counter_table.specs.declared.view.View.{View}
 use Rattle.counter_table.specs.Worker.{view}
 use Rattle.shared_unit.specs.Turn.{IsReady}
 use Rattle.record_io.specs.declared.records.Record.{Record}
-use Rattle.law_workers.specs.Views.{keeping, meeting, Meets, starting}
+use Rattle.law_workers.specs.Views.{KnowsMore, keeping, meeting, Meets, starting}
 use Rattle.law_workers.specs.Deeds.{deeds_of}
-use Rattle.law_workers.specs.Lanes.{parts_deeds}
+use Rattle.law_workers.specs.Lanes.{Part, parts_deeds}
 use Rattle.frame_workers.specs.declared.lane.Lane.{Lane}
-use Rattle.frame_workers.specs.Lanes.{AreAmong, StopsAt, answers_of, left_at, parts_of}
+use Rattle.frame_workers.specs.Lanes.{AreAmong, StopsAt, answers_of, left_at, part_of, parts_of}
 use Rattle.frame_workers.specs.Segment.{RanFrom}
-use Rattle.frame_workers.proofs.Joins.{each_among}
+use Rattle.frame_workers.proofs.Joins.{each_among, part_among}
+use Rattle.frame_workers.proofs.Kept.{kept_later, places_later}
 use Rattle.frame_workers.proofs.Segments.{IsGivenBack, Served, slice_whole, by_flag, by_end, stops_same, new_apart}
 use Rattle.frame_workers.proofs.Segments.{new_ready, joined_shares, served}
 use Rattle.frame_workers.proofs.segment.end_segment.Given as given
@@ -132,3 +134,19 @@ returns-clause-handles g c before old r =
       moved = λ begin number b. known.moved begin number b answers (among g end number);
       whole = λ all. let shares = known.shares in c.look_back.ensures.whole (omega arith);
     }
+
+-- what the lanes kept, and what was kept of others
+pub returns-clause-kept : goal.returns-clause-kept
+returns-clause-kept g c before old r kept =
+    let joins = (goal.at.returns-clause-kept g c).After-join_lanes in
+    let end = (goal.at.returns-clause-kept g c).After-place_answers-full in
+    let w : View = view c.look_back.new.worker in
+    let known = all_served g end (view before) (serves g joins before old r) in
+    c.join_lanes.ensures.kept w.turn (kept_later (view before) w known.grows c.args.kept.now kept)
+    (λ k lane low.
+    let one : Lane _ = slice_index_or c.args.begun.lanes.items k lane in
+    let many = r.ran.many in
+    places_later (view one.worker) w
+    (All-contains (λ (p : Part). KnowsMore p.knows w) (parts_of c.args.begun.lanes.items) (part_of one)
+    known.parts_grow (part_among c.args.begun.lanes.items k lane low))
+    one.kept.items (r.ran.each k lane (omega arith)).kept)

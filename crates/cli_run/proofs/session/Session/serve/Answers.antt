@@ -10,6 +10,7 @@ use Rattle.cli_run.specs.Putting.{PutsOctets}
 use Rattle.cli_run.specs.Reporting.{NotesAll}
 use Rattle.cli_run.specs.Serving.{ServesSegment}
 use Rattle.cli_run.specs.declared.serving.Stop.{Stop}
+use Rattle.frame_workers.proofs.Kept.{kept_later}
 use Rattle.law_workers.specs.Deeds.{deeds_of}
 use Rattle.law_workers.proofs.Counted.{counted_plain}
 use Rattle.cli_run.proofs.Noting.{plain_at, plain_counts, plain_reported}
@@ -86,3 +87,11 @@ returns-clause-serves g c = λ begin began.
     begin began c.requires.alone.whole (c.in-Ok.ensures.handles.whole c.requires.alone.shares)
     c.put_answers-put.ensures.alone.whole
     c.in-Ok.segment.full (c.in-Ok.ensures.handles.full begin began))
+
+pub returns-clause-kept : goal.returns-clause-kept
+returns-clause-kept g c =
+    let told = g.O.Site.told in
+    let mid : View = view c.run_segment_by.new.worker in
+    let w : View = view c.put_answers-put.new.self.worker in
+    kept_later mid w (c.put_answers-put.ensures.puts.leaves.puts (begin_with told mid.turn.known.opening)
+    (began_with told mid.turn.known.opening)).does.grows c.run_segment_by.new.kept c.run_segment_by.ensures.kept

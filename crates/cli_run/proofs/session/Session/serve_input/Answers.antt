@@ -3,6 +3,7 @@ use Rattle.record_io.specs.Reading.{SourceSeen, Standing}
 use Rattle.counter_table.specs.Worker.{view}
 use Rattle.law_workers.specs.Began.{BeganWith}
 use Rattle.law_runs.proofs.Looping.{begins_way}
+use Rattle.frame_workers.proofs.Kept.{none_true}
 use Rattle.cli_run.specs.Serving.{Goes}
 use Rattle.cli_run.proofs.Served.{began_with, begin_with}
 use Rattle.cli_run.proofs.session.Session.serve_input.Goals as goal
@@ -18,6 +19,7 @@ segments-init g c =
     record {
       alone = c.requires.alone;
       same = refl;
+      kept = none_true c.new-kept.result first.turn c.new-kept.ensures;
       opening = refl;
       way = λ begin began.
           subst (λ (standing : Standing). Goes start start standing begin first first c.args.self.now.log)
@@ -53,6 +55,7 @@ segments-preserved g c =
     record {
       alone = c.in-None.ensures.alone;
       same = c.in-None.ensures.same ∙ c.segments.invariant.same;
+      kept = c.in-None.ensures.kept;
       opening = c.in-None.ensures.opening ∙ c.segments.invariant.opening;
       way = λ begin began. c.in-None.ensures.leads start begin first
           (subst (BeganWith g.O.Site.told begin) (sym c.segments.invariant.opening) began)

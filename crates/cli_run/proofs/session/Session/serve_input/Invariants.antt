@@ -1,6 +1,7 @@
 use Rattle.std.proofs.Common.{◌≡◌, ◌-◌, ◌^◌}
 use Rattle.counter_table.specs.Worker.{view}
 use Rattle.run_promise.specs.Call.{Begin}
+use Rattle.frame_workers.specs.Permits.{AreKept}
 use Rattle.law_workers.specs.Began.{BeganWith}
 use Rattle.cli_run.specs.Putting.{IsAlone}
 use Rattle.cli_run.specs.Serving.{Goes}
@@ -10,6 +11,7 @@ abbrev pub invariant-segments : goal.invariant-segments
 invariant-segments g l = record {
   alone : IsAlone l.self.unit.now.counters l.self.unit.now.plan l.self.worker;
   same : l.self.unit.now ≡ l.fn.self.unit.now;
+  kept : AreKept l.kept (view l.self.worker).turn;
   opening : (view l.self.worker).turn.known.opening ≡ (view l.fn.self.worker).turn.known.opening;
   way : (begin : Begin) → BeganWith g.O.Site.told begin (view l.fn.self.worker).turn.known.opening
       → Goes (record {

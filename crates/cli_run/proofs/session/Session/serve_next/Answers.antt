@@ -1,16 +1,15 @@
-use Rattle.std.proofs.Common.{◌<◌, ℕ, List, Ok, Err, IfNone, sym, subst}
-use Rattle.std.specs.List.{All}
-use Rattle.record_io.specs.declared.kinds.TheConstants.{LANES}
+use Rattle.std.proofs.Common.{◌<◌, ℕ, List, IfNone, sym, subst}
 use Rattle.record_io.specs.declared.records.Record.{Record}
 use Rattle.record_io.specs.Reading.{SourceSeen, Standing}
 use Rattle.counter_table.specs.declared.view.View.{View}
 use Rattle.counter_table.specs.Whole.{IsWhole}
 use Rattle.counter_table.specs.Worker.{view}
 use Rattle.law_workers.specs.Began.{BeganWith}
-use Rattle.law_workers.specs.Deeds.{Ascend}
 use Rattle.run_promise.specs.declared.end.RunEnd.{RunEnd}
 use Rattle.law_runs.proofs.Looping.{reads_ascend, reads_lanes}
-use Rattle.cli_run.specs.Serving.{Comes, Leads, ServesSegment}
+use Rattle.frame_workers.proofs.Kept.{kept_later}
+use Rattle.cli_run.specs.Serving.{Comes, Leads}
+use Rattle.cli_run.proofs.Knowing.{ends_knowing}
 use Rattle.cli_run.proofs.Leading.{forth_after, leads_on, leads_to_stop, leads_unread, monitor_kind, reads_of}
 use Rattle.cli_run.proofs.Served.{began_with, begin_with}
 use Rattle.cli_run.proofs.session.Session.serve_next.Goals as goal
@@ -134,3 +133,12 @@ returns-in-Err-serve_read-clause-leads g c = λ start begin first began way.
     (c.in-Ok.ensures.reads start way.way.items way.way.read way.way.reading) way.way.reading.closed)
     c.in-Err-serve_read.stop
     (c.in-Err-serve_read.ensures.serves begin began))
+
+pub returns-in-Ok-serve_read-clause-kept : goal.returns-in-Ok-serve_read-clause-kept
+returns-in-Ok-serve_read-clause-kept g c =
+    let v : View = view c.serve_read.new.self.worker in
+    let w : View = view c.end_segment.new.self.worker in
+    kept_later v w (ends_knowing (begin_with g.O.Site.told v.turn.known.opening) c.in-Ok.read.1 c.end_segment.result v w
+    c.serve_read.new.self.log c.end_segment.new.self.log
+    (c.end_segment.ensures.ends (begin_with g.O.Site.told v.turn.known.opening)
+    (began_with g.O.Site.told v.turn.known.opening))) c.serve_read.new.kept c.serve_read.ensures.kept
