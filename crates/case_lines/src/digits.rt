@@ -1,6 +1,7 @@
 //! Octets, in hexadecimal digits and as numbers.
-use crate::words::{number_at, word_at};
-use std::alloc::Global;
+use crate::words::{length_at, number_at, word_at};
+use hex::FromHexError;
+use std::alloc::{AllocError, Global};
 use std::fmt;
 use std::str::SplitWhitespace;
 
@@ -44,6 +45,30 @@ pub fn octets(alloc: Global, words: &mut SplitWhitespace<'_>) -> anyhow::Result<
     Ok(octets)
 }
 
+/// The octets of a word, none of one that is none in digits.
+pub fn decoded(alloc: Global, word: &str) -> Result<Vec<u8>, AllocError> {
+    match hex::decode(alloc, word) {
+        Ok(octets) => Ok(octets),
+        Err(FromHexError::OutOfMemory) => Err(AllocError),
+        Err(_) => Ok(Vec::new(alloc)),
+    }
+}
+
+/// Some of these octets: `OFFSET LENGTH`. None where they do not reach so far.
+pub fn octets_at<'a>(octets: &'a [u8], line: &str) -> &'a [u8] {
+    let from = length_at(line, 0);
+    let to = from.saturating_add(length_at(line, 1));
+    octets.get(from..to).unwrap_or(&[])
+}
+
+/// Writes octets over some of these from a place on, as far as these reach.
+pub fn set_octets(octets: &mut [u8], at: usize, part: &[u8]) {
+    let (_, behind) = octets.split_at_mut(at.min(octets.len()));
+    for (octet, new) in behind.iter_mut().zip(part.iter()) {
+        *octet = *new;
+    }
+}
+
 /// Some of these octets, in digits: `OFFSET LENGTH`. None where they do not reach so far.
 pub fn part_of(alloc: Global, octets: &[u8], line: &str) -> anyhow::Result<String> {
     let from = usize::try_from(number_at(line, 0)).unwrap_or(0);
@@ -70,4 +95,9 @@ pub fn number_of(octets: &[u8]) -> u64 {
         number = number.wrapping_mul(256).wrapping_add(u64::from(*octet));
     }
     number
+}
+
+/// The number that some of these octets are, 0 where they do not reach so far.
+pub fn number_in(octets: &[u8], from: usize, to: usize) -> u64 {
+    number_of(octets.get(from..to).unwrap_or(&[]))
 }

@@ -88,6 +88,11 @@ pub fn number_at(line: &str, place: usize) -> u64 {
     word_at(line, place).parse().unwrap_or(0)
 }
 
+/// The same as a length.
+pub fn length_at(line: &str, place: usize) -> usize {
+    number_at(line, place) as usize
+}
+
 /// All words of a line as numbers, 0 for a word that is none.
 pub fn numbers(alloc: Global, line: &str) -> Result<Vec<u64>, AllocError> {
     let mut numbers = Vec::new(alloc);

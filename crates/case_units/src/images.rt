@@ -211,7 +211,7 @@ pub fn image_of_sender(alloc: Global, slots: u32, block: u64, lines: &str) -> Op
 }
 
 /// What the word says that a crash leaves: what was written, what was synced, or an octet for each that was torn.
-fn crash_of(word: &str) -> Crash {
+pub fn crash_of(word: &str) -> Crash {
     match word {
         "kept" => Crash::Kept,
         "lost" => Crash::Lost,

@@ -20,6 +20,19 @@ pub fn joined(alloc: Global, pieces: &[&[u8]]) -> Result<Vec<u8>, AllocError> {
     Ok(octets)
 }
 
+/// Appends a record of this kind.
+pub fn push_record(
+    input: &mut Vec<u8>,
+    kind: u8,
+    lane: u8,
+    link: u8,
+    octets: &[u8],
+) -> Result<(), AllocError> {
+    let [high, low] = ((octets.len() % 65_536) as u16).to_be_bytes();
+    input.extend_from_slice(&[kind, lane, link, 0, high, low])?;
+    input.extend_from_slice(octets)
+}
+
 /// Appends this record, moved to this lane.
 pub fn push_on_lane(input: &mut Vec<u8>, record: &[u8], lane: u8) -> Result<(), AllocError> {
     let at = input.len() + 1;

@@ -1,5 +1,5 @@
 //! What answers look like.
-use case_lines::sa_state_name;
+use case_lines::{octets_at, sa_state_name};
 use ep_core::Reply;
 use frame_checks::OpenReply;
 use frame_shield::ShieldFault;
@@ -11,6 +11,11 @@ pub fn write_octets(octets: &[u8], text: &mut String) -> Result<(), AllocError> 
         write!(text, "{octet:02x}")?;
     }
     Ok(())
+}
+
+/// Writes some of these octets: `OFFSET LENGTH`. None where they do not reach so far.
+pub fn write_part(octets: &[u8], line: &str, text: &mut String) -> Result<(), AllocError> {
+    write_octets(octets_at(octets, line), text)
 }
 
 /// Writes why a frame is not protected.

@@ -1,4 +1,5 @@
 //! The items of a recorded input.
+use case_units::{FENCE, push_record};
 use std::alloc::{AllocError, Global};
 
 /// What a record is handed for, as its header says.
@@ -8,11 +9,12 @@ pub const OPEN: u8 = 2;
 
 pub const COMMAND: u8 = 3;
 
-/// Items, and where the octets of each record begin and end in them.
+/// Items, where the octets of each record begin and end in them, and how many are frames to be protected.
 #[derive(Drop)]
 pub struct Items {
     pub octets: Vec<u8>,
     pub places: Vec<(usize, usize)>,
+    pub frames: usize,
 }
 
 impl Items {
@@ -20,23 +22,30 @@ impl Items {
         Items {
             octets: Vec::new(alloc),
             places: Vec::new(alloc),
+            frames: 0,
         }
     }
 
     /// Adds a record.
     pub fn push(&mut self, kind: u8, lane: u8, link: u8, octets: &[u8]) -> Result<(), AllocError> {
-        let [high, low] = ((octets.len() % 65_536) as u16).to_be_bytes();
-        self.octets
-            .extend_from_slice(&[kind, lane, link, 0, high, low])?;
-        let from = self.octets.len();
-        self.octets.extend_from_slice(octets)?;
-        self.places.push((from, self.octets.len()))?;
+        push_record(&mut self.octets, kind, lane, link, octets)?;
+        let to = self.octets.len();
+        self.places.push((to.saturating_sub(octets.len()), to))?;
+        if kind == PROTECT {
+            self.frames = self.frames.saturating_add(1);
+        }
         Ok(())
+    }
+
+    /// Adds a fence.
+    pub fn push_fence(&mut self) -> Result<(), AllocError> {
+        self.octets.extend_from_slice(FENCE)
     }
 
     /// Leaves none.
     pub fn clear(&mut self) {
         self.octets.clear();
         self.places.clear();
+        self.frames = 0;
     }
 }

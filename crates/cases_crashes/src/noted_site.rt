@@ -2,7 +2,7 @@
 ghost use Rattle.std.specs.Prelude.{true};
 ghost use Rattle.sdls_outside.specs.contracts.mem_site.MemSiteSite.TheImpl.Laws as mem_laws;
 
-use crate::calls::Trouble;
+use crate::trouble::Trouble;
 use sdls_outside::{Crash, Failed, MemSite, Site};
 use std::alloc::{AllocError, Global};
 
@@ -44,24 +44,16 @@ fn note(written: &mut Vec<(u64, u64)>, at: u64, length: u64) {
 impl NotedSite {
     /// A site that holds this image.
     pub fn new(alloc: Global, image: Vec<u8>, trouble: Trouble) -> Result<NotedSite, AllocError> {
-        let mut failing = Vec::new(alloc);
-        let mut dead_from = None;
-        match trouble {
-            Trouble::None => {}
-            Trouble::Fails(call) | Trouble::FailsWritten(call) => failing.push(call)?,
-            Trouble::Dead(call) => dead_from = Some(call),
-        }
+        let failing = match trouble.failing {
+            Some(call) => vec![in alloc; call]?,
+            None => Vec::new(alloc),
+        };
         Ok(NotedSite {
-            inside: MemSite::new(alloc, image, failing, dead_from),
+            inside: MemSite::new(alloc, image, failing, trouble.dead_from),
             written: Vec::new(alloc),
             failed_put: None,
-            writes_failed: matches!(trouble, Trouble::FailsWritten(_)),
+            writes_failed: trouble.is_written,
         })
-    }
-
-    /// The image as it reads.
-    pub fn image(&self) -> &[u8] {
-        self.inside.image()
     }
 
     /// The octets sunk so far.
@@ -74,31 +66,23 @@ impl NotedSite {
         self.failed_put
     }
 
-    /// The image as it reads, with this octet in each place that was written since the last sync.
-    fn filled(&self, alloc: Global, octet: u8) -> Result<Vec<u8>, AllocError> {
-        let mut image = Vec::from_slice(alloc, self.inside.image())?;
-        fill(image.as_mut_slice(), self.written.as_slice(), octet);
-        Ok(image)
-    }
-
-    /// The site after a crash of this kind, of which no call fails.
-    pub fn crashed(self, alloc: Global, how: Crash) -> Result<NotedSite, AllocError> {
-        if let Crash::Filled(octet) = how {
-            let image = self.filled(alloc, octet)?;
-            return NotedSite::new(alloc, image, Trouble::None);
-        }
+    /// Adds the image that a crash of this kind leaves.
+    pub fn leave(self, crash: Crash, image: &mut Vec<u8>) -> Result<(), AllocError> {
         let NotedSite {
             inside,
-            written: _,
+            written,
             failed_put: _,
             writes_failed: _,
         } = self;
-        Ok(NotedSite {
-            inside: inside.crashed(how),
-            written: Vec::new(alloc),
-            failed_put: None,
-            writes_failed: false,
-        })
+        let how = match crash {
+            Crash::Filled(_) => Crash::Kept,
+            crash => crash,
+        };
+        image.extend_from_slice(inside.crashed(how).image())?;
+        if let Crash::Filled(octet) = crash {
+            fill(image.as_mut_slice(), written.as_slice(), octet);
+        }
+        Ok(())
     }
 }
 

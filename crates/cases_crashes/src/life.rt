@@ -87,7 +87,7 @@ impl Life {
         if let Some(fault) = self.up.fault.or(self.down.fault) {
             return fault;
         }
-        if let Some(fault) = ground.numbers.fault().or(spacecraft.numbers.fault()) {
+        if let Some(fault) = ground.disk.repeat().or(spacecraft.disk.repeat()) {
             return fault;
         }
         if ground.deaths.min(spacecraft.deaths) < rounds / 10 {

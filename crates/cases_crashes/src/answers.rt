@@ -1,11 +1,11 @@
 //! What a run wrote.
-use case_lines::number_of;
+use case_lines::number_in;
 use record_io::ANSWER_HEADER;
-use record_io::code::{DONE, REFUSED};
+use record_io::code::{ACCEPTED, DONE, PROTECTED, REFUSED};
 use std::alloc::AllocError;
 
-/// An answer whose header was written: where its header and its body begin, where it ends, its code and detail, key and
-/// number. Its position depends on the schedule, and is left out.
+/// An answer whose header was written: where its header and its body begin, where it ends, and the fields of its
+/// header. Its position depends on the schedule of lanes.
 #[derive(Clone, Copy)]
 pub struct Answer {
     pub at: usize,
@@ -14,6 +14,7 @@ pub struct Answer {
     pub code: u8,
     pub detail: u8,
     pub key: u64,
+    pub position: u64,
     pub number: u64,
 }
 
@@ -36,11 +37,35 @@ impl Answer {
     pub fn is_handled(&self, sunk: &[u8]) -> bool {
         (self.code == DONE || self.code == REFUSED) && self.body(sunk).is_some()
     }
+
+    /// Whether it is a frame that was protected, or of a command that drew a number of a key.
+    fn uses_number(&self) -> bool {
+        self.code == PROTECTED || (self.code == DONE && self.key != 0)
+    }
+
+    /// What is wrong if the other answer comes behind it.
+    fn repeat_by(&self, later: &Answer) -> Option<&'static str> {
+        if self.key != later.key || self.number != later.number {
+            None
+        } else if self.uses_number() && later.uses_number() {
+            Some("a number was used twice")
+        } else if self.code == ACCEPTED && later.code == ACCEPTED {
+            Some("a number was accepted twice")
+        } else {
+            None
+        }
+    }
 }
 
-/// The number in some octets of a header.
-fn number_in(header: &[u8], from: usize, to: usize) -> u64 {
-    number_of(header.get(from..to).unwrap_or(&[]))
+/// That a number of a key was used for two of these answers, or accepted twice.
+pub fn repeat_in(answers: &[Answer]) -> Option<&'static str> {
+    for (place, later) in answers.iter().enumerate() {
+        let earlier = answers.get(..place).unwrap_or(&[]);
+        if let Some(repeat) = earlier.iter().find_map(|first| first.repeat_by(later)) {
+            return Some(repeat);
+        }
+    }
+    None
 }
 
 /// The answer with this header, at this place.
@@ -53,6 +78,7 @@ fn answer_of(at: usize, header: &[u8]) -> Answer {
         code: header.first().copied().unwrap_or(0),
         detail: header.get(1).copied().unwrap_or(0),
         key: number_in(header, 2, 4),
+        position: number_in(header, 8, 16),
         number: number_in(header, 16, 24),
     }
 }

@@ -1,8 +1,10 @@
 //! One call of the site that fails.
-use crate::answers::{Answer, push_answers};
-use crate::calls::{MOST_CALLS, Trouble, crash_at};
-use crate::runs::{Ran, Runs};
+use crate::disk::Disk;
+use crate::runs::Runs;
+use crate::stops::MOST_CALLS;
+use crate::trouble::Trouble;
 use case_lines::{number_at, word_at};
+use case_units::crash_of;
 use record_io::code::END;
 use record_io::status::{DONE, SITE_FAULT};
 use sdls_outside::Crash;
@@ -25,23 +27,14 @@ impl Failing {
     pub fn of_line(line: &str) -> Failing {
         Failing {
             opening: number_at(line, 0),
-            crash: crash_at(line, 1),
+            crash: crash_of(word_at(line, 1)),
             is_written: word_at(line, 2) == "written",
-        }
-    }
-
-    /// What goes wrong if this call fails.
-    fn trouble(self, call: u64) -> Trouble {
-        if self.is_written {
-            Trouble::FailsWritten(call)
-        } else {
-            Trouble::Fails(call)
         }
     }
 }
 
 /// What a call of a run is for.
-#[derive(Clone, Copy, PartialEq, Eq)]
+#[derive(Clone, Copy)]
 enum Call {
     /// It opens the image.
     Opening,
@@ -55,43 +48,43 @@ enum Call {
     Flawed,
 }
 
-/// Whether the answers of a run are so many, and behind them End with the status of a fault, the count of the run's
-/// entries, and one fault.
-fn end_behind(answers: &[Answer], count: usize, ran: &Ran) -> bool {
-    match answers.last() {
-        Some(last) => {
-            last.code == END
-                && last.detail == SITE_FAULT
-                && last.position == ran.entries as u64
-                && last.number == 1
-                && answers.len() - 1 == count
-        }
-        None => false,
-    }
-}
-
 /// What this call was for, which failed.
-fn call_of(call: u64, opening: u64, ran: &Ran) -> Call {
-    if ran.status == DONE {
+fn call_of(call: u64, opening: u64, disk: &Disk) -> Call {
+    if disk.status == DONE {
         Call::None
     } else if call < opening {
         Call::Opening
-    } else if ran.site.failed_put().is_some() {
+    } else if disk.failed_put.is_some() {
         Call::Put
     } else {
         Call::Other
     }
 }
 
+/// Whether the answers of a run are so many, and behind them End with the status of a fault, the count of the run's
+/// entries, and one fault.
+fn end_behind(disk: &Disk, count: usize) -> bool {
+    match disk.answers.last() {
+        Some(last) => {
+            last.code == END
+                && last.detail == SITE_FAULT
+                && last.position == disk.entries as u64
+                && last.number == 1
+                && disk.answers.len().saturating_sub(1) == count
+        }
+        None => false,
+    }
+}
+
 /// Whether a run in which such a call failed put what is due: End alone if it opens the image; if it writes answers a
 /// front of those of the whole run, and nothing more; else an answer for each record, and End.
-fn is_due(call: Call, records: usize, ran: &Ran, answers: &[Answer], whole: &[u8]) -> bool {
-    let sunk = ran.site.sunk();
-    ran.status == SITE_FAULT
+fn is_due(call: Call, records: usize, disk: &Disk, whole: &[u8]) -> bool {
+    let sunk = disk.sunk.as_slice();
+    disk.status == SITE_FAULT
         && match call {
-            Call::Opening => end_behind(answers, 0, ran),
-            Call::Put => ran.site.failed_put() == Some(sunk.len()) && whole.starts_with(sunk),
-            Call::Other => end_behind(answers, records, ran),
+            Call::Opening => end_behind(disk, 0),
+            Call::Put => disk.failed_put == Some(sunk.len()) && whole.starts_with(sunk),
+            Call::Other => end_behind(disk, records),
             Call::None | Call::Flawed => false,
         }
 }
@@ -102,39 +95,33 @@ impl<R: Threads + Wait + Sync> Runs<'_, R> {
     fn is_next_due(
         &self,
         alloc: Global,
+        disk: &mut Disk,
         call: Call,
-        answers: &mut Vec<Answer>,
-        ran: Ran,
-        crash: Crash,
-        alone: &Ran,
+        alone: &[u8],
     ) -> Result<bool, AllocError> {
-        let left = ran.site.crashed(alloc, crash)?;
-        let next = self.next(alloc, left)?;
-        if call == Call::Opening && next.site.sunk() != alone.site.sunk() {
-            return Ok(false);
-        }
-        Ok(self.flaw_of_next(answers, &next, &[])?.is_empty())
+        let flaw = self.flaw_of_next(alloc, disk, &[])?;
+        let is_as_alone = !matches!(call, Call::Opening) || disk.sunk.as_slice() == alone;
+        Ok(flaw.is_empty() && is_as_alone)
     }
 
     /// What a call is for, in a run in which it alone fails.
     fn judge_call(
         &self,
         alloc: Global,
+        disk: &mut Disk,
         call: u64,
         failing: Failing,
-        whole: &Ran,
-        alone: &Ran,
+        whole: &[u8],
+        alone: &[u8],
     ) -> Result<Call, AllocError> {
-        let ran = self.first(alloc, failing.trouble(call))?;
-        let kind = call_of(call, failing.opening, &ran);
-        if kind == Call::None {
+        let trouble = Trouble::fault(call, failing.is_written, failing.crash);
+        self.first(alloc, disk, trouble)?;
+        let kind = call_of(call, failing.opening, disk);
+        if matches!(kind, Call::None) {
             return Ok(kind);
         }
-        let mut answers = Vec::new(alloc);
-        push_answers(&mut answers, ran.site.sunk())?;
-        let records = self.input.records;
-        if is_due(kind, records, &ran, answers.as_slice(), whole.site.sunk())
-            && self.is_next_due(alloc, kind, &mut answers, ran, failing.crash, alone)?
+        if is_due(kind, self.items.places.len(), disk, whole)
+            && self.is_next_due(alloc, disk, kind, alone)?
         {
             return Ok(kind);
         }
@@ -145,20 +132,21 @@ impl<R: Threads + Wait + Sync> Runs<'_, R> {
     fn judge_calls(
         &self,
         alloc: Global,
+        disk: &mut Disk,
         failing: Failing,
-        whole: &Ran,
-        alone: &Ran,
+        whole: &[u8],
+        alone: &[u8],
         answer: &mut String,
     ) -> Result<(), AllocError> {
+        let opening = failing.opening;
         let mut puts = 0u64;
         let mut others = 0u64;
         for call in 0..MOST_CALLS {
-            match self.judge_call(alloc, call, failing, whole, alone)? {
+            match self.judge_call(alloc, disk, call, failing, whole, alone)? {
                 Call::Opening => {}
                 Call::Put => puts = puts.saturating_add(1),
                 Call::Other => others = others.saturating_add(1),
                 Call::None => {
-                    let opening = failing.opening;
                     return write!(
                         answer,
                         "{opening} calls of the opening, {puts} puts, {others} others, sound"
@@ -174,11 +162,15 @@ impl<R: Threads + Wait + Sync> Runs<'_, R> {
     pub fn judge_failing(
         &self,
         alloc: Global,
+        disk: &mut Disk,
+        whole: &mut Disk,
+        alone: &mut Disk,
         failing: Failing,
         answer: &mut String,
     ) -> Result<(), AllocError> {
-        let whole = self.first(alloc, Trouble::None)?;
-        let alone = self.next_alone(alloc)?;
-        self.judge_calls(alloc, failing, &whole, &alone, answer)
+        self.first(alloc, whole, Trouble::none())?;
+        self.next_alone(alloc, alone)?;
+        let (whole, alone) = (whole.sunk.as_slice(), alone.sunk.as_slice());
+        self.judge_calls(alloc, disk, failing, whole, alone, answer)
     }
 }

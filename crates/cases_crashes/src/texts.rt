@@ -1,4 +1,4 @@
-//! What a run wrote, as it is printed.
+//! What a run wrote, and what `stat` says of an image, as it is printed.
 use crate::answers::Answer;
 use crate::disk::Disk;
 use case_units::write_octets;
@@ -80,4 +80,45 @@ pub fn write_answer(disk: &Disk, place: u64, text: &mut String) -> Result<(), Al
     )?;
     write_octets(answer.body(disk.sunk.as_slice()).unwrap_or(&[]), text)?;
     text.push_str(".")
+}
+
+/// How many lines begin with this word and have that one behind it.
+fn count_of(text: &str, first: &str, state: &str) -> usize {
+    let lines = text.lines().filter(|line| line.starts_with(first));
+    lines
+        .filter(|line| line.split_whitespace().any(|word| word == state))
+        .count()
+}
+
+/// How many lines begin with this word, and how many of them have each of these states.
+fn write_kind(
+    text: &str,
+    first: &str,
+    states: &[&str],
+    answer: &mut String,
+) -> Result<(), AllocError> {
+    let count = text.lines().filter(|line| line.starts_with(first)).count();
+    write!(answer, "{first}lines {count}")?;
+    for state in states {
+        let count = count_of(text, first, state);
+        write!(answer, " {state} {count}")?;
+    }
+    Ok(())
+}
+
+/// How many lines a text of a state has of each kind.
+pub fn write_lines(text: &str, answer: &mut String) -> Result<(), AllocError> {
+    let states = ["preactive", "active", "deactivated", "destroyed"];
+    write_kind(text, "key ", &states, answer)?;
+    answer.push_str("\n")?;
+    write_kind(text, "sa ", &["unkeyed", "keyed", "operational"], answer)
+}
+
+/// The first line of a text of a state, how many lines it has of each kind, and its digest.
+pub fn write_state(text: &str, answer: &mut String) -> Result<(), AllocError> {
+    answer.push_str(text.lines().next().unwrap_or(""))?;
+    answer.push_str("\n")?;
+    write_lines(text, answer)?;
+    answer.push_str("\nstate ")?;
+    write_octets(Sha256::digest(text.as_bytes()).as_slice(), answer)
 }
