@@ -1,5 +1,8 @@
 //! The loop over standard input.
-use std::alloc::Global;
+use std::alloc::{AllocError, Global};
+
+/// What a call returns that writes an answer: only memory can be short.
+pub type Written = Result<(), AllocError>;
 
 /// What the lines of a table answer, written into one text of the caller: who returns a text of its own drops it on
 /// each way out, and each such drop is proved.

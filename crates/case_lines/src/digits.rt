@@ -69,6 +69,19 @@ pub fn set_octets(octets: &mut [u8], at: usize, part: &[u8]) {
     }
 }
 
+/// The same of the octets of a line: `OFFSET OCTETS`.
+pub fn set_octets_at(alloc: Global, octets: &mut [u8], line: &str) -> Result<(), AllocError> {
+    let part = decoded(alloc, word_at(line, 1))?;
+    set_octets(octets, length_at(line, 0), part.as_slice());
+    Ok(())
+}
+
+/// Has these octets in place of others.
+pub fn replace(octets: &mut Vec<u8>, others: &[u8]) -> Result<(), AllocError> {
+    octets.clear();
+    octets.extend_from_slice(others)
+}
+
 /// Some of these octets, in digits: `OFFSET LENGTH`. None where they do not reach so far.
 pub fn part_of(alloc: Global, octets: &[u8], line: &str) -> anyhow::Result<String> {
     let from = usize::try_from(number_at(line, 0)).unwrap_or(0);

@@ -11,14 +11,14 @@ mod gathered;
 mod names;
 mod words;
 
-pub use answers::{Steps, print_step, print_steps};
+pub use answers::{Steps, Written, print_step, print_steps};
 pub use digits::{
-    Digits, decoded, number_in, number_of, octets, octets_at, part_of, piece, set_octets,
-    set_part_of,
+    Digits, decoded, number_in, number_of, octets, octets_at, part_of, piece, replace, set_octets,
+    set_octets_at, set_part_of,
 };
 pub use gathered::Gathered;
 pub use names::{direction_name, key_state_name, sa_state_name, suite_name};
 pub use words::{
-    channel, direction, flag, key, key_state, length_at, number, number_at, numbers, octet,
+    channel, cut, direction, flag, key, key_state, length_at, number, number_at, numbers, octet,
     sa_state, short, spi, suite, word_at, words_of,
 };

@@ -78,6 +78,11 @@ pub fn sa_state(words: &mut SplitWhitespace<'_>) -> Option<Option<SaState>> {
     }
 }
 
+/// What stands before the first space of a line, and what stands behind it.
+pub fn cut(line: &str) -> (&str, &str) {
+    line.split_once(' ').unwrap_or((line, ""))
+}
+
 /// The word at a place of a line, empty where there is none.
 pub fn word_at(line: &str, place: usize) -> &str {
     line.split_whitespace().nth(place).unwrap_or("")
