@@ -2,7 +2,7 @@
 use crate::answers::{Answer, push_answers, repeat_in};
 use crate::noted_site::NotedSite;
 use crate::trouble::Trouble;
-use case_lines::words_of;
+use case_lines::{replace, words_of};
 use case_units::{BEGINNING, joined};
 use cli_image::run_plain;
 use cli_run::{OpenGate, run_recorded};
@@ -68,8 +68,7 @@ impl Disk {
     /// Takes an image over which nothing was run.
     pub fn begin(&mut self, image: &[u8]) -> Result<(), AllocError> {
         self.all.clear();
-        self.image.clear();
-        self.image.extend_from_slice(image)
+        replace(&mut self.image, image)
     }
 
     /// The site of the next call, with the image.
@@ -84,8 +83,7 @@ impl Disk {
         self.status = status;
         self.entries = entries;
         self.failed_put = site.failed_put();
-        self.sunk.clear();
-        let kept = self.sunk.extend_from_slice(site.sunk());
+        let kept = replace(&mut self.sunk, site.sunk());
         site.leave(crash, &mut self.image)?;
         kept
     }

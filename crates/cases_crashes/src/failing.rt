@@ -3,7 +3,7 @@ use crate::disk::Disk;
 use crate::runs::Runs;
 use crate::stops::MOST_CALLS;
 use crate::trouble::Trouble;
-use case_lines::{number_at, word_at};
+use case_lines::{Written, number_at, word_at};
 use case_units::crash_of;
 use record_io::code::END;
 use record_io::status::{DONE, SITE_FAULT};
@@ -137,7 +137,7 @@ impl<R: Threads + Wait + Sync> Runs<'_, R> {
         whole: &[u8],
         alone: &[u8],
         answer: &mut String,
-    ) -> Result<(), AllocError> {
+    ) -> Written {
         let opening = failing.opening;
         let mut puts = 0u64;
         let mut others = 0u64;
@@ -167,7 +167,7 @@ impl<R: Threads + Wait + Sync> Runs<'_, R> {
         alone: &mut Disk,
         failing: Failing,
         answer: &mut String,
-    ) -> Result<(), AllocError> {
+    ) -> Written {
         self.first(alloc, whole, Trouble::none())?;
         self.next_alone(alloc, alone)?;
         let (whole, alone) = (whole.sunk.as_slice(), alone.sunk.as_slice());

@@ -38,6 +38,17 @@ pub struct Field<'a> {
     pub message: &'a [u8],
 }
 
+impl Field<'_> {
+    /// A data field without a message.
+    pub fn bare(what: u8, number: u64) -> Field<'static> {
+        Field {
+            what,
+            number,
+            message: &[],
+        }
+    }
+}
+
 /// A TC frame on link 0 (CCSDS 232.0-B-4), or a TM frame on link 1 (CCSDS 132.0-B-3), up to its message.
 fn front_of(alloc: Global, link: u8, channel: u8, field: Field<'_>) -> Result<Vec<u8>, AllocError> {
     let [_, _, _, _, a, b, c, d] = field.number.to_be_bytes();

@@ -49,11 +49,7 @@ impl Ground {
         self.push_step(alloc)?;
         for _ in 0..chance.below(4) {
             self.sent = self.sent.saturating_add(1);
-            let field = Field {
-                what: DATA,
-                number: self.sent,
-                message: &[],
-            };
+            let field = Field::bare(DATA, self.sent);
             push_frame(alloc, &mut self.station.items, UP, 1, field)?;
         }
         Ok(())

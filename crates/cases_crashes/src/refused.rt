@@ -3,6 +3,7 @@ use crate::answers::Answer;
 use crate::disk::Disk;
 use crate::runs::Runs;
 use crate::trouble::Trouble;
+use case_lines::Written;
 use record_io::code::{END, NO_MEMORY, SITE_FAULT, STOPPED};
 use record_io::status;
 use std::alloc::{AllocError, Global};
@@ -92,7 +93,7 @@ impl<R: Threads + Wait + Sync> Runs<'_, R> {
         one: &mut Disk,
         other: &mut Disk,
         answer: &mut String,
-    ) -> Result<(), AllocError> {
+    ) -> Written {
         self.first(alloc, one, Trouble::none())?;
         self.first(alloc, other, Trouble::none())?;
         answer.push_str(self.flaw_of_two(alloc, one, other)?)

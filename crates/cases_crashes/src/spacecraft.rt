@@ -73,18 +73,10 @@ impl Spacecraft {
         self.station.items.clear();
         for _ in 0..chance.below(4) {
             self.sent = self.sent.saturating_add(1);
-            let field = Field {
-                what: TELEMETRY,
-                number: self.sent,
-                message: &[],
-            };
+            let field = Field::bare(TELEMETRY, self.sent);
             push_frame(alloc, &mut self.station.items, DOWN, 0, field)?;
         }
-        let field = Field {
-            what: REPORT,
-            number: self.handled,
-            message: &[],
-        };
+        let field = Field::bare(REPORT, self.handled);
         push_frame(alloc, &mut self.station.items, DOWN, 1, field)
     }
 }

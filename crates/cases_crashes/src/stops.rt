@@ -2,6 +2,7 @@
 use crate::disk::Disk;
 use crate::runs::Runs;
 use crate::trouble::Trouble;
+use case_lines::Written;
 use record_io::code::PROTECTED;
 use record_io::status::{DONE, SITE_FAULT};
 use sdls_outside::Crash;
@@ -120,7 +121,7 @@ impl<R: Threads + Wait + Sync> Runs<'_, R> {
         crash: Crash,
         rule: Rule<'_>,
         answer: &mut String,
-    ) -> Result<(), AllocError> {
+    ) -> Written {
         let mut stops = 0u64;
         for call in first..MOST_CALLS {
             match self.flaw_at(alloc, disk, Trouble::stop(call, crash), rule)? {
@@ -140,7 +141,7 @@ impl<R: Threads + Wait + Sync> Runs<'_, R> {
         whole: &mut Disk,
         crash: Crash,
         answer: &mut String,
-    ) -> Result<(), AllocError> {
+    ) -> Written {
         self.first(alloc, whole, Trouble::none())?;
         if whole.status != DONE {
             return answer.push_str("it does not end well");

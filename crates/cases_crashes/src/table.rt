@@ -5,14 +5,14 @@ use crate::items::{COMMAND, OPEN, PROTECT};
 use crate::life::live;
 use crate::runs::Runs;
 use crate::stops::{Rule, stand};
-use crate::texts::{write_answer, write_answers, write_lines, write_state};
+use crate::texts::{text_of, write_answer, write_answers, write_lines, write_state};
 use crate::trouble::Trouble;
-use case_lines::{Gathered, decoded, length_at, number_at, set_octets, word_at};
+use case_lines::{Gathered, Written, cut, decoded, number_at, set_octets_at, word_at};
 use case_units::{crash_of, image_of, image_of_version_one, write_part};
 use std::alloc::{AllocError, Global};
+use std::mem;
 use std::sync::Wait;
 use std::thread::Threads;
-use std::{mem, str};
 
 /// What was gathered: a plan, the runs, the items of the last one, and whether little is to be printed. The other disks
 /// are those on which runs are judged.
@@ -41,8 +41,17 @@ impl<'a, R> Table<'a, R> {
         }
     }
 
+    /// The image of the plan, if it is one.
+    fn image(&self, alloc: Global, word: &str) -> Option<Vec<u8>> {
+        let plan = self.plan.as_str().as_bytes();
+        match word {
+            "unit_one" => image_of_version_one(alloc, plan),
+            _ => image_of(alloc, plan),
+        }
+    }
+
     /// Takes the image that was made of the plan, if there is one.
-    fn make(&mut self, image: Option<Vec<u8>>, answer: &mut String) -> Result<(), AllocError> {
+    fn make(&mut self, image: Option<Vec<u8>>, answer: &mut String) -> Written {
         self.plan.clear();
         let Some(image) = image else {
             return answer.push_str("no unit");
@@ -50,16 +59,8 @@ impl<'a, R> Table<'a, R> {
         self.runs.disk.begin(image.as_slice())
     }
 
-    /// Writes octets over those of the image: `OFFSET OCTETS`.
-    fn set(&mut self, alloc: Global, rest: &str) -> Result<(), AllocError> {
-        let octets = decoded(alloc, word_at(rest, 1))?;
-        let image = self.runs.disk.image.as_mut_slice();
-        set_octets(image, length_at(rest, 0), octets.as_slice());
-        Ok(())
-    }
-
     /// Writes whether these octets stand in the image.
-    fn look(&self, alloc: Global, digits: &str, answer: &mut String) -> Result<(), AllocError> {
+    fn look(&self, alloc: Global, digits: &str, answer: &mut String) -> Written {
         let octets = decoded(alloc, digits)?;
         let is_there = stand(octets.as_slice(), self.runs.disk.image.as_slice());
         answer.push_str(if is_there { "there" } else { "nowhere" })
@@ -72,13 +73,14 @@ impl<'a, R> Table<'a, R> {
         word: &str,
         rest: &str,
         answer: &mut String,
-    ) -> Result<(), AllocError> {
-        let plan = self.plan.as_str().as_bytes();
+    ) -> Written {
         match word {
             "plan" => self.plan.push(rest),
-            "unit" => self.make(image_of(alloc, plan), answer),
-            "unit_one" => self.make(image_of_version_one(alloc, plan), answer),
-            "set" => self.set(alloc, rest),
+            "unit" | "unit_one" => {
+                let image = self.image(alloc, word);
+                self.make(image, answer)
+            }
+            "set" => set_octets_at(alloc, self.runs.disk.image.as_mut_slice(), rest),
             "octets" => write_part(self.runs.disk.image.as_slice(), rest, answer),
             "length" => {
                 let length = self.runs.disk.image.len();
@@ -109,7 +111,7 @@ impl<'a, R> Table<'a, R> {
         word: &str,
         rest: &str,
         answer: &mut String,
-    ) -> Result<(), AllocError> {
+    ) -> Written {
         match word {
             "records" => self.runs.begin(false),
             "next" => self.runs.begin(true),
@@ -137,13 +139,7 @@ impl<R: Threads + Wait + Sync> Table<'_, R> {
     }
 
     /// Writes how it ended, and the answers.
-    fn write_run(
-        &mut self,
-        alloc: Global,
-        word: &str,
-        rest: &str,
-        answer: &mut String,
-    ) -> Result<(), AllocError> {
+    fn write_run(&mut self, alloc: Global, word: &str, rest: &str, answer: &mut String) -> Written {
         let trouble = match word {
             "crash" => Trouble::stop(number_at(rest, 0), crash_of(word_at(rest, 1))),
             _ => Trouble::none(),
@@ -160,17 +156,17 @@ impl<R: Threads + Wait + Sync> Table<'_, R> {
     }
 
     /// Writes what `stat` says of the image, and takes the image that it leaves.
-    fn stat(&mut self, alloc: Global, answer: &mut String) -> Result<(), AllocError> {
+    fn stat(&mut self, alloc: Global, answer: &mut String) -> Written {
         self.runs.disk.stat(alloc, Trouble::none())?;
-        let text = str::from_utf8(self.runs.disk.sunk.as_slice()).unwrap_or("no text");
+        let text = text_of(self.runs.disk.sunk.as_slice());
         answer.push_str(text.trim_end())
     }
 
     /// Writes of what `stat` says of the image a digest and counts, or these alone.
-    fn digest(&mut self, alloc: Global, word: &str, answer: &mut String) -> Result<(), AllocError> {
+    fn digest(&mut self, alloc: Global, word: &str, answer: &mut String) -> Written {
         self.tried.begin(self.runs.disk.image.as_slice())?;
         self.tried.stat(alloc, Trouble::none())?;
-        let text = str::from_utf8(self.tried.sunk.as_slice()).unwrap_or("no text");
+        let text = text_of(self.tried.sunk.as_slice());
         match word {
             "stat" => write_state(text, answer),
             _ => write_lines(text, answer),
@@ -178,7 +174,7 @@ impl<R: Threads + Wait + Sync> Table<'_, R> {
     }
 
     /// Writes what is wrong with `stat` on a site that is dead from each call on.
-    fn stats(&mut self, alloc: Global, rest: &str, answer: &mut String) -> Result<(), AllocError> {
+    fn stats(&mut self, alloc: Global, rest: &str, answer: &mut String) -> Written {
         self.runs.is_stat = true;
         let (tried, whole) = (&mut self.tried, &mut self.whole);
         let judged = self
@@ -189,7 +185,7 @@ impl<R: Threads + Wait + Sync> Table<'_, R> {
     }
 
     /// Writes what is wrong with stops behind which octets are to be gone: `FIRST KIND OCTETS`.
-    fn gone(&mut self, alloc: Global, rest: &str, answer: &mut String) -> Result<(), AllocError> {
+    fn gone(&mut self, alloc: Global, rest: &str, answer: &mut String) -> Written {
         let octets = decoded(alloc, word_at(rest, 2))?;
         let (first, crash) = (number_at(rest, 0), crash_of(word_at(rest, 1)));
         let rule = Rule::Numbers(octets.as_slice());
@@ -198,7 +194,7 @@ impl<R: Threads + Wait + Sync> Table<'_, R> {
     }
 
     /// A life of two units: `SEED ROUNDS`.
-    fn life(&self, alloc: Global, rest: &str, answer: &mut String) -> Result<(), AllocError> {
+    fn life(&self, alloc: Global, rest: &str, answer: &mut String) -> Written {
         let verdict = live(self.runs.rt, alloc, number_at(rest, 0), number_at(rest, 1))?;
         write!(answer, "life {rest} {verdict}")
     }
@@ -210,7 +206,7 @@ impl<R: Threads + Wait + Sync> Table<'_, R> {
         word: &str,
         rest: &str,
         answer: &mut String,
-    ) -> Result<(), AllocError> {
+    ) -> Written {
         let (tried, whole, alone) = (&mut self.tried, &mut self.whole, &mut self.alone);
         match word {
             "stops" => {
@@ -232,13 +228,8 @@ impl<R: Threads + Wait + Sync> Table<'_, R> {
     }
 
     /// Takes a step, and writes what it answers.
-    pub fn step(
-        &mut self,
-        alloc: Global,
-        line: &str,
-        answer: &mut String,
-    ) -> Result<(), AllocError> {
-        let (word, rest) = line.split_once(' ').unwrap_or((line, ""));
+    pub fn step(&mut self, alloc: Global, line: &str, answer: &mut String) -> Written {
+        let (word, rest) = cut(line);
         match word {
             "run" | "run_on" | "crash" => self.write_run(alloc, word, rest, answer),
             "answer" => write_answer(&self.runs.disk, number_at(rest, 0), answer),

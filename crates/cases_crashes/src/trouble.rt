@@ -28,10 +28,9 @@ impl Trouble {
     /// The site is dead from a call on.
     pub fn stop(call: u64, crash: Crash) -> Trouble {
         Trouble {
-            failing: None,
-            is_written: false,
             dead_from: Some(call),
             crash,
+            ..Trouble::none()
         }
     }
 
@@ -40,8 +39,8 @@ impl Trouble {
         Trouble {
             failing: Some(call),
             is_written,
-            dead_from: None,
             crash,
+            ..Trouble::none()
         }
     }
 }
