@@ -1,15 +1,9 @@
 //! What a command put, as text.
 
-use case_lines::number_of;
-use std::alloc::{AllocError, Global};
-
-/// Writes octets in digits.
-pub fn push_digits(text: &mut String, octets: &[u8]) -> Result<(), AllocError> {
-    for octet in octets {
-        write!(text, "{octet:02x}")?;
-    }
-    Ok(())
-}
+use case_lines::number_in;
+use case_units::write_octets;
+use std::alloc::AllocError;
+use std::str;
 
 /// The numbers in the header of an answer: the word before each, and where its octets stand.
 const NUMBERS: [(&str, usize, usize); 3] = [
@@ -24,14 +18,14 @@ fn push_answer(text: &mut String, header: &[u8], body: &[u8]) -> Result<(), Allo
     let detail = header.get(1).copied().unwrap_or(0);
     write!(text, "\n{code:02x} {detail:02x}")?;
     for (word, from, to) in NUMBERS {
-        let number = number_of(header.get(from..to).unwrap_or(&[]));
+        let number = number_in(header, from, to);
         write!(text, "{word}{number}")?;
     }
-    if !body.is_empty() {
-        text.push_str(" ")?;
-        push_digits(text, body)?;
+    if body.is_empty() {
+        return Ok(());
     }
-    Ok(())
+    text.push_str(" ")?;
+    write_octets(body, text)
 }
 
 /// Writes the answers that were put, a line each.
@@ -41,36 +35,30 @@ fn push_answers(text: &mut String, sunk: &[u8]) -> Result<(), AllocError> {
         let Some((header, behind)) = rest.split_at_checked(24) else {
             break;
         };
-        let length = number_of(header.get(4..8).unwrap_or(&[])) as usize;
+        let length = number_in(header, 4, 8) as usize;
         let (body, behind) = behind.split_at(length.min(behind.len()));
         push_answer(text, header, body)?;
         rest = behind;
     }
-    if !rest.is_empty() {
-        text.push_str("\ncut ")?;
-        push_digits(text, rest)?;
+    if rest.is_empty() {
+        return Ok(());
     }
-    Ok(())
+    text.push_str("\ncut ")?;
+    write_octets(rest, text)
 }
 
 /// Writes the text that was put, behind a line feed and without its own last one.
-fn push_text(alloc: Global, text: &mut String, sunk: &[u8]) -> Result<(), AllocError> {
-    let put = String::from_utf8_lossy(alloc, sunk)?;
-    match put.as_str().trim_end() {
+fn push_text(text: &mut String, sunk: &[u8]) -> Result<(), AllocError> {
+    match str::from_utf8(sunk).unwrap_or("no text").trim_end() {
         "" => Ok(()),
         line => write!(text, "\n{line}"),
     }
 }
 
 /// Writes what the words of a line put: answers of a run, the text of other words.
-pub fn push_put(
-    alloc: Global,
-    text: &mut String,
-    line: &str,
-    sunk: &[u8],
-) -> Result<(), AllocError> {
+pub fn push_put(text: &mut String, line: &str, sunk: &[u8]) -> Result<(), AllocError> {
     match line {
         "run" => push_answers(text, sunk),
-        _ => push_text(alloc, text, sunk),
+        _ => push_text(text, sunk),
     }
 }

@@ -1,9 +1,8 @@
 //! The image as it lies between two commands, and the site of the last one.
 
-use crate::answers::push_digits;
 use crate::image::swap_banks;
-use case_lines::{number_at, numbers, set_part_of};
-use case_units::{image_after, image_of_version_one};
+use case_lines::{Written, decoded, length_at, number_at, numbers, replace, set_octets_at};
+use case_units::{image_after, image_of_version_one, write_octets, write_part};
 use sdls_outside::{MemSite, Site};
 use std::alloc::{AllocError, Global};
 use std::mem;
@@ -16,17 +15,6 @@ pub struct Disk {
     failing: Vec<u64>,
     dead: Option<u64>,
     last: Option<MemSite>,
-}
-
-/// The number at a place of a line as a length.
-pub fn length_at(line: &str, place: usize) -> usize {
-    usize::try_from(number_at(line, place)).unwrap_or(usize::MAX)
-}
-
-/// Has these octets in place of others.
-fn set(octets: &mut Vec<u8>, others: &[u8]) -> Result<(), AllocError> {
-    octets.clear();
-    octets.extend_from_slice(others)
 }
 
 /// Writes where octets stand first in others.
@@ -51,17 +39,17 @@ impl Disk {
     }
 
     /// Takes a step that sets the image or what fails. Says whether the word names one.
-    pub fn take(&mut self, alloc: Global, word: &str, rest: &str) -> anyhow::Result<bool> {
+    pub fn take(&mut self, alloc: Global, word: &str, rest: &str) -> Result<bool, AllocError> {
         match word {
             "failing" => self.failing = numbers(alloc, rest)?,
             "dead" => self.dead = Some(number_at(rest, 0)),
-            "lay" => self.image = hex::decode(alloc, rest)?,
+            "lay" => self.image = decoded(alloc, rest)?,
             "zeros" => self.image = vec![in alloc; 0; length_at(rest, 0)]?,
-            "keep" => set(&mut self.kept, self.image.as_slice())?,
-            "back" => set(&mut self.image, self.kept.as_slice())?,
+            "keep" => replace(&mut self.kept, self.image.as_slice())?,
+            "back" => replace(&mut self.image, self.kept.as_slice())?,
             "lose" => self.image.clear(),
             "cut" => self.image.truncate(length_at(rest, 0)),
-            "set" => set_part_of(alloc, self.image.as_mut_slice(), rest)?,
+            "set" => set_octets_at(alloc, self.image.as_mut_slice(), rest)?,
             "swap" => swap_banks(alloc, self.image.as_mut_slice())?,
             _ => return Ok(false),
         }
@@ -82,7 +70,7 @@ impl Disk {
 
     /// Keeps the site of a command, and its image.
     pub fn keep(&mut self, site: MemSite) -> Result<(), AllocError> {
-        let copied = set(&mut self.image, site.image());
+        let copied = replace(&mut self.image, site.image());
         self.last = Some(site);
         copied
     }
@@ -96,7 +84,7 @@ impl Disk {
     }
 
     /// Takes the image that a crash of the last site leaves, and writes whether there was a site.
-    fn crash(&mut self, alloc: Global, rest: &str, text: &mut String) -> Result<(), AllocError> {
+    fn crash(&mut self, alloc: Global, rest: &str, text: &mut String) -> Written {
         let Some(site) = self.last.take() else {
             return text.push_str("no site");
         };
@@ -105,27 +93,14 @@ impl Disk {
     }
 
     /// Writes what the last site has sunk, and its faults.
-    fn push_sunk(&self, text: &mut String) -> Result<(), AllocError> {
+    fn push_sunk(&self, text: &mut String) -> Written {
         let Some(site) = &self.last else {
             return text.push_str("no");
         };
         text.push_str("sunk ")?;
-        push_digits(text, site.sunk())?;
+        write_octets(site.sunk(), text)?;
         let faults = site.faults();
         write!(text, " faults {faults}")
-    }
-
-    /// Writes some of the image: `OFFSET LENGTH`.
-    fn push_part(&self, text: &mut String, rest: &str) -> Result<(), AllocError> {
-        let from = length_at(rest, 0);
-        let to = from.saturating_add(length_at(rest, 1));
-        push_digits(text, self.image.get(from..to).unwrap_or(&[]))
-    }
-
-    /// Writes the length of the image.
-    fn push_length(&self, text: &mut String) -> Result<(), AllocError> {
-        let length = self.image.len();
-        write!(text, "image of {length}")
     }
 
     /// Whether the image is the one that was kept, as a word.
@@ -147,9 +122,13 @@ impl Disk {
     ) -> Result<bool, AllocError> {
         let written = match word {
             "crash" => self.crash(alloc, rest, text),
-            "show" => self.push_part(text, rest),
+            "show" => write_part(self.image.as_slice(), rest, text),
             "sunk" => self.push_sunk(text),
-            "image" => self.push_length(text),
+            "image" => {
+                let length = self.image.len();
+                write!(text, "image of {length}")
+            }
+            "find" => self.find(alloc, rest, text),
             "same" => text.push_str(self.same()),
             _ => return Ok(false),
         };
@@ -158,9 +137,8 @@ impl Disk {
     }
 
     /// Writes where these octets stand first in the image.
-    pub fn find(&self, alloc: Global, digits: &str, text: &mut String) -> anyhow::Result<()> {
-        let wanted = hex::decode(alloc, digits)?;
-        push_place(text, self.image.as_slice(), wanted.as_slice())?;
-        Ok(())
+    fn find(&self, alloc: Global, digits: &str, text: &mut String) -> Written {
+        let wanted = decoded(alloc, digits)?;
+        push_place(text, self.image.as_slice(), wanted.as_slice())
     }
 }

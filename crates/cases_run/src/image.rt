@@ -1,5 +1,5 @@
 //! Where things stand in an image.
-use case_lines::number_of;
+use case_lines::{number_in, set_octets};
 use std::alloc::{AllocError, Global};
 
 /// The octets of the header.
@@ -98,15 +98,6 @@ pub struct Layout {
     pub slots: usize,
 }
 
-/// Writes octets over some of these from a place on, as far as they reach.
-pub fn put(octets: &mut [u8], at: usize, part: &[u8]) {
-    let start = at.min(octets.len());
-    let (_, behind) = octets.split_at_mut(start);
-    for (octet, new) in behind.iter_mut().zip(part.iter()) {
-        *octet = *new;
-    }
-}
-
 /// Sets so many of these from a place on to 0, as far as they reach.
 fn clear(octets: &mut [u8], at: usize, length: usize) {
     let start = at.min(octets.len());
@@ -146,7 +137,7 @@ impl<'a> Image<'a> {
 
     /// How many slots a bank has.
     pub fn slot_count(self) -> usize {
-        number_of(self.part(SLOT_COUNT, 4)) as usize
+        number_in(self.octets, SLOT_COUNT, SLOT_COUNT + 4) as usize
     }
 
     /// Where the banks stand.
@@ -204,11 +195,11 @@ impl<'a> Image<'a> {
     /// Writes the image that a changed one of version 1 is migrated to over zeros: header and plan, and behind zeros a
     /// bank with the rows of the open one.
     pub fn migrate(self, changed: Image<'_>, octets: &mut [u8]) {
-        put(octets, 0, changed.part(0, BANKS));
-        put(octets, MIGRATED, &[1]);
+        set_octets(octets, 0, changed.part(0, BANKS));
+        set_octets(octets, MIGRATED, &[1]);
         let bank = Form::Migrated.banks(self.slot_count());
         let old = self.current();
-        put(octets, bank, &[1, 0, 0, 0, 0, 0, 0, 0, 1]);
+        set_octets(octets, bank, &[1, 0, 0, 0, 0, 0, 0, 0, 1]);
         changed.put_rows(old, octets, bank);
         changed.put_marks(old.saturating_add(SLOTS_ONE), octets, bank);
     }
@@ -219,17 +210,17 @@ impl<'a> Image<'a> {
         let sa_count = self.part(old.saturating_add(CONTENT + 2), 1);
         let keys = self.part(old.saturating_add(KEY_ROWS), KEY_ROOM_ONE);
         let associations = self.part(old.saturating_add(SA_ROWS_ONE), SA_ROOM_ONE);
-        put(octets, bank.saturating_add(CONTENT), count);
-        put(octets, bank.saturating_add(CONTENT + 3), sa_count);
-        put(octets, bank.saturating_add(KEY_ROWS), keys);
-        put(octets, bank.saturating_add(SA_ROWS_TWO), associations);
+        set_octets(octets, bank.saturating_add(CONTENT), count);
+        set_octets(octets, bank.saturating_add(CONTENT + 3), sa_count);
+        set_octets(octets, bank.saturating_add(KEY_ROWS), keys);
+        set_octets(octets, bank.saturating_add(SA_ROWS_TWO), associations);
     }
 
     /// Writes the mark and the floor of the record of a slot, if there is one, into the row of the first key.
     fn put_marks(self, slot: usize, octets: &mut [u8], bank: usize) {
         if self.octet(slot) == 1 {
             let marks = self.part(slot.saturating_add(RECORD_MARK), MARKS);
-            put(octets, bank.saturating_add(KEY_ROWS + MARK), marks);
+            set_octets(octets, bank.saturating_add(KEY_ROWS + MARK), marks);
         }
     }
 }
@@ -242,7 +233,7 @@ pub fn swap_banks(alloc: Global, octets: &mut [u8]) -> Result<(), AllocError> {
     };
     let layout = image.layout();
     let second = layout.banks.saturating_add(layout.bank_length);
-    put(octets, layout.banks, image.part(second, layout.bank_length));
-    put(octets, second, image.part(layout.banks, layout.bank_length));
+    set_octets(octets, layout.banks, image.part(second, layout.bank_length));
+    set_octets(octets, second, image.part(layout.banks, layout.bank_length));
     Ok(())
 }

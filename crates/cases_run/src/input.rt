@@ -1,7 +1,7 @@
 //! What a source gives.
 
-use case_lines::{number_at, numbers, octets, word_at};
-use case_units::{BEGINNING, FENCE};
+use case_lines::{decoded, length_at, number_at, numbers, octets, replace, word_at};
+use case_units::{BEGINNING, FENCE, push_record};
 use sdls_outside::MemSource;
 use std::alloc::{AllocError, Global};
 use std::mem;
@@ -35,24 +35,20 @@ impl Input {
     }
 
     /// Gathers the record that the line says: a lane, for a frame a link, and the octets, if there are any.
-    fn push_record(&mut self, alloc: Global, word: &str, rest: &str) -> anyhow::Result<()> {
+    fn push(&mut self, alloc: Global, word: &str, rest: &str) -> Result<(), AllocError> {
         let (kind, place) = kind_of(word);
-        let octets = hex::decode(alloc, word_at(rest, place))?;
+        let octets = decoded(alloc, word_at(rest, place))?;
         let lane = (number_at(rest, 0) % 256) as u8;
         let link = if place == 1 {
             0
         } else {
             (number_at(rest, 1) % 256) as u8
         };
-        let [high, low] = ((octets.len() % 65_536) as u16).to_be_bytes();
-        self.octets
-            .extend_from_slice(&[kind, lane, link, 0, high, low])?;
-        self.octets.extend_from_slice(octets.as_slice())?;
-        Ok(())
+        push_record(&mut self.octets, kind, lane, link, octets.as_slice())
     }
 
     /// Gathers octets.
-    fn push_octets(&mut self, alloc: Global, rest: &str) -> anyhow::Result<()> {
+    pub fn push_octets(&mut self, alloc: Global, rest: &str) -> anyhow::Result<()> {
         let octets = octets(alloc, &mut rest.split_whitespace())?;
         self.octets.extend_from_slice(octets.as_slice())?;
         Ok(())
@@ -60,18 +56,16 @@ impl Input {
 
     /// Has these octets in place of those that were gathered.
     pub fn set(&mut self, octets: &[u8]) -> Result<(), AllocError> {
-        self.octets.clear();
-        self.octets.extend_from_slice(octets)
+        replace(&mut self.octets, octets)
     }
 
     /// Takes a step on the input or its source. Says whether the word names one.
-    pub fn take(&mut self, alloc: Global, word: &str, rest: &str) -> anyhow::Result<bool> {
+    pub fn take(&mut self, alloc: Global, word: &str, rest: &str) -> Result<bool, AllocError> {
         match word {
             "records" => self.set(BEGINNING)?,
             "fence" => self.octets.extend_from_slice(FENCE)?,
-            "protect" | "open" | "command" | "monitor" => self.push_record(alloc, word, rest)?,
-            "octets" => self.push_octets(alloc, rest)?,
-            "pieces" => self.piece = usize::try_from(number_at(rest, 0)).unwrap_or(usize::MAX),
+            "protect" | "open" | "command" | "monitor" => self.push(alloc, word, rest)?,
+            "pieces" => self.piece = length_at(rest, 0),
             "source" => self.failing = numbers(alloc, rest)?,
             _ => return Ok(false),
         }

@@ -1,11 +1,12 @@
 //! Each octet of a part of an image changed, and what `stat` says judged.
-use crate::image::{Form, Image, SLOT, put};
+use crate::image::{Form, Image, SLOT};
 use crate::rules::Due;
-use case_lines::words_of;
+use case_lines::{Written, set_octets, words_of};
 use sdls_outside::{MemSite, SureSource};
 use sdls_run::status::{DONE, NO_STATE};
 use sdls_run::{Outcome, run_plain};
 use std::alloc::{AllocError, Global};
+use std::str;
 
 /// The values that an octet is set to.
 const VALUES: [u8; 4] = [0, 1, 2, 255];
@@ -25,32 +26,21 @@ fn called(alloc: Global, words: &[String], image: &[u8]) -> Result<(u8, MemSite)
 }
 
 /// Appends what `stat` says of an image.
-fn push_said(
-    alloc: Global,
-    words: &[String],
-    image: &[u8],
-    text: &mut String,
-) -> Result<(), AllocError> {
+fn push_said(alloc: Global, words: &[String], image: &[u8], text: &mut String) -> Written {
     let (_, site) = called(alloc, words, image)?;
-    let said = String::from_utf8_lossy(alloc, site.sunk())?;
-    text.push_str(said.as_str())
+    text.push_str(str::from_utf8(site.sunk()).unwrap_or("no text"))
 }
 
-/// Whether an opening leaves this of a changed image: one at rest, of version 2.
-fn is_left(
-    alloc: Global,
-    image: Image<'_>,
-    changed: &[u8],
-    left: &[u8],
-) -> Result<bool, AllocError> {
+/// What an opening leaves of a changed image: one at rest, of version 2.
+fn left_of(alloc: Global, image: Image<'_>, changed: &[u8]) -> Result<Vec<u8>, AllocError> {
     if image.form() == Form::Old {
-        let mut wanted = vec![in alloc; 0; Form::Migrated.end(image.slot_count())]?;
-        image.migrate(Image { octets: changed }, wanted.as_mut_slice());
-        return Ok(left == wanted.as_slice());
+        let mut left = vec![in alloc; 0; Form::Migrated.end(image.slot_count())]?;
+        image.migrate(Image { octets: changed }, left.as_mut_slice());
+        return Ok(left);
     }
-    let mut wanted = Vec::from_slice(alloc, changed)?;
-    image.put_at_rest(wanted.as_mut_slice());
-    Ok(left == wanted.as_slice())
+    let mut left = Vec::from_slice(alloc, changed)?;
+    image.put_at_rest(left.as_mut_slice());
+    Ok(left)
 }
 
 /// The words of `stat`, what it says of an image, and of it without its record. A changed image, the text that is due
@@ -86,9 +76,9 @@ impl Judge {
         let words = self.words.as_slice();
         push_said(alloc, words, image.octets, &mut self.shown)?;
         let gate = image.first_closed().saturating_sub(SLOT);
-        put(self.changed.as_mut_slice(), gate, &[0]);
+        set_octets(self.changed.as_mut_slice(), gate, &[0]);
         push_said(alloc, words, self.changed.as_slice(), &mut self.bare)?;
-        put(self.changed.as_mut_slice(), gate, &[image.octet(gate)]);
+        set_octets(self.changed.as_mut_slice(), gate, &[image.octet(gate)]);
         Ok(())
     }
 
@@ -117,6 +107,23 @@ impl Judge {
         Ok(DONE)
     }
 
+    /// Whether `stat` left this of the changed image: what it was, or what an opening leaves.
+    fn is_left(
+        &mut self,
+        alloc: Global,
+        image: Image<'_>,
+        status: u8,
+        left: &[u8],
+    ) -> Result<bool, AllocError> {
+        let changed = self.changed.as_slice();
+        if status == NO_STATE {
+            self.refused = self.refused.saturating_add(1);
+            return Ok(left == changed);
+        }
+        self.shows = self.shows.saturating_add(1);
+        Ok(left == left_of(alloc, image, changed)?.as_slice())
+    }
+
     /// Whether `stat` says of the changed image what is due, and leaves it as it was if it is refused, and else at rest
     /// and of version 2.
     fn is_due(&mut self, alloc: Global, image: Image<'_>, due: Due) -> Result<bool, AllocError> {
@@ -126,12 +133,7 @@ impl Judge {
         if status != wanted || site.sunk() != self.due.as_str().as_bytes() {
             return Ok(false);
         }
-        if status == NO_STATE {
-            self.refused = self.refused.saturating_add(1);
-            return Ok(site.image() == changed);
-        }
-        self.shows = self.shows.saturating_add(1);
-        is_left(alloc, image, changed, site.image())
+        self.is_left(alloc, image, status, site.image())
     }
 
     /// Sets the octet at a place to each value that it has not. Returns the first value with another answer than is
@@ -145,13 +147,13 @@ impl Judge {
         let old = image.octet(place);
         for value in VALUES {
             if value != old {
-                put(self.changed.as_mut_slice(), place, &[value]);
+                set_octets(self.changed.as_mut_slice(), place, &[value]);
                 if !self.is_due(alloc, image, image.due(place, value))? {
                     return Ok(Some(value));
                 }
             }
         }
-        put(self.changed.as_mut_slice(), place, &[old]);
+        set_octets(self.changed.as_mut_slice(), place, &[old]);
         Ok(None)
     }
 
@@ -164,7 +166,7 @@ impl Judge {
         from: usize,
         length: usize,
         answer: &mut String,
-    ) -> Result<(), AllocError> {
+    ) -> Written {
         self.ask(alloc, image)?;
         for place in from..from.saturating_add(length) {
             if let Some(value) = self.judge_octet(alloc, image, place)? {
@@ -184,6 +186,6 @@ pub fn judge_octets(
     from: usize,
     length: usize,
     answer: &mut String,
-) -> Result<(), AllocError> {
+) -> Written {
     Judge::new(alloc).judge(alloc, Image { octets: image }, from, length, answer)
 }

@@ -1,10 +1,10 @@
 //! The steps, and what they answer.
 
 use crate::answers::push_put;
-use crate::disk::{Disk, length_at};
+use crate::disk::Disk;
 use crate::input::Input;
 use crate::judging::judge_octets;
-use case_lines::{Gathered, number_at, words_of};
+use case_lines::{Gathered, Written, cut, length_at, number_at, words_of};
 use sdls_outside::{Site, Source};
 use sdls_run::{OpenGate, Outcome, run};
 use std::alloc::{AllocError, Global};
@@ -56,7 +56,7 @@ impl<'a, R> Table<'a, R> {
 
 impl<R: Threads + Wait + Sync> Table<'_, R> {
     /// Runs words on the image, with the input: the status, and the count of entries.
-    fn call(&mut self, alloc: Global, words: &[String]) -> anyhow::Result<(u8, usize)> {
+    fn call(&mut self, alloc: Global, words: &[String]) -> Result<(u8, usize), AllocError> {
         let mut source = self.input.source(alloc);
         let site = self.disk.site(alloc);
         let (status, count, site) = ran(self.rt, alloc, words, &mut source, site);
@@ -65,12 +65,11 @@ impl<R: Threads + Wait + Sync> Table<'_, R> {
     }
 
     /// Runs the words of a line, and writes status, count of entries, and what was put.
-    fn command(&mut self, alloc: Global, line: &str, answer: &mut String) -> anyhow::Result<()> {
+    fn command(&mut self, alloc: Global, line: &str, answer: &mut String) -> Written {
         let words = words_of(alloc, line)?;
         let (status, count) = self.call(alloc, words.as_slice())?;
         write!(answer, "status {status} entries {count}")?;
-        push_put(alloc, answer, line, self.disk.sunk())?;
-        Ok(())
+        push_put(answer, line, self.disk.sunk())
     }
 
     /// Records what the last site has sunk as one run, its length before it.
@@ -85,41 +84,49 @@ impl<R: Threads + Wait + Sync> Table<'_, R> {
     }
 
     /// Audits the recording, and writes what is said of it. The next recording begins anew.
-    fn audit(&mut self, alloc: Global, answer: &mut String) -> anyhow::Result<()> {
+    fn audit(&mut self, alloc: Global, answer: &mut String) -> Written {
         self.input.set(self.recording.as_slice())?;
         self.recording.clear();
         self.command(alloc, "audit", answer)
     }
 
-    /// Takes a step, and writes what it answers.
-    fn take(&mut self, alloc: Global, line: &str, answer: &mut String) -> anyhow::Result<()> {
-        let (word, rest) = line.split_once(' ').unwrap_or((line, ""));
-        if self.input.take(alloc, word, rest)?
-            || self.disk.take(alloc, word, rest)?
-            || self.disk.answer(alloc, word, rest, answer)?
-        {
-            return Ok(());
-        }
+    /// Takes a step on what was gathered, or runs the words of a line, and writes what it answers.
+    fn take_other_step(&mut self, alloc: Global, line: &str, answer: &mut String) -> Written {
+        let (word, rest) = cut(line);
+        let plan = self.plan.as_str().as_bytes();
         match word {
-            "plan" => self.plan.push(rest)?,
+            "plan" => self.plan.push(rest),
             "init" => {
-                self.input.set(self.plan.as_str().as_bytes())?;
+                self.input.set(plan)?;
                 self.plan.clear();
-                self.command(alloc, line, answer)?
+                self.command(alloc, line, answer)
             }
             "unit_one" => {
-                self.disk
-                    .take_version_one(alloc, self.plan.as_str().as_bytes());
-                self.plan.clear()
+                self.disk.take_version_one(alloc, plan);
+                self.plan.clear();
+                Ok(())
             }
-            "record" => self.record()?,
-            "audited" => self.audit(alloc, answer)?,
-            "find" => self.disk.find(alloc, rest, answer)?,
+            "record" => self.record(),
+            "audited" => self.audit(alloc, answer),
             "judge" => {
                 let image = self.disk.image.as_slice();
-                judge_octets(alloc, image, length_at(rest, 0), length_at(rest, 1), answer)?
+                judge_octets(alloc, image, length_at(rest, 0), length_at(rest, 1), answer)
             }
-            _ => self.command(alloc, line, answer)?,
+            _ => self.command(alloc, line, answer),
+        }
+    }
+
+    /// Takes a step, and writes what it answers.
+    fn take(&mut self, alloc: Global, line: &str, answer: &mut String) -> anyhow::Result<()> {
+        let (word, rest) = cut(line);
+        if word == "octets" {
+            return self.input.push_octets(alloc, rest);
+        }
+        if !self.input.take(alloc, word, rest)?
+            && !self.disk.take(alloc, word, rest)?
+            && !self.disk.answer(alloc, word, rest, answer)?
+        {
+            self.take_other_step(alloc, line, answer)?;
         }
         Ok(())
     }
@@ -129,7 +136,7 @@ impl<R: Threads + Wait + Sync> Table<'_, R> {
         let Some(("times", rest)) = line.split_once(' ') else {
             return self.take(alloc, line, answer);
         };
-        let (_, step) = rest.split_once(' ').unwrap_or((rest, ""));
+        let (_, step) = cut(rest);
         for _ in 0..number_at(rest, 0) {
             answer.clear();
             self.take(alloc, step, answer)?;
