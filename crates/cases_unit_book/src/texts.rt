@@ -1,21 +1,19 @@
 //! What the book shows, and why it refuses.
-use case_lines::{direction_name, key_state_name, number_at, sa_state_name, suite_name};
-use case_units::write_octets;
+use case_lines::{Written, direction_name, key_state_name, sa_state_name, suite_name};
 use key_book::KeyRow;
 use sa_book::SaRow;
-use std::alloc::AllocError;
 use unit_book::BookFault;
 use unit_image::OpenFault;
 
 /// Writes a row of a key.
-pub fn write_key(row: &KeyRow, answer: &mut String) -> Result<(), AllocError> {
+pub fn write_key(row: &KeyRow, answer: &mut String) -> Written {
     let state = key_state_name(row.state);
     let (id, mark, floor) = (row.id.get(), row.mark, row.floor);
     write!(answer, "; key {id} {state} mark {mark} floor {floor}")
 }
 
 /// Writes a row of an association.
-pub fn write_association(row: &SaRow, answer: &mut String) -> Result<(), AllocError> {
+pub fn write_association(row: &SaRow, answer: &mut String) -> Written {
     let (direction, suite) = (direction_name(row.direction), suite_name(row.suite));
     let state = sa_state_name(row.state);
     let key = row.key.map_or(0, |key| key.get());
@@ -27,7 +25,7 @@ pub fn write_association(row: &SaRow, answer: &mut String) -> Result<(), AllocEr
 }
 
 /// Writes why an image is not opened.
-pub fn write_open_fault(fault: &OpenFault, answer: &mut String) -> Result<(), AllocError> {
+pub fn write_open_fault(fault: &OpenFault, answer: &mut String) -> Written {
     match fault {
         OpenFault::SiteFault(count) => write!(answer, "site fault {count}"),
         OpenFault::Image(offset) => write!(answer, "image {offset}"),
@@ -36,18 +34,11 @@ pub fn write_open_fault(fault: &OpenFault, answer: &mut String) -> Result<(), Al
 }
 
 /// Writes why a call on the book is refused.
-pub fn write_book_fault(fault: &BookFault, answer: &mut String) -> Result<(), AllocError> {
+pub fn write_book_fault(fault: &BookFault, answer: &mut String) -> Written {
     match fault {
         BookFault::SiteFault(count) => write!(answer, "site fault {count}"),
         BookFault::Stopped(count) => write!(answer, "stopped {count}"),
         BookFault::SessionFull => answer.push_str("session full"),
         BookFault::NoMemory => answer.push_str("no memory"),
     }
-}
-
-/// Writes some of these octets: `OFFSET LENGTH`. None where they do not reach so far.
-pub fn write_part(octets: &[u8], rest: &str, answer: &mut String) -> Result<(), AllocError> {
-    let from = usize::try_from(number_at(rest, 0)).unwrap_or(0);
-    let to = from.saturating_add(usize::try_from(number_at(rest, 1)).unwrap_or(0));
-    write_octets(octets.get(from..to).unwrap_or(&[]), answer)
 }

@@ -4,6 +4,7 @@ ghost use Rattle.std.specs.Prelude.{◌≡◌, ◌≤◌, ℕ, ◌<◌, None, tr
 ghost use Rattle.frame_shield.specs.Binding.{IsBinding, clear_fault};
 
 use crate::texts::{write_association, write_book_fault, write_key};
+use case_lines::Written;
 use case_units::{write_octets, write_open_reply, write_reply, write_shield_fault};
 use ep_codec::{command_without_fault, one_command};
 use ep_core::Need;
@@ -11,7 +12,7 @@ use frame_shield::{Binding, fits, shield};
 use key_book::KeyRow;
 use sdls_base::{KeyId, Seen};
 use sdls_outside::Site;
-use std::alloc::{AllocError, Global};
+use std::alloc::Global;
 use std::marker::Model;
 use unit_book::{Book, BookFault};
 use unit_image::OpenFault;
@@ -68,12 +69,7 @@ fn push_marks(next: &mut Vec<u64>, rows: &[KeyRow]) {
 }
 
 /// Writes the frame protected under the number that was drawn, with index, key and number.
-fn write_frame(
-    binding: &Binding,
-    number: u64,
-    clear: &[u8],
-    answer: &mut String,
-) -> Result<(), AllocError>
+fn write_frame(binding: &Binding, number: u64, clear: &[u8], answer: &mut String) -> Written
     requires binding { IsBinding binding.now }
     requires fits { clear_fault binding.now clear.now ≡ None }
 {
@@ -155,12 +151,7 @@ impl<O: Site> Unit<O> {
     }
 
     /// Writes the protected frame, with index, key and number, or why there is none.
-    fn protect_with(
-        &mut self,
-        binding: &Binding,
-        clear: &[u8],
-        answer: &mut String,
-    ) -> Result<(), AllocError>
+    fn protect_with(&mut self, binding: &Binding, clear: &[u8], answer: &mut String) -> Written
         requires { IsBinding binding.now }
     {
         if let Err(fault) = fits(binding, clear) {
@@ -178,12 +169,7 @@ impl<O: Site> Unit<O> {
     }
 
     /// Protects a frame.
-    pub fn protect(
-        &mut self,
-        link: u8,
-        clear: &[u8],
-        answer: &mut String,
-    ) -> Result<(), AllocError> {
+    pub fn protect(&mut self, link: u8, clear: &[u8], answer: &mut String) -> Written {
         match self.book.binding(link, clear) {
             Ok(Some(binding)) => self.protect_with(&binding, clear, answer),
             Ok(None) => answer.push_str("clear"),
@@ -192,12 +178,7 @@ impl<O: Site> Unit<O> {
     }
 
     /// Opens a frame.
-    pub fn accept(
-        &mut self,
-        link: u8,
-        frame: &mut [u8],
-        answer: &mut String,
-    ) -> Result<(), AllocError> {
+    pub fn accept(&mut self, link: u8, frame: &mut [u8], answer: &mut String) -> Written {
         let index = self.index();
         match self.book.accept(index, link, frame) {
             Ok((reply, position)) => {
@@ -223,13 +204,7 @@ impl<O: Site> Unit<O> {
     }
 
     /// Handles a message with what was seen, where that is what it needs.
-    fn answered(
-        &mut self,
-        index: u64,
-        message: &[u8],
-        seen: Seen,
-        answer: &mut String,
-    ) -> Result<(), AllocError> {
+    fn answered(&mut self, index: u64, message: &[u8], seen: Seen, answer: &mut String) -> Written {
         let Ok(need) = self.book.need(message) else {
             return answer.push_str("no memory");
         };
@@ -248,7 +223,7 @@ impl<O: Site> Unit<O> {
     }
 
     /// Does what a message asks.
-    pub fn command(&mut self, message: &[u8], answer: &mut String) -> Result<(), AllocError> {
+    pub fn command(&mut self, message: &[u8], answer: &mut String) -> Written {
         let Ok(need) = self.book.need(message) else {
             return answer.push_str("no memory");
         };
@@ -264,7 +239,7 @@ impl<O: Site> Unit<O> {
     }
 
     /// Releases what was not used.
-    pub fn release(&mut self, answer: &mut String) -> Result<(), AllocError> {
+    pub fn release(&mut self, answer: &mut String) -> Written {
         if !are_words(self.next.as_slice(), self.book.rows()) {
             return answer.push_str("no words");
         }
@@ -275,7 +250,7 @@ impl<O: Site> Unit<O> {
     }
 
     /// Hands octets to the sink.
-    pub fn put(&mut self, octets: &[u8], answer: &mut String) -> Result<(), AllocError> {
+    pub fn put(&mut self, octets: &[u8], answer: &mut String) -> Written {
         match self.book.put(octets) {
             Ok(()) => answer.push_str("put"),
             Err(fault) => write_book_fault(&fault, answer),
@@ -283,7 +258,7 @@ impl<O: Site> Unit<O> {
     }
 
     /// What the book shows.
-    pub fn tell(&self, answer: &mut String) -> Result<(), AllocError> {
+    pub fn tell(&self, answer: &mut String) -> Written {
         let (used, slots) = (self.book.used(), self.book.plan().slots());
         let (entries, changes) = (self.book.count(), self.book.changes());
         write!(
