@@ -1,8 +1,9 @@
 // The check of a plan, and what it prints.
 use crate::ends::{sink_of, source_of};
+use case_lines::{Written, cut};
 use plan_text::{PlanEnd, put_plan};
 use sdls_outside::{MemSite, MemSource};
-use std::alloc::{AllocError, Global};
+use std::alloc::Global;
 use std::str;
 
 /// How many octets the source gives in a call, and the calls of the source and of the sink that fail, if any.
@@ -25,7 +26,7 @@ impl Faults {
 
     /// A call of the source and one of the sink: `CALL CALL`.
     pub fn of(line: &str) -> Faults {
-        let (source, sink) = line.split_once(' ').unwrap_or((line, ""));
+        let (source, sink) = cut(line);
         Faults {
             piece: 4_096,
             source: source.parse().ok(),
@@ -51,7 +52,7 @@ fn check_source(
     source: &mut MemSource,
     sink: &mut MemSite,
     answer: &mut String,
-) -> Result<(), AllocError> {
+) -> Written {
     let end = put_plan(alloc, source, sink);
     answer.push_str(str::from_utf8(sink.sunk()).unwrap_or("no text\n"))?;
     answer.push_str(end_name(end))?;
@@ -62,12 +63,7 @@ fn check_source(
 }
 
 /// Writes what is put for a text, and how the check of it ends.
-pub fn check(
-    alloc: Global,
-    text: &[u8],
-    faults: Faults,
-    answer: &mut String,
-) -> Result<(), AllocError> {
+pub fn check(alloc: Global, text: &[u8], faults: Faults, answer: &mut String) -> Written {
     let mut sink = sink_of(alloc, faults.sink)?;
     let text = Vec::from_slice(alloc, text)?;
     let mut source = source_of(alloc, text, faults.piece, faults.source)?;

@@ -1,4 +1,5 @@
 // Items of recorded input, as lines.
+use case_lines::decoded;
 use record_io::{Reader, Record, SegmentEnd};
 use sdls_base::NoMemory;
 use sdls_outside::SureSource;
@@ -9,17 +10,12 @@ use text_streams::{put_fence, put_record};
 /// The most segments that are read of a case.
 const MOST_SEGMENTS: u32 = 64;
 
-/// The items behind the beginning of a recorded input.
-fn with_beginning(alloc: Global, items: &[u8]) -> Result<Vec<u8>, AllocError> {
-    let mut octets = b"SDLSREC1".to_vec(alloc)?;
-    octets.extend_from_slice(items)?;
-    Ok(octets)
-}
-
 /// The recorded input of a case, whose octets are the items behind the beginning.
-fn input_of(alloc: Global, case: &str) -> anyhow::Result<SureSource> {
-    let items = hex::decode(alloc, case)?;
-    Ok(SureSource::new(with_beginning(alloc, items.as_slice())?))
+fn input_of(alloc: Global, case: &str) -> Result<SureSource, AllocError> {
+    let items = decoded(alloc, case)?;
+    let mut octets = b"SDLSREC1".to_vec(alloc)?;
+    octets.extend_from_slice(items.as_slice())?;
+    Ok(SureSource::new(octets))
 }
 
 /// Adds the lines of records.

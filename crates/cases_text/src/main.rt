@@ -24,7 +24,7 @@ mod states;
 mod streams;
 
 use answer_text::Form;
-use case_lines::{Steps, print_steps};
+use case_lines::{Steps, cut, print_steps};
 use std::alloc::Global;
 
 /// The text of a plan.
@@ -35,7 +35,7 @@ struct Table {
 
 impl Steps for Table {
     fn step(&mut self, alloc: Global, line: &str, answer: &mut String) -> anyhow::Result<()> {
-        let (word, case) = line.split_once(' ').unwrap_or((line, ""));
+        let (word, case) = cut(line);
         match word {
             "line" => Ok(lines::answer(alloc, case, answer)?),
             "items" => items::answer(alloc, case, answer),

@@ -1,5 +1,6 @@
 // The steps of the text of a plan.
 use crate::checking::{Faults, check};
+use case_lines::{Written, cut};
 use std::alloc::{AllocError, Global};
 
 /// Adds the octet of two digits, and what stands behind them.
@@ -29,7 +30,7 @@ fn push_whole_line(text: &mut Vec<u8>, line: &str) -> Result<(), AllocError> {
 
 /// Adds a text so many times: `N TEXT`.
 fn push_times(text: &mut Vec<u8>, line: &str) -> Result<(), AllocError> {
-    let (count, line) = line.split_once(' ').unwrap_or((line, ""));
+    let (count, line) = cut(line);
     let count: u32 = count.parse().unwrap_or(0);
     for _ in 0..count {
         push_line(text, line)?;
@@ -38,12 +39,7 @@ fn push_times(text: &mut Vec<u8>, line: &str) -> Result<(), AllocError> {
 }
 
 /// Writes what the check prints of the text with this line behind it.
-fn check_with(
-    alloc: Global,
-    text: &mut Vec<u8>,
-    line: &str,
-    answer: &mut String,
-) -> Result<(), AllocError> {
+fn check_with(alloc: Global, text: &mut Vec<u8>, line: &str, answer: &mut String) -> Written {
     let before = text.len();
     push_line(text, line)?;
     check(alloc, text.as_slice(), Faults::none(4_096), answer)?;
@@ -52,13 +48,8 @@ fn check_with(
 }
 
 /// Writes what a step on the text of a plan answers, and nothing if it adds to the text alone.
-pub fn answer(
-    alloc: Global,
-    text: &mut Vec<u8>,
-    step: &str,
-    answer: &mut String,
-) -> Result<(), AllocError> {
-    let (word, rest) = step.split_once(' ').unwrap_or((step, ""));
+pub fn answer(alloc: Global, text: &mut Vec<u8>, step: &str, answer: &mut String) -> Written {
+    let (word, rest) = cut(step);
     match word {
         "new" => {
             text.clear();

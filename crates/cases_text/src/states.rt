@@ -1,18 +1,20 @@
 // What `stat` prints, as JSON objects.
 use crate::answers::write_lines;
 use crate::ends::{sink_of, source_of};
+use case_lines::{Written, cut};
 use sdls_outside::{MemSite, MemSource};
 use std::alloc::{AllocError, Global};
 use text_streams::{StateEnd, put_state_objects};
 
-fn write_end(answer: &mut String, end: StateEnd) -> Result<(), AllocError> {
+/// The words for an end, and the line behind them.
+fn words_of(end: StateEnd) -> (&'static str, Option<u64>) {
     match end {
-        StateEnd::Done => answer.push_str("done"),
-        StateEnd::NoLine(line) => write!(answer, "no line {line}"),
-        StateEnd::LongLine(line) => write!(answer, "long line {line}"),
-        StateEnd::SourceFault => answer.push_str("source fault"),
-        StateEnd::OutputFault => answer.push_str("output fault"),
-        StateEnd::NoMemory => answer.push_str("no memory"),
+        StateEnd::Done => ("done", None),
+        StateEnd::NoLine(line) => ("no line", Some(line)),
+        StateEnd::LongLine(line) => ("long line", Some(line)),
+        StateEnd::SourceFault => ("source fault", None),
+        StateEnd::OutputFault => ("output fault", None),
+        StateEnd::NoMemory => ("no memory", None),
     }
 }
 
@@ -33,23 +35,20 @@ fn answer_call(
     source: &mut MemSource,
     sink: &mut MemSite,
     answer: &mut String,
-) -> Result<(), AllocError> {
+) -> Written {
     let end = put_state_objects(alloc, source, sink);
     let mut text = Vec::from_slice(alloc, sink.sunk())?;
     write_lines(answer, text.as_mut_slice())?;
-    answer.push_str(" ")?;
-    write_end(answer, end)?;
-    write!(answer, ", status {}", end.status())
-}
-
-/// The first word of a case, and what stands behind it.
-fn cut(case: &str) -> (&str, &str) {
-    case.split_once(' ').unwrap_or((case, ""))
+    let ((words, line), status) = (words_of(end), end.status());
+    match line {
+        Some(line) => write!(answer, " {words} {line}, status {status}"),
+        None => write!(answer, " {words}, status {status}"),
+    }
 }
 
 /// Writes what a case answers. Its words are how many octets the source gives at most, the calls of source and sink
 /// that fail or `-`, and the text, in which `|` stands for a line feed.
-pub fn answer(alloc: Global, case: &str, answer: &mut String) -> Result<(), AllocError> {
+pub fn answer(alloc: Global, case: &str, answer: &mut String) -> Written {
     let (piece, case) = cut(case);
     let (source, case) = cut(case);
     let (sink, text) = cut(case);

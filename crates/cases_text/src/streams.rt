@@ -1,6 +1,6 @@
 // Streams of texts, from a source to a sink.
 use crate::ends::{sink_of, source_of};
-use case_lines::{Digits, number, octets};
+use case_lines::{Digits, Written, number, octets};
 use sdls_outside::{MemSite, MemSource};
 use sha2::{Digest, Sha256};
 use std::alloc::{AllocError, Global};
@@ -48,7 +48,7 @@ fn answer_call(
     source: &mut MemSource,
     sink: &mut MemSite,
     answer: &mut String,
-) -> Result<(), AllocError> {
+) -> Written {
     write_end(answer, &put(alloc, call, source, sink))?;
     write_octets(answer, sink.sunk())
 }
