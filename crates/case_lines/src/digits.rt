@@ -54,11 +54,16 @@ pub fn decoded(alloc: Global, word: &str) -> Result<Vec<u8>, AllocError> {
     }
 }
 
-/// Some of these octets: `OFFSET LENGTH`. None where they do not reach so far.
-pub fn octets_at<'a>(octets: &'a [u8], line: &str) -> &'a [u8] {
+/// Some of these octets: `OFFSET LENGTH`, if they reach so far.
+pub fn part_at<'a>(octets: &'a [u8], line: &str) -> Option<&'a [u8]> {
     let from = length_at(line, 0);
     let to = from.saturating_add(length_at(line, 1));
-    octets.get(from..to).unwrap_or(&[])
+    octets.get(from..to)
+}
+
+/// The same, and none if they do not reach so far.
+pub fn octets_at<'a>(octets: &'a [u8], line: &str) -> &'a [u8] {
+    part_at(octets, line).unwrap_or(&[])
 }
 
 /// Writes octets over some of these from a place on, as far as these reach.
@@ -80,13 +85,6 @@ pub fn set_octets_at(alloc: Global, octets: &mut [u8], line: &str) -> Result<(),
 pub fn replace(octets: &mut Vec<u8>, others: &[u8]) -> Result<(), AllocError> {
     octets.clear();
     octets.extend_from_slice(others)
-}
-
-/// Some of these octets, in digits: `OFFSET LENGTH`. None where they do not reach so far.
-pub fn part_of(alloc: Global, octets: &[u8], line: &str) -> anyhow::Result<String> {
-    let from = usize::try_from(number_at(line, 0)).unwrap_or(0);
-    let to = from.saturating_add(usize::try_from(number_at(line, 1)).unwrap_or(0));
-    Ok(hex::encode(alloc, octets.get(from..to).unwrap_or(&[]))?)
 }
 
 /// Writes octets over some of these, as far as these reach: `OFFSET OCTETS`.
