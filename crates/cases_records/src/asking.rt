@@ -1,10 +1,8 @@
 //! Monitoring messages that are answered, and the steps of a log.
 use crate::noting::{note, refuse};
-use case_lines::Digits;
+use case_lines::{Digits, Page};
 use fsr_log::Log;
 use record_io::{Answer, RecordKind, ShortOctets, code};
-use sdls_base::NoMemory;
-use std::alloc::{AllocError, Global};
 
 /// The octets of a reply before its data.
 const HEADER: usize = 3;
@@ -13,15 +11,11 @@ const HEADER: usize = 3;
 const EVENT: usize = 18;
 
 /// Writes the answer to a message: `05` and the reply, or `06` and the offset.
-fn write_answer(
-    alloc: Global,
-    log: &Log,
-    message: &[u8],
-    answer: &mut String,
-) -> Result<(), NoMemory> {
-    match log.answer(alloc, message)? {
-        Ok(reply) => Ok(write!(answer, "05 {}", Digits(reply.as_slice()))?),
-        Err(offset) => Ok(write!(answer, "06 {offset}")?),
+fn write_answer(log: &Log, message: &[u8], page: &mut Page) {
+    match log.answer(page.alloc(), message) {
+        Ok(Ok(reply)) => write!(page, "05 {}", Digits(reply.as_slice())),
+        Ok(Err(offset)) => write!(page, "06 {offset}"),
+        Err(_) => page.spoil(),
     }
 }
 
@@ -32,43 +26,38 @@ fn note_reply(log: &mut Log, body: ShortOctets) {
 }
 
 /// Writes the answer to a message, and notes it.
-fn ask(alloc: Global, log: &mut Log, message: &[u8], answer: &mut String) -> Result<(), NoMemory> {
-    write_answer(alloc, log, message, answer)?;
-    if let Ok(reply) = log.answer(alloc, message)? {
-        note_reply(log, reply);
+fn ask(log: &mut Log, message: &[u8], page: &mut Page) {
+    write_answer(log, message, page);
+    match log.answer(page.alloc(), message) {
+        Ok(Ok(reply)) => note_reply(log, reply),
+        Ok(Err(_)) => {}
+        Err(_) => page.spoil(),
     }
-    Ok(())
 }
 
 /// Writes how many octets a reply has, and those behind its header, in lines.
-fn write_events(answer: &mut String, reply: &[u8]) -> Result<(), AllocError> {
-    write!(answer, "{}", reply.len())?;
+fn write_events(reply: &[u8], page: &mut Page) {
+    write!(page, "{}", reply.len());
     for event in reply.get(HEADER..).unwrap_or(&[]).chunks(EVENT) {
-        write!(answer, "\n{}", Digits(event))?;
+        write!(page, "\n{}", Digits(event));
     }
-    Ok(())
 }
 
 /// Writes the octets of the reply to a message.
-fn dump(alloc: Global, log: &Log, message: &[u8], answer: &mut String) -> Result<(), NoMemory> {
-    match log.answer(alloc, message)? {
-        Ok(reply) => Ok(write_events(answer, reply.as_slice())?),
-        Err(_) => Ok(answer.push_str("no reply")?),
+fn dump(log: &Log, message: &[u8], page: &mut Page) {
+    match log.answer(page.alloc(), message) {
+        Ok(Ok(reply)) => write_events(reply.as_slice(), page),
+        Ok(Err(_)) => page.push_str("no reply"),
+        Err(_) => page.spoil(),
     }
 }
 
 /// Writes the answers to all fronts of the octets, the shortest first.
-fn answer_fronts(
-    alloc: Global,
-    log: &Log,
-    octets: &[u8],
-    answer: &mut String,
-) -> Result<(), NoMemory> {
+fn answer_fronts(log: &Log, octets: &[u8], page: &mut Page) {
     for len in 0..octets.len() {
-        answer.push_str(if len > 0 { ", " } else { "" })?;
-        write_answer(alloc, log, &octets[..len], answer)?;
+        page.push_str(if len > 0 { ", " } else { "" });
+        write_answer(log, &octets[..len], page);
     }
-    Ok(())
 }
 
 /// Turns an octet in all its bits.
@@ -79,49 +68,44 @@ fn turn(octets: &mut [u8], at: usize) {
 }
 
 /// Writes the answers to the octets with one of them turned, from the first to the last.
-fn answer_turned(
-    alloc: Global,
-    log: &Log,
-    octets: &mut [u8],
-    answer: &mut String,
-) -> Result<(), NoMemory> {
+fn answer_turned(log: &Log, octets: &mut [u8], page: &mut Page) {
     for at in 0..octets.len() {
-        answer.push_str(if at > 0 { ", " } else { "" })?;
+        page.push_str(if at > 0 { ", " } else { "" });
         turn(octets, at);
-        write_answer(alloc, log, octets, answer)?;
+        write_answer(log, octets, page);
         turn(octets, at);
     }
-    Ok(())
 }
 
 /// Writes what a step on octets answers.
-fn answer_octets(
-    alloc: Global,
-    log: &mut Log,
-    word: &str,
-    octets: &mut [u8],
-    answer: &mut String,
-) -> Result<(), NoMemory> {
+fn answer_octets(log: &mut Log, word: &str, octets: &mut [u8], page: &mut Page) {
     match word {
-        "ask" => ask(alloc, log, octets, answer),
-        "dump" => dump(alloc, log, octets, answer),
-        "cuts" => answer_fronts(alloc, log, octets, answer),
-        "turned" => answer_turned(alloc, log, octets, answer),
-        _ => Ok(answer.push_str("no step")?),
+        "ask" => ask(log, octets, page),
+        "dump" => dump(log, octets, page),
+        "cuts" => answer_fronts(log, octets, page),
+        "turned" => answer_turned(log, octets, page),
+        _ => page.push_str("no step"),
+    }
+}
+
+/// Begins a log.
+fn begin(log: &mut Log, page: &mut Page) {
+    match Log::new(page.alloc()) {
+        Ok(new) => *log = new,
+        Err(_) => page.spoil(),
     }
 }
 
 /// Writes what a step on a log answers, and nothing if it notes alone.
-pub fn answer(alloc: Global, log: &mut Log, line: &str, answer: &mut String) -> anyhow::Result<()> {
+pub fn answer(log: &mut Log, line: &str, page: &mut Page) {
     let (word, rest) = line.split_once(' ').unwrap_or((line, ""));
     match word {
-        "new" => *log = Log::new(alloc)?,
-        "note" => note(alloc, log, rest),
-        "refuse" => refuse(alloc, log, rest),
-        _ => match hex::decode(alloc, rest) {
-            Ok(mut octets) => answer_octets(alloc, log, word, octets.as_mut_slice(), answer)?,
-            Err(_) => answer.push_str("no step")?,
+        "new" => begin(log, page),
+        "note" => note(page.alloc(), log, rest),
+        "refuse" => refuse(page.alloc(), log, rest),
+        _ => match hex::decode(page.alloc(), rest) {
+            Ok(mut octets) => answer_octets(log, word, octets.as_mut_slice(), page),
+            Err(_) => page.push_str("no step"),
         },
     }
-    Ok(())
 }

@@ -1,11 +1,9 @@
 //! Recorded inputs, and how their sources give them.
-use crate::differences::Differences;
 use crate::sources::source_of;
-use case_lines::{Digits, number, octets};
+use crate::writing::write_next;
+use case_lines::{Differences, Digits, Page, number};
 use record_io::{Answer, Reader, Record, RecordKind, SegmentEnd, ShortOctets, answer_header, code};
-use sdls_base::NoMemory;
 use sdls_outside::MemSource;
-use std::alloc::{AllocError, Global};
 
 /// The most segments that are read of a case.
 const MOST_SEGMENTS: u32 = 64;
@@ -29,134 +27,108 @@ fn kind_name(kind: RecordKind) -> &'static str {
 }
 
 /// Writes a record: number, kind, lane, link and length.
-fn write_record(answer: &mut String, record: &Record) -> Result<(), AllocError> {
+fn write_record(record: &Record, page: &mut Page) {
     let (index, kind, lane) = (record.index, kind_name(record.kind), record.lane);
     let (link, len) = (record.link, record.octets.as_slice().len());
-    write!(answer, " [{index} {kind} {lane} {link} {len}]")
+    write!(page, " [{index} {kind} {lane} {link} {len}]");
 }
 
-fn write_end(answer: &mut String, end: &SegmentEnd) -> Result<(), AllocError> {
+fn write_end(end: &SegmentEnd, page: &mut Page) {
     match end {
-        SegmentEnd::More => answer.push_str(" more, "),
+        SegmentEnd::More => page.push_str(" more, "),
         SegmentEnd::Monitor(record) => {
-            answer.push_str(" then")?;
-            write_record(answer, record)?;
-            answer.push_str(", ")
+            page.push_str(" then");
+            write_record(record, page);
+            page.push_str(", ");
         }
-        SegmentEnd::End => answer.push_str(" end"),
-        SegmentEnd::Malformed(offset) => write!(answer, " malformed {offset}"),
-        SegmentEnd::SourceFault(faults) => write!(answer, " fault {faults}"),
+        SegmentEnd::End => page.push_str(" end"),
+        SegmentEnd::Malformed(offset) => write!(page, " malformed {offset}"),
+        SegmentEnd::SourceFault(faults) => write!(page, " fault {faults}"),
     }
 }
 
 /// Writes a segment: how many records, the first and the last, and how it ends.
-fn write_segment(
-    answer: &mut String,
-    records: &[Record],
-    end: &SegmentEnd,
-) -> Result<(), AllocError> {
-    write!(answer, "{}", records.len())?;
+fn write_segment(records: &[Record], end: &SegmentEnd, page: &mut Page) {
+    write!(page, "{}", records.len());
     if let [first, ..] = records {
-        write_record(answer, first)?;
+        write_record(first, page);
     }
     if let [_, .., last] = records {
-        write_record(answer, last)?;
+        write_record(last, page);
     }
-    write_end(answer, end)
+    write_end(end, page);
 }
 
 /// Reads the next segment and writes it. Returns whether another may follow.
-fn answer_segment(
-    alloc: Global,
-    reader: &mut Reader,
-    source: &mut MemSource,
-    answer: &mut String,
-) -> Result<bool, NoMemory> {
-    let (records, end) = reader.next_segment(alloc, source)?;
-    let written = write_segment(answer, records.as_slice(), &end);
+fn answer_segment(reader: &mut Reader, source: &mut MemSource, page: &mut Page) -> bool {
+    let Ok((records, end)) = reader.next_segment(page.alloc(), source) else {
+        page.spoil();
+        return false;
+    };
+    write_segment(records.as_slice(), &end, page);
     reader.take_back(records);
-    written?;
-    Ok(matches!(end, SegmentEnd::More | SegmentEnd::Monitor(_)))
+    matches!(end, SegmentEnd::More | SegmentEnd::Monitor(_))
 }
 
 /// Writes what the reader answers to what a source has, segment by segment.
-fn answer_segments(
-    alloc: Global,
-    reader: &mut Reader,
-    source: &mut MemSource,
-    answer: &mut String,
-) -> Result<(), NoMemory> {
+fn answer_segments(reader: &mut Reader, source: &mut MemSource, page: &mut Page) {
     for _ in 0..MOST_SEGMENTS {
-        if !answer_segment(alloc, reader, source, answer)? {
+        if !answer_segment(reader, source, page) {
             break;
         }
     }
-    Ok(())
 }
 
 /// Writes what the reader answers to the first octets of a case.
-fn answer_front(
-    alloc: Global,
-    case: &Case<'_>,
-    len: usize,
-    answer: &mut String,
-) -> Result<(), NoMemory> {
+fn answer_front(case: &Case<'_>, len: usize, page: &mut Page) {
     let front = case.octets.get(..len).unwrap_or(case.octets);
-    let mut source = source_of(alloc, front, case.piece, case.failing)?;
-    answer_segments(alloc, &mut Reader::new(alloc), &mut source, answer)
+    let mut source = source_of(front, case.piece, case.failing, page);
+    answer_segments(&mut Reader::new(page.alloc()), &mut source, page);
 }
 
 /// Writes the answers to the cuts of a case, each in a line.
-fn answer_cuts(
-    alloc: Global,
-    case: &Case<'_>,
-    differences: &mut Differences,
-    answer: &mut String,
-) -> Result<(), NoMemory> {
+fn answer_cuts(case: &Case<'_>, differences: &mut Differences, page: &mut Page) {
     differences.clear();
     for len in 0..=case.octets.len() {
-        answer_front(alloc, case, len, differences.next())?;
-        differences.write_next(answer, len as u64)?;
+        answer_front(case, len, differences.next());
+        write_next(differences, len as u64, page);
     }
-    Ok(())
 }
 
 /// Writes the header of an answer with a value in each place, if its body has three octets.
-fn answer_with_header(alloc: Global, answer: &mut String) -> Result<(), AllocError> {
+fn answer_with_header(page: &mut Page) {
+    let Ok(body) = b"\x00\x2a\x14".to_vec(page.alloc()) else {
+        page.spoil();
+        return;
+    };
     let header = answer_header(&Answer {
         code: code::NUMBER,
         detail: 5,
         key: 0x8001,
         position: 258,
         number: 0xE93D_7E11,
-        body: ShortOctets::new(b"\x00\x2a\x14".to_vec(alloc)?),
+        body: ShortOctets::new(body),
     });
-    write!(answer, "{}", Digits(header.as_slice()))
+    page.push_digits(header.as_slice());
 }
 
 /// Writes what a case answers: `PIECE CALL OCTETS`, the same behind `cuts`, or `header`.
-pub fn answer(
-    alloc: Global,
-    differences: &mut Differences,
-    line: &str,
-    answer: &mut String,
-) -> anyhow::Result<()> {
+pub fn answer(differences: &mut Differences, line: &str, page: &mut Page) {
     if line == "header" {
-        return Ok(answer_with_header(alloc, answer)?);
+        return answer_with_header(page);
     }
     let cuts = line.strip_prefix("cuts ");
     let mut words = cuts.unwrap_or(line).split_whitespace();
     let piece = number(&mut words).unwrap_or(1) as usize;
     let failing = number(&mut words);
-    let octets = octets(alloc, &mut words)?;
+    let octets = page.octets(&mut words);
     let case = Case {
         piece,
         failing,
         octets: octets.as_slice(),
     };
-    let answered = match cuts {
-        Some(_) => answer_cuts(alloc, &case, differences, answer),
-        None => answer_front(alloc, &case, octets.len(), answer),
-    };
-    Ok(answered?)
+    match cuts {
+        Some(_) => answer_cuts(&case, differences, page),
+        None => answer_front(&case, octets.len(), page),
+    }
 }

@@ -32,17 +32,15 @@
 
 mod asking;
 mod auditing;
-mod differences;
 mod inputs;
 mod linking;
 mod noting;
 mod recordings;
 mod sources;
+mod writing;
 
-use case_lines::{Steps, print_steps};
-use differences::Differences;
+use case_lines::{Answers, Differences, Page, print_answers};
 use fsr_log::Log;
-use std::alloc::Global;
 
 /// A log, a recording, and what was answered before.
 #[derive(Drop)]
@@ -52,21 +50,17 @@ struct Table {
     differences: Differences,
 }
 
-impl Steps for Table {
-    fn step(&mut self, alloc: Global, line: &str, answer: &mut String) -> anyhow::Result<()> {
+impl Answers for Table {
+    fn answer(&mut self, line: &str, page: &mut Page) {
         let (subject, step) = line.split_once(' ').unwrap_or((line, ""));
-        let Table {
-            log,
-            recording,
-            differences,
-        } = self;
+        let differences = &mut self.differences;
         match subject {
-            "input" => inputs::answer(alloc, differences, step, answer),
-            "log" => asking::answer(alloc, log, step, answer),
-            "recording" => recordings::answer(alloc, recording, differences, step, answer),
-            "link" => linking::answer_link(alloc, step, answer),
-            "fates" => Ok(linking::answer_fates(step, answer)?),
-            _ => Ok(answer.push_str("no step")?),
+            "input" => inputs::answer(differences, step, page),
+            "log" => asking::answer(&mut self.log, step, page),
+            "recording" => recordings::answer(&mut self.recording, differences, step, page),
+            "link" => linking::answer_link(step, page),
+            "fates" => linking::answer_fates(step, page),
+            _ => page.push_str("no step"),
         }
     }
 }
@@ -77,5 +71,5 @@ fn main(rt: HostRuntime) -> anyhow::Result<()> {
         recording: Vec::new(rt.alloc()),
         differences: Differences::new(rt.alloc()),
     };
-    print_steps(&rt, &mut table)
+    print_answers(&rt, &mut table)
 }
