@@ -1,9 +1,8 @@
 // What a crash leaves of writes and syncs.
 use crate::lives::{crashed, syncs};
 use crate::outside::{octets, text};
+use case_lines::{Page, Words};
 use sdls_outside::{Crash, MemSite, Site};
-use std::alloc::{AllocError, Global};
-use std::str::SplitWhitespace;
 
 /// The crash of a word: `kept`, `lost`, or filled with this octet.
 pub fn crash_of(word: &str, filling: u8) -> Crash {
@@ -28,7 +27,7 @@ fn does(site: &mut MemSite, step: &str) -> bool {
 }
 
 /// Does the steps, up to one that is not Ok: that one.
-fn first_failed<'a>(site: &mut MemSite, steps: &mut SplitWhitespace<'a>) -> Option<&'a str> {
+fn first_failed<'a>(site: &mut MemSite, steps: &mut Words<'a>) -> Option<&'a str> {
     for step in steps {
         if !does(site, step) {
             return Some(step);
@@ -38,17 +37,13 @@ fn first_failed<'a>(site: &mut MemSite, steps: &mut SplitWhitespace<'a>) -> Opti
 }
 
 /// Writes the image after the steps and the crash.
-pub fn write_left(
-    alloc: Global,
-    words: &mut SplitWhitespace<'_>,
-    answer: &mut String,
-) -> Result<(), AllocError> {
+pub fn write_left(words: &mut Words<'_>, page: &mut Page) {
     let kind = words.next().unwrap_or("");
     let how = crash_of(kind, kind.as_bytes().first().copied().unwrap_or(0));
-    let image = Vec::from_slice(alloc, octets(words.next()))?;
-    let mut site = MemSite::new(alloc, image, Vec::new(alloc), None);
+    let image = page.copy(octets(words.next()));
+    let mut site = MemSite::new(page.alloc(), image, Vec::new(page.alloc()), None);
     match first_failed(&mut site, words) {
-        Some(step) => write!(answer, "{step} failed"),
-        None => answer.push_str(text(crashed(site, how).image())),
+        Some(step) => write!(page, "{step} failed"),
+        None => page.push_str(text(crashed(site, how).image())),
     }
 }

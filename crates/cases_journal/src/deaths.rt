@@ -4,11 +4,9 @@ ghost use Rattle.std.specs.Prelude.{◌≡◌, length};
 use crate::crashes::crash_of;
 use crate::images::{at_rest, octet_of, site_of, take_image, write_fault, write_held};
 use crate::steps::{content_of, does};
-use case_lines::word_at;
+use case_lines::{Differences, Page, word_at};
 use sdls_base::CONTENT_LENGTH_TWO;
 use sdls_outside::{Crash, MemSite};
-use std::alloc::{AllocError, Global};
-use std::mem;
 
 /// More calls than a step makes.
 const MOST_CALLS: u64 = 256;
@@ -20,118 +18,71 @@ fn kind_of(line: &str) -> Crash {
 }
 
 /// Writes what the site's image holds, once it is opened and at rest.
-fn write_at_rest(alloc: Global, site: &mut MemSite, answer: &mut String) -> Result<(), AllocError> {
+fn write_at_rest(site: &mut MemSite, page: &mut Page) {
     match at_rest(site) {
-        Ok(journal) => write_held(alloc, site, &journal, answer),
-        Err(fault) => write_fault(fault, answer),
+        Ok(journal) => write_held(site, &journal, page),
+        Err(fault) => write_fault(fault, page),
     }
-}
-
-/// Does the step on a site, and takes the image that a crash then leaves.
-fn take_left(
-    image: &mut Vec<u8>,
-    mut site: MemSite,
-    step: &str,
-    content: &[u8],
-) -> Result<(), AllocError>
-    requires { length content.now ≡ CONTENT_LENGTH_TWO }
-{
-    let _ended = does(&mut site, step, content);
-    take_image(image, site.crashed(kind_of(step)).image())
 }
 
 /// Takes the image that a death of the step leaves: `CALL STEP OCTET KIND`.
-pub fn leave(alloc: Global, image: &mut Vec<u8>, line: &str) -> Result<(), AllocError> {
+pub fn leave(image: &mut Vec<u8>, line: &str, page: &mut Page) {
     let (call, step) = line.split_once(' ').unwrap_or((line, ""));
-    let content = content_of(alloc, step)?;
-    let site = site_of(alloc, image, call.parse().ok())?;
-    take_left(image, site, step, &content)
+    let Ok(content) = content_of(page.alloc(), step) else {
+        return page.spoil();
+    };
+    let mut site = site_of(image, call.parse().ok(), page);
+    let _ended = does(&mut site, step, &content);
+    take_image(image, site.crashed(kind_of(step)).image(), page);
 }
 
-/// What a death left, how often that stands so in a row, and what the next one left.
-#[derive(Drop)]
-struct Row {
-    text: String,
-    count: u64,
-    next: String,
-}
-
-impl Row {
-    fn new(alloc: Global) -> Row {
-        Row {
-            text: String::new(alloc),
-            count: 0,
-            next: String::new(alloc),
-        }
-    }
-
-    /// Writes the row, if there is one.
-    fn write(&self, answer: &mut String) -> Result<(), AllocError> {
-        if self.count == 0 {
-            return Ok(());
-        }
-        write!(answer, "; {} {}", self.count, self.text.as_str())
-    }
-
-    /// Counts the next one. Writes the row before, if this is another.
-    fn count_next(&mut self, answer: &mut String) -> Result<(), AllocError> {
-        if self.next.as_str() != self.text.as_str() {
-            self.write(answer)?;
-            self.count = 0;
-            mem::swap(&mut self.text, &mut self.next);
-        }
-        self.count = self.count.saturating_add(1);
-        self.next.clear();
-        Ok(())
-    }
-}
-
-/// Does the step on a site that is dead from a call on, and writes what the image holds after it. Says whether the step
-/// came to its end.
-fn write_death(
-    alloc: Global,
-    mut site: MemSite,
-    line: &str,
-    content: &[u8],
-    answer: &mut String,
-) -> Result<bool, AllocError>
+/// Does the step on a site that is dead from a call on, and writes what the image holds after it. Returns whether the
+/// step came to its end.
+fn write_death(mut site: MemSite, line: &str, content: &[u8], page: &mut Page) -> bool
     requires { length content.now ≡ CONTENT_LENGTH_TWO }
 {
     let is_whole = does(&mut site, line, content).is_ok();
-    write_at_rest(alloc, &mut site.crashed(kind_of(line)), answer)?;
-    Ok(is_whole)
+    write_at_rest(&mut site.crashed(kind_of(line)), page);
+    is_whole
 }
 
-/// Writes the rows of what the deaths of the step leave.
-fn write_rows(
-    alloc: Global,
-    image: &[u8],
-    line: &str,
-    content: &[u8],
-    row: &mut Row,
-    answer: &mut String,
-) -> Result<(), AllocError>
+/// Writes what deaths in a row left, and how many these are, if there is one.
+fn write_row(count: u64, left: &Differences, page: &mut Page) {
+    if count > 0 {
+        write!(page, "; {count} ");
+        left.write_last(page);
+    }
+}
+
+/// Writes what the deaths of the step leave, and how often that stands so in a row.
+fn write_rows(image: &[u8], line: &str, content: &[u8], left: &mut Differences, page: &mut Page)
     requires { length content.now ≡ CONTENT_LENGTH_TWO }
 {
+    let mut count = 0u64;
     for dead in 0..MOST_CALLS {
-        let site = site_of(alloc, image, Some(dead))?;
-        let is_whole = write_death(alloc, site, line, content, &mut row.next)?;
-        row.count_next(answer)?;
+        let site = site_of(image, Some(dead), page);
+        let is_whole = write_death(site, line, content, left.next());
+        if left.is_other() {
+            write_row(count, left, page);
+            count = 0;
+        }
+        left.take();
+        count = count.saturating_add(1);
         if is_whole {
-            return row.write(answer);
+            return write_row(count, left, page);
         }
     }
-    answer.push_str("; no end")
+    page.push_str("; no end");
 }
 
 /// Writes what the death of the step at each of its calls leaves: `STEP OCTET KIND`.
-pub fn write_each(
-    alloc: Global,
-    image: &[u8],
-    line: &str,
-    answer: &mut String,
-) -> Result<(), AllocError> {
-    answer.push_str(line)?;
-    let content = content_of(alloc, line)?;
-    write_rows(alloc, image, line, &content, &mut Row::new(alloc), answer)
+pub fn write_each(image: &[u8], line: &str, page: &mut Page) {
+    page.push_str(line);
+    match content_of(page.alloc(), line) {
+        Ok(content) => {
+            let mut left = Differences::new(page.alloc());
+            write_rows(image, line, &content, &mut left, page);
+        }
+        Err(_) => page.spoil(),
+    }
 }

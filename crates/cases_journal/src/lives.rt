@@ -1,8 +1,7 @@
 // Five calls on a site of which some fail.
 use crate::outside::text;
+use case_lines::{Page, Words, number};
 use sdls_outside::{Crash, MemSite, Site};
-use std::alloc::{AllocError, Global};
-use std::str::SplitWhitespace;
 
 // Each call has a function of its own, without a clause: what several contracts say together takes long to prove.
 fn begins(site: &mut MemSite) -> bool {
@@ -32,7 +31,7 @@ pub fn crashed(site: MemSite, how: Crash) -> MemSite {
 }
 
 /// Makes the five calls, and writes of each whether it is Ok.
-fn write_calls(site: &mut MemSite, answer: &mut String) -> Result<(), AllocError> {
+fn write_calls(site: &mut MemSite, page: &mut Page) {
     let calls = [
         begins(site),
         writes(site),
@@ -41,37 +40,32 @@ fn write_calls(site: &mut MemSite, answer: &mut String) -> Result<(), AllocError
         reads(site),
     ];
     for is_done in calls {
-        answer.push_str(if is_done { "o" } else { "x" })?;
+        page.push_str(if is_done { "o" } else { "x" });
     }
-    Ok(())
 }
 
 /// Writes what a site holds.
-fn write_held(site: &MemSite, answer: &mut String) -> Result<(), AllocError> {
+fn write_held(site: &MemSite, page: &mut Page) {
     let (image, sunk, faults) = (text(site.image()), text(site.sunk()), site.faults());
-    write!(answer, " image {image} sunk {sunk} faults {faults}")
+    write!(page, " image {image} sunk {sunk} faults {faults}");
+}
+
+/// Makes the calls on a site of which one fails, or that is dead from one on.
+fn site_called(failing: Option<u64>, dead_from: Option<u64>, page: &mut Page) -> MemSite {
+    let (image, calls) = (page.copy(b"ab"), page.list_of(failing));
+    let mut site = MemSite::new(page.alloc(), image, calls, dead_from);
+    write_calls(&mut site, page);
+    site
 }
 
 /// Makes the calls on a site of which one fails, and writes what it then holds.
-pub fn write_failing(
-    alloc: Global,
-    words: &mut SplitWhitespace<'_>,
-    answer: &mut String,
-) -> Result<(), AllocError> {
-    let call = case_lines::number(words).unwrap_or(0);
-    let mut site = MemSite::new(alloc, b"ab".to_vec(alloc)?, vec![in alloc; call]?, None);
-    write_calls(&mut site, answer)?;
-    write_held(&site, answer)
+pub fn write_failing(words: &mut Words<'_>, page: &mut Page) {
+    let site = site_called(number(words), None, page);
+    write_held(&site, page);
 }
 
 /// Makes the calls on a site that is dead from one of them on, and writes what it holds after a crash.
-pub fn write_dead(
-    alloc: Global,
-    words: &mut SplitWhitespace<'_>,
-    answer: &mut String,
-) -> Result<(), AllocError> {
-    let from = case_lines::number(words).unwrap_or(0);
-    let mut site = MemSite::new(alloc, b"ab".to_vec(alloc)?, Vec::new(alloc), Some(from));
-    write_calls(&mut site, answer)?;
-    write_held(&crashed(site, Crash::Lost), answer)
+pub fn write_dead(words: &mut Words<'_>, page: &mut Page) {
+    let site = site_called(None, number(words), page);
+    write_held(&crashed(site, Crash::Lost), page);
 }

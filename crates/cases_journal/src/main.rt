@@ -33,10 +33,9 @@ mod outside;
 mod steps;
 mod takes;
 
-use case_lines::{Steps, part_of, print_step, set_part_of};
+use case_lines::{Answers, Page, part_at, print_answer, set_part_of};
 use images::take_image;
 use sdls_base::Version;
-use std::alloc::{AllocError, Global};
 
 /// An image, and the one that was kept.
 #[derive(Drop)]
@@ -55,51 +54,48 @@ impl Table {
         }
     }
 
+    /// Writes octets of a line over those of the image.
+    fn set(&mut self, line: &str, page: &mut Page) {
+        page.check(set_part_of(self.rt.alloc(), self.image.as_mut_slice(), line));
+    }
+
     /// Does a step on the images in memory, and writes what it answers.
-    fn step_on_images(
-        &mut self,
-        alloc: Global,
-        (step, rest): (&str, &str),
-        answer: &mut String,
-    ) -> Result<(), AllocError> {
+    fn step_on_images(&mut self, step: &str, rest: &str, page: &mut Page) {
         match step {
-            "left" => deaths::leave(alloc, &mut self.image, rest),
-            "keep" => take_image(&mut self.kept, &self.image),
-            "back" => take_image(&mut self.image, &self.kept),
-            "open" => images::write_opened(alloc, &self.image, answer),
-            "zeros" => answer.push_str(images::zeros(&self.image, rest)),
-            "dead" => deaths::write_each(alloc, &self.image, rest, answer),
-            _ => answer.push_str("no step"),
+            "left" => deaths::leave(&mut self.image, rest, page),
+            "keep" => take_image(&mut self.kept, &self.image, page),
+            "back" => take_image(&mut self.image, &self.kept, page),
+            "open" => images::write_opened(&self.image, page),
+            "zeros" => page.push_str(images::zeros(&self.image, rest)),
+            "dead" => deaths::write_each(&self.image, rest, page),
+            _ => page.push_str("no step"),
         }
     }
 }
 
-impl Steps for Table {
-    fn step(&mut self, alloc: Global, line: &str, answer: &mut String) -> anyhow::Result<()> {
+impl Answers for Table {
+    fn answer(&mut self, line: &str, page: &mut Page) {
         let (step, rest) = line.split_once(' ').unwrap_or((line, ""));
         match step {
-            "create" => images::create_image(alloc, &mut self.image, Version::One, rest),
-            "create_two" => images::create_image(alloc, &mut self.image, Version::Two, rest),
-            "set" => set_part_of(alloc, self.image.as_mut_slice(), rest),
-            "cut" => {
-                self.image.truncate(rest.parse().unwrap_or(0));
-                Ok(())
-            }
-            "at" => Ok(answer.push_str(part_of(alloc, &self.image, rest)?.as_str())?),
-            "outside" => outside::write_case(self.rt, rest, answer),
+            "create" => images::create_image(&mut self.image, Version::One, rest, page),
+            "create_two" => images::create_image(&mut self.image, Version::Two, rest, page),
+            "set" => self.set(rest, page),
+            "cut" => self.image.truncate(rest.parse().unwrap_or(0)),
+            "at" => page.push_digits(part_at(&self.image, rest).unwrap_or(&[])),
+            "outside" => outside::write_case(self.rt, rest, page),
             "append" | "turn" | "settle" | "migrate" => {
-                Ok(steps::write_step(alloc, &mut self.image, line, answer)?)
+                steps::write_step(&mut self.image, line, page)
             }
-            _ => Ok(self.step_on_images(alloc, (step, rest), answer)?),
+            _ => self.step_on_images(step, rest, page),
         }
     }
 }
 
 /// Prints what each line of a text answers.
-fn print_lines(rt: HostRuntime, text: &str, answer: &mut String) -> anyhow::Result<()> {
-    let mut table = Table::new(rt);
+fn print_lines(rt: HostRuntime, text: &str) -> anyhow::Result<()> {
+    let (mut table, mut page) = (Table::new(rt), Page::new(rt.alloc()));
     for line in text.lines() {
-        print_step(&rt, &mut table, line, answer)?;
+        print_answer(&rt, &mut table, line, &mut page)?;
     }
     Ok(())
 }
@@ -107,5 +103,5 @@ fn print_lines(rt: HostRuntime, text: &str, answer: &mut String) -> anyhow::Resu
 fn main(rt: HostRuntime) -> anyhow::Result<()> {
     let mut octets = Vec::new(rt.alloc());
     input::read_all(rt, &mut octets)?;
-    print_lines(rt, outside::text(&octets), &mut String::new(rt.alloc()))
+    print_lines(rt, outside::text(&octets))
 }

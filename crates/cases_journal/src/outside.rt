@@ -1,8 +1,7 @@
 // Cases of the disk, the sink and the input.
 use crate::{crashes, file, lives, takes};
-use std::alloc::{AllocError, Global};
+use case_lines::Page;
 use std::str;
-use std::str::SplitWhitespace;
 
 /// The octets of a word, none of `-`.
 pub fn octets(word: Option<&str>) -> &[u8] {
@@ -22,27 +21,24 @@ pub fn text(octets: &[u8]) -> &str {
 }
 
 /// Writes what a case in memory answers.
-fn write_in_memory(
-    alloc: Global,
-    words: &mut SplitWhitespace<'_>,
-    answer: &mut String,
-) -> Result<(), AllocError> {
+fn write_in_memory(case: &str, page: &mut Page) {
+    let words = &mut case.split_whitespace();
     match words.next() {
-        Some("crash") => crashes::write_left(alloc, words, answer),
-        Some("failing") => lives::write_failing(alloc, words, answer),
-        Some("dead") => lives::write_dead(alloc, words, answer),
-        Some("source") => takes::write_in_pieces(alloc, words, answer),
-        Some("sure") => takes::write_sure(alloc, words, answer),
-        _ => answer.push_str("no case"),
+        Some("crash") => crashes::write_left(words, page),
+        Some("failing") => lives::write_failing(words, page),
+        Some("dead") => lives::write_dead(words, page),
+        Some("source") => takes::write_in_pieces(words, page),
+        Some("sure") => takes::write_sure(words, page),
+        _ => page.push_str("no case"),
     }
 }
 
 /// Writes a case and what it answers.
-pub fn write_case(rt: HostRuntime, case: &str, answer: &mut String) -> anyhow::Result<()> {
-    write!(answer, "{case}: ")?;
+pub fn write_case(rt: HostRuntime, case: &str, page: &mut Page) {
+    write!(page, "{case}: ");
     match case {
-        "file" => Ok(file::write_made(rt, answer)?),
-        "empty" => Ok(file::write_filled(rt, answer)?),
-        _ => Ok(write_in_memory(rt.alloc(), &mut case.split_whitespace(), answer)?),
+        "file" => file::write_made(rt, page),
+        "empty" => file::write_filled(rt, page),
+        _ => write_in_memory(case, page),
     }
 }

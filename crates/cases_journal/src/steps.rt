@@ -2,7 +2,7 @@
 ghost use Rattle.std.specs.Prelude.{◌≡◌, IfOk, length};
 
 use crate::images::{at_rest, octet_of, site_of, take_image, write_fault};
-use case_lines::word_at;
+use case_lines::{Page, word_at};
 use disk_journal::{BODY_LENGTH, JournalFault};
 use sdls_base::{CONTENT_LENGTH_TWO, Version};
 use sdls_outside::MemSite;
@@ -59,18 +59,15 @@ pub fn does(site: &mut MemSite, line: &str, content: &[u8]) -> Result<(), Journa
 }
 
 /// Does a step on the image, and writes how it ended.
-pub fn write_step(
-    alloc: Global,
-    image: &mut Vec<u8>,
-    line: &str,
-    answer: &mut String,
-) -> Result<(), AllocError> {
-    let content = content_of(alloc, line)?;
-    let mut site = site_of(alloc, image, None)?;
+pub fn write_step(image: &mut Vec<u8>, line: &str, page: &mut Page) {
+    let Ok(content) = content_of(page.alloc(), line) else {
+        return page.spoil();
+    };
+    let mut site = site_of(image, None, page);
     let ended = does(&mut site, line, &content);
-    take_image(image, site.image())?;
+    take_image(image, site.image(), page);
     match ended {
-        Ok(()) => answer.push_str("ok"),
-        Err(fault) => write_fault(fault, answer),
+        Ok(()) => page.push_str("ok"),
+        Err(fault) => write_fault(fault, page),
     }
 }

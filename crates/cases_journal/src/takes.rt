@@ -1,59 +1,40 @@
 // Octets taken from a source.
 use crate::outside::{octets, text};
+use case_lines::{Page, Words, number};
 use sdls_outside::{Failed, MemSource, Source, SureSource};
-use std::alloc::{AllocError, Global};
-use std::str::SplitWhitespace;
 
 /// Writes what a take of at most so many octets gives, and what then stands in the room.
-fn write_take<S: Source>(
-    source: &mut S,
-    room: &mut [u8; 4],
-    most: &str,
-    answer: &mut String,
-) -> Result<(), AllocError> {
+fn write_take<S: Source>(source: &mut S, room: &mut [u8; 4], most: &str, page: &mut Page) {
     let most = most.parse().unwrap_or(0usize).min(4);
     match source.take(&mut room[..most]) {
-        Ok(count) => write!(answer, "{count} {}, ", text(room)),
-        Err(Failed) => write!(answer, "failed {}, ", text(room)),
+        Ok(count) => write!(page, "{count} {}, ", text(room)),
+        Err(Failed) => write!(page, "failed {}, ", text(room)),
     }
 }
 
 /// Writes what each take of at most four octets gives, and what then stands in the room, which was four dots; then the
 /// faults.
-fn write_takes<S: Source>(
-    source: &mut S,
-    words: &mut SplitWhitespace<'_>,
-    answer: &mut String,
-) -> Result<(), AllocError> {
+fn write_takes<S: Source>(source: &mut S, words: &mut Words<'_>, page: &mut Page) {
     let mut room = [b'.'; 4];
     for word in words {
-        write_take(source, &mut room, word, answer)?;
+        write_take(source, &mut room, word, page);
     }
-    write!(answer, "faults {}", source.faults())
+    write!(page, "faults {}", source.faults());
 }
 
 /// Takes from a source that gives a piece at most, and fails at one call.
-pub fn write_in_pieces(
-    alloc: Global,
-    words: &mut SplitWhitespace<'_>,
-    answer: &mut String,
-) -> Result<(), AllocError> {
-    let piece = usize::try_from(case_lines::number(words).unwrap_or(0)).unwrap_or(1);
-    let call = case_lines::number(words).unwrap_or(0);
+pub fn write_in_pieces(words: &mut Words<'_>, page: &mut Page) {
+    let piece = usize::try_from(number(words).unwrap_or(0)).unwrap_or(1);
+    let calls = page.list_of(number(words));
     if piece == 0 {
-        return answer.push_str("no piece");
+        return page.push_str("no piece");
     }
-    let octets = Vec::from_slice(alloc, octets(words.next()))?;
-    let mut source = MemSource::new(octets, piece, vec![in alloc; call]?);
-    write_takes(&mut source, words, answer)
+    let mut source = MemSource::new(page.copy(octets(words.next())), piece, calls);
+    write_takes(&mut source, words, page);
 }
 
 /// Takes from a source that gives all that it has.
-pub fn write_sure(
-    alloc: Global,
-    words: &mut SplitWhitespace<'_>,
-    answer: &mut String,
-) -> Result<(), AllocError> {
-    let octets = Vec::from_slice(alloc, octets(words.next()))?;
-    write_takes(&mut SureSource::new(octets), words, answer)
+pub fn write_sure(words: &mut Words<'_>, page: &mut Page) {
+    let mut source = SureSource::new(page.copy(octets(words.next())));
+    write_takes(&mut source, words, page);
 }
