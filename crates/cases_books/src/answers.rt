@@ -1,26 +1,18 @@
 // What several steps write.
-use std::alloc::AllocError;
+use case_lines::Page;
 use std::fmt::Display;
-
-/// Writes octets in digits.
-pub fn write_digits(octets: &[u8], answer: &mut String) -> Result<(), AllocError> {
-    for octet in octets {
-        write!(answer, "{octet:02x}")?;
-    }
-    Ok(())
-}
 
 /// Writes what a call answered that may be refused, and whether the rows are as they were. It is none if no call
 /// has its word, its words are not there, or its conditions do not hold.
 pub fn write_change<R: Display + Drop>(
     changed: Option<Result<(), R>>,
     kept: bool,
-    answer: &mut String,
-) -> Result<(), AllocError> {
+    page: &mut Page,
+) {
     match changed {
-        Some(Ok(())) => answer.push_str("ok"),
-        Some(Err(refusal)) => write!(answer, "{refusal}; rows kept: {kept}"),
-        None => answer.push_str("no condition"),
+        Some(Ok(())) => page.push_str("ok"),
+        Some(Err(refusal)) => write!(page, "{refusal}; rows kept: {kept}"),
+        None => page.push_str("no condition"),
     }
 }
 

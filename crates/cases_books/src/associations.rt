@@ -10,6 +10,7 @@ ghost use Rattle.sdls_base.specs.declared.states.Direction.TheVariants.{Receive}
 ghost use Rattle.sa_book.specs.SaRow.{MayAccept};
 ghost use Rattle.sa_book.specs.SaBook.{row_of};
 
+use case_lines::{Words, channel, direction, key, key_state, number, spi};
 use replay_window::{MOST_BACK, Verdict, Window, is_window_field, window_field};
 use sa_book::{SaBook, SaRefusal, SaRow, rows_may_follow};
 use sdls_base::{
@@ -17,7 +18,6 @@ use sdls_base::{
     Suite,
 };
 use std::alloc::Global;
-use std::str::SplitWhitespace;
 
 /// Two channels, the lower one first.
 fn two_channels(alloc: Global, low: u8, high: u8) -> Option<Octets>
@@ -32,15 +32,13 @@ fn two_channels(alloc: Global, low: u8, high: u8) -> Option<Octets>
 }
 
 /// A CMAC association of two channels, with a window of 5: `SPI DIRECTION LOW HIGH`.
-fn new_association(alloc: Global, words: &mut SplitWhitespace<'_>) -> Option<NewSa>
+fn new_association(alloc: Global, words: &mut Words<'_>) -> Option<NewSa>
     ensures window { IfSome result (λ new. IsWindowField new.window) }
     ensures ascending { IfSome result (λ new. AreChannels new.channels) }
     ensures numbers { IfSome result (λ new. All (λ channel. channel ≤ 63) new.channels) }
 {
-    let spi = case_lines::spi(words)?;
-    let direction = case_lines::direction(words)?;
-    let low = case_lines::channel(words)?.get();
-    let high = case_lines::channel(words)?.get();
+    let (spi, direction) = (spi(words)?, direction(words)?);
+    let (low, high) = (channel(words)?.get(), channel(words)?.get());
     Some(NewSa {
         spi,
         direction,
@@ -54,7 +52,7 @@ fn new_association(alloc: Global, words: &mut SplitWhitespace<'_>) -> Option<New
 fn create(
     alloc: Global,
     book: &mut SaBook,
-    words: &mut SplitWhitespace<'_>,
+    words: &mut Words<'_>,
     known: &[ChannelId],
 ) -> Option<Result<(), SaRefusal>> {
     let new = new_association(alloc, words)?;
@@ -62,12 +60,9 @@ fn create(
 }
 
 /// Gives a key: `SPI KEY STATE NUMBER FLOOR`.
-fn rekey(book: &mut SaBook, words: &mut SplitWhitespace<'_>) -> Option<Result<(), SaRefusal>> {
-    let spi = case_lines::spi(words)?;
-    let key = case_lines::key(words)?;
-    let state = case_lines::key_state(words)?;
-    let number = case_lines::number(words)?;
-    let floor = case_lines::number(words)?;
+fn rekey(book: &mut SaBook, words: &mut Words<'_>) -> Option<Result<(), SaRefusal>> {
+    let (spi, key, state) = (spi(words)?, key(words)?, key_state(words)?);
+    let (number, floor) = (number(words)?, number(words)?);
     if floor < 1 {
         return None;
     }
@@ -75,10 +70,9 @@ fn rekey(book: &mut SaBook, words: &mut SplitWhitespace<'_>) -> Option<Result<()
 }
 
 /// Sets the next number: `SPI NUMBER FLOOR`.
-fn set_number(book: &mut SaBook, words: &mut SplitWhitespace<'_>) -> Option<Result<(), SaRefusal>> {
-    let spi = case_lines::spi(words)?;
-    let number = case_lines::number(words)?;
-    let floor = case_lines::number(words)?;
+fn set_number(book: &mut SaBook, words: &mut Words<'_>) -> Option<Result<(), SaRefusal>> {
+    let spi = spi(words)?;
+    let (number, floor) = (number(words)?, number(words)?);
     if floor < 1 {
         return None;
     }
@@ -86,11 +80,11 @@ fn set_number(book: &mut SaBook, words: &mut SplitWhitespace<'_>) -> Option<Resu
 }
 
 /// The window field of the words, in its bounds: `WIDTH`, or `WIDTH BACK`.
-fn field(words: &mut SplitWhitespace<'_>) -> Option<u64>
+fn field(words: &mut Words<'_>) -> Option<u64>
     ensures { IfSome result IsWindowField }
 {
-    let width = case_lines::number(words)?;
-    let back = case_lines::number(words).unwrap_or(0);
+    let width = number(words)?;
+    let back = number(words).unwrap_or(0);
     if width > MOST_WINDOW || back > u64::from(MOST_BACK) {
         return None;
     }
@@ -103,8 +97,8 @@ fn field(words: &mut SplitWhitespace<'_>) -> Option<u64>
 }
 
 /// Sets width and back window: `SPI WIDTH`, or `SPI WIDTH BACK`.
-fn set_window(book: &mut SaBook, words: &mut SplitWhitespace<'_>) -> Option<Result<(), SaRefusal>> {
-    let spi = case_lines::spi(words)?;
+fn set_window(book: &mut SaBook, words: &mut Words<'_>) -> Option<Result<(), SaRefusal>> {
+    let spi = spi(words)?;
     Some(book.set_window(spi, field(words)?))
 }
 
@@ -113,16 +107,16 @@ pub fn change(
     alloc: Global,
     book: &mut SaBook,
     word: &str,
-    words: &mut SplitWhitespace<'_>,
+    words: &mut Words<'_>,
     known: &[ChannelId],
 ) -> Option<Result<(), SaRefusal>> {
     match word {
         "create" => create(alloc, book, words, known),
         "rekey" => rekey(book, words),
-        "start" => Some(book.start(case_lines::spi(words)?)),
-        "stop" => Some(book.stop(case_lines::spi(words)?)),
-        "expire" => Some(book.expire(case_lines::spi(words)?)),
-        "delete" => Some(book.delete(case_lines::spi(words)?)),
+        "start" => Some(book.start(spi(words)?)),
+        "stop" => Some(book.stop(spi(words)?)),
+        "expire" => Some(book.expire(spi(words)?)),
+        "delete" => Some(book.delete(spi(words)?)),
         "number" => set_number(book, words),
         "window" => set_window(book, words),
         _ => None,
@@ -149,9 +143,8 @@ fn may_accept(row: &SaRow, number: u64) -> bool
 }
 
 /// Accepts a number where it is fresh on an operational receiving association: `SPI NUMBER`.
-pub fn accept(book: &mut SaBook, words: &mut SplitWhitespace<'_>) -> Option<()> {
-    let spi = case_lines::spi(words)?;
-    let number = case_lines::number(words)?;
+pub fn accept(book: &mut SaBook, words: &mut Words<'_>) -> Option<()> {
+    let (spi, number) = (spi(words)?, number(words)?);
     if !may_accept(book.status(spi).ok()?, number) {
         return None;
     }
@@ -173,11 +166,8 @@ fn sends_none(book: &SaBook, spi: Spi) -> bool
 }
 
 /// The next number of an association that does not send: `SPI`.
-pub fn next_number(
-    book: &SaBook,
-    words: &mut SplitWhitespace<'_>,
-) -> Option<Result<u64, SaRefusal>> {
-    let spi = case_lines::spi(words)?;
+pub fn next_number(book: &SaBook, words: &mut Words<'_>) -> Option<Result<u64, SaRefusal>> {
+    let spi = spi(words)?;
     if sends_none(book, spi) {
         Some(book.read_number(spi))
     } else {

@@ -1,7 +1,7 @@
 //! Steps on a content, and on rows.
 use crate::text::Text;
 use crate::{contents, plans, rows};
-use case_lines::{part_of, set_part_of};
+use case_lines::{Page, part_at, set_part_of};
 use sdls_base::Version;
 use std::alloc::Global;
 
@@ -24,42 +24,31 @@ impl Bank {
     }
 
     /// Writes the content of the state that a plan makes, of version 1 or `two`.
-    fn make(
-        &mut self,
-        alloc: Global,
-        text: &[u8],
-        version: &str,
-        answer: &mut String,
-    ) -> anyhow::Result<()> {
+    fn make(&mut self, text: &[u8], version: &str, page: &mut Page) {
         self.version = match version {
             "two" => Version::Two,
             _ => Version::One,
         };
-        self.written = contents::made(alloc, self.version, text, answer)?;
-        self.content = self.written.clone()?;
-        Ok(())
+        contents::make(self.version, text, &mut self.written, page);
+        self.content = page.copy(&self.written);
     }
 
     /// Does a step, and writes what it answers.
-    pub fn step(
-        &mut self,
-        alloc: Global,
-        text: &Text,
-        rest: &str,
-        answer: &mut String,
-    ) -> anyhow::Result<()> {
+    pub fn step(&mut self, text: &Text, rest: &str, page: &mut Page) {
         let (step, rest) = rest.split_once(' ').unwrap_or((rest, ""));
         match step {
-            "key" => rows::write_key(alloc, rest, answer)?,
-            "sa" => rows::write_association(alloc, rest, answer)?,
-            "bare" => plans::write_bare(alloc, &text.with(alloc, "")?, answer)?,
-            "made" => self.make(alloc, &text.with(alloc, "")?, rest, answer)?,
-            "at" => answer.push_str(part_of(alloc, &self.content, rest)?.as_str())?,
-            "set" => set_part_of(alloc, self.content.as_mut_slice(), rest)?,
-            "read" => contents::write_read(alloc, self.version, &self.content, answer)?,
-            "back" => self.content = self.written.clone()?,
-            _ => answer.push_str("no step")?,
+            "key" => rows::write_key(rest, page),
+            "sa" => rows::write_association(rest, page),
+            "bare" => plans::write_bare(&text.with("", page), page),
+            "made" => self.make(&text.with("", page), rest, page),
+            "at" => page.push_digits(part_at(&self.content, rest).unwrap_or(&[])),
+            "set" => {
+                let set = set_part_of(page.alloc(), self.content.as_mut_slice(), rest);
+                page.check(set);
+            }
+            "read" => contents::write_read(self.version, &self.content, page),
+            "back" => self.content = page.copy(&self.written),
+            _ => page.push_str("no step"),
         }
-        Ok(())
     }
 }

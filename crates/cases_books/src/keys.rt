@@ -2,10 +2,10 @@
 // the clauses of several calls say together takes long to prove.
 ghost use Rattle.std.specs.Prelude.{◌≡◌, IfOk, IfSome, All, length};
 
+use case_lines::Words;
 use key_book::{KeyBook, KeyRefusal, rows_may_follow};
 use sdls_base::{KeyId, KeyItem, KeyList, KeyState, NoMemory, Octets, Spi};
 use std::alloc::{AllocError, Global};
-use std::str::SplitWhitespace;
 
 /// A key of 16 octets, the first ones given and the others 0.
 fn item_of(id: KeyId, mut octets: Vec<u8>) -> Result<KeyItem, AllocError>
@@ -19,7 +19,7 @@ fn item_of(id: KeyId, mut octets: Vec<u8>) -> Result<KeyItem, AllocError>
 }
 
 /// The key of the words: `ID FIRST`.
-fn item(alloc: Global, words: &mut SplitWhitespace<'_>) -> Option<KeyItem>
+fn item(alloc: Global, words: &mut Words<'_>) -> Option<KeyItem>
     ensures { IfSome result (λ item. length item.bytes ≡ 16) }
 {
     let id = case_lines::key(words)?;
@@ -28,7 +28,7 @@ fn item(alloc: Global, words: &mut SplitWhitespace<'_>) -> Option<KeyItem>
 }
 
 /// The keys of the words.
-fn items(alloc: Global, words: &mut SplitWhitespace<'_>) -> Result<Vec<KeyItem>, AllocError>
+fn items(alloc: Global, words: &mut Words<'_>) -> Result<Vec<KeyItem>, AllocError>
     ensures { IfOk result (λ items. All (λ item. length item.bytes ≡ 16) items.items) }
 {
     let mut items = Vec::new(alloc);
@@ -41,11 +41,7 @@ fn items(alloc: Global, words: &mut SplitWhitespace<'_>) -> Result<Vec<KeyItem>,
 }
 
 /// Loads at most eight keys: `ID FIRST ID FIRST ..`.
-pub fn load(
-    alloc: Global,
-    book: &mut KeyBook,
-    words: &mut SplitWhitespace<'_>,
-) -> Result<(), KeyRefusal> {
+fn load(alloc: Global, book: &mut KeyBook, words: &mut Words<'_>) -> Result<(), KeyRefusal> {
     let items = items(alloc, words)?;
     book.load(&items)
 }
@@ -58,11 +54,7 @@ fn load_one(alloc: Global, book: &mut KeyBook, id: KeyId) -> Result<(), KeyRefus
 }
 
 /// Loads the keys 1 to the number of the words, one at a time.
-pub fn load_many(
-    alloc: Global,
-    book: &mut KeyBook,
-    words: &mut SplitWhitespace<'_>,
-) -> Result<(), KeyRefusal> {
+fn load_many(alloc: Global, book: &mut KeyBook, words: &mut Words<'_>) -> Result<(), KeyRefusal> {
     for number in 1..=case_lines::short(words).unwrap_or(0) {
         if let Some(id) = KeyId::new(number) {
             load_one(alloc, book, id)?;
@@ -72,7 +64,7 @@ pub fn load_many(
 }
 
 /// The identifiers of the words.
-fn ids(alloc: Global, words: &mut SplitWhitespace<'_>) -> Result<KeyList, AllocError> {
+fn ids(alloc: Global, words: &mut Words<'_>) -> Result<KeyList, AllocError> {
     let mut ids = Vec::new(alloc);
     for word in words {
         if let Some(id) = case_lines::key(&mut word.split_whitespace()) {
@@ -87,7 +79,7 @@ fn take_on(
     alloc: Global,
     book: &mut KeyBook,
     to: KeyState,
-    words: &mut SplitWhitespace<'_>,
+    words: &mut Words<'_>,
     in_use: &[(KeyId, Spi)],
 ) -> Result<(), KeyRefusal> {
     let ids = ids(alloc, words)?;
@@ -95,59 +87,51 @@ fn take_on(
 }
 
 /// The same of the words: `STATE ID ..`.
-pub fn set_state(
+fn set_state(
     alloc: Global,
     book: &mut KeyBook,
-    words: &mut SplitWhitespace<'_>,
+    words: &mut Words<'_>,
     in_use: &[(KeyId, Spi)],
 ) -> Option<Result<(), KeyRefusal>> {
     let to = case_lines::key_state(words)?;
     Some(take_on(alloc, book, to, words, in_use))
 }
 
-/// The words `ID MARK FLOOR`.
-fn marks_of(words: &mut SplitWhitespace<'_>) -> Option<(KeyId, u64, u64)> {
-    let id = case_lines::key(words)?;
-    let mark = case_lines::number(words)?;
-    Some((id, mark, case_lines::number(words)?))
-}
-
-/// Sets mark and floor of a key, if the conditions hold: `ID MARK FLOOR`. The key.
-pub fn set_marks(book: &mut KeyBook, words: &mut SplitWhitespace<'_>) -> Option<KeyId> {
-    let (id, mark, floor) = marks_of(words)?;
-    if book.mark(id).is_none() || mark < 1 || mark > id.end() || floor >= id.end() {
-        return None;
+/// Makes the change of a word: `load`, `loads` or `state`.
+pub fn change(
+    alloc: Global,
+    book: &mut KeyBook,
+    word: &str,
+    words: &mut Words<'_>,
+    in_use: &[(KeyId, Spi)],
+) -> Option<Result<(), KeyRefusal>> {
+    match word {
+        "load" => Some(load(alloc, book, words)),
+        "loads" => Some(load_many(alloc, book, words)),
+        _ => set_state(alloc, book, words, in_use),
     }
-    book.set_marks(id, mark, floor);
-    Some(id)
-}
-
-/// Raises the mark of a key, if the conditions hold.
-fn raise_mark(book: &mut KeyBook, id: KeyId, mark: u64) -> Option<()> {
-    if book.mark(id).is_none() || mark < 1 || mark > id.end() {
-        return None;
-    }
-    book.raise_mark(id, mark);
-    Some(())
 }
 
 /// Raises the floor of a key, if the conditions hold.
-fn raise_floor(book: &mut KeyBook, id: KeyId, floor: u64) -> Option<()> {
-    if book.mark(id).is_none() || floor >= id.end() {
-        return None;
+fn raise_floor(book: &mut KeyBook, id: KeyId, floor: u64) {
+    if book.mark(id).is_some() && floor < id.end() {
+        book.raise_floor(id, floor);
     }
-    book.raise_floor(id, floor);
-    Some(())
 }
 
-/// Raises mark and floor of a key, if the conditions hold: `ID MARK FLOOR`. The key.
-pub fn raise_marks(book: &mut KeyBook, words: &mut SplitWhitespace<'_>) -> Option<KeyId> {
-    let (id, mark, floor) = marks_of(words)?;
-    if floor >= id.end() {
+/// Sets mark and floor of a key, or raises them by the word `raise`, if the conditions hold: `ID MARK FLOOR`. The key.
+pub fn move_marks(book: &mut KeyBook, word: &str, words: &mut Words<'_>) -> Option<KeyId> {
+    let id = case_lines::key(words)?;
+    let (mark, floor) = (case_lines::number(words)?, case_lines::number(words)?);
+    if book.mark(id).is_none() || mark < 1 || mark > id.end() || floor >= id.end() {
         return None;
     }
-    raise_mark(book, id, mark)?;
-    raise_floor(book, id, floor)?;
+    if word == "raise" {
+        book.raise_mark(id, mark);
+        raise_floor(book, id, floor);
+    } else {
+        book.set_marks(id, mark, floor);
+    }
     Some(id)
 }
 

@@ -49,10 +49,10 @@ mod windows;
 
 use association_steps::AssociationTable;
 use bank::Bank;
-use case_lines::{Steps, print_steps};
+use case_lines::{Answers, Page, print_answers};
 use key_steps::KeyTable;
 use replay_window::Window;
-use std::alloc::{AllocError, Global};
+use std::alloc::Global;
 use text::Text;
 
 /// The two books, the text of a plan, a window, and a content.
@@ -85,44 +85,34 @@ impl Table {
     }
 
     /// Does a step on a book, and writes it with what it answers.
-    fn step_on_books(
-        &mut self,
-        alloc: Global,
-        line: &str,
-        answer: &mut String,
-    ) -> Result<(), AllocError> {
-        write!(answer, "{line}: ")?;
-        let mut words = line.split_whitespace();
+    fn step_on_books(&mut self, line: &str, page: &mut Page) {
+        write!(page, "{line}: ");
+        let words = &mut line.split_whitespace();
         let word = words.next().unwrap_or("");
         if word == "judge" {
-            return windows::judge(&mut words, answer);
+            windows::judge(words, page);
+        } else if !self.keys.step(word, words, page) {
+            self.associations.step(word, words, page);
         }
-        if self.keys.step(alloc, word, &mut words, answer)? {
-            return Ok(());
-        }
-        self.associations.step(alloc, word, &mut words, answer)
     }
 }
 
-impl Steps for Table {
-    fn step(&mut self, alloc: Global, line: &str, answer: &mut String) -> anyhow::Result<()> {
+impl Answers for Table {
+    fn answer(&mut self, line: &str, page: &mut Page) {
         let (word, rest) = line.split_once(' ').unwrap_or((line, ""));
         match word {
-            "new" => {
-                self.clear(alloc);
-                Ok(())
-            }
-            ":" | ";" | "fill" => self.text.change(alloc, word, rest),
-            "plan" => Ok(plans::write_reading(alloc, &self.text.with(alloc, rest)?, answer)?),
-            "show" | "place" => plans::write_part(alloc, &self.text, word, rest, answer),
-            "record" => rows::write_record(alloc, rest, answer),
-            "replay" => Ok(windows::step(alloc, &mut self.window, rest, answer)?),
-            "bank" => self.bank.step(alloc, &self.text, rest, answer),
-            _ => Ok(self.step_on_books(alloc, line, answer)?),
+            "new" => self.clear(page.alloc()),
+            ":" | ";" | "fill" => self.text.change(word, rest, page),
+            "plan" => plans::write_reading(&self.text.with(rest, page), page),
+            "show" | "place" => plans::write_part(&self.text, word, rest, page),
+            "record" => rows::write_record(rest, page),
+            "replay" => windows::step(&mut self.window, rest, page),
+            "bank" => self.bank.step(&self.text, rest, page),
+            _ => self.step_on_books(line, page),
         }
     }
 }
 
 fn main(rt: HostRuntime) -> anyhow::Result<()> {
-    print_steps(&rt, &mut Table::new(rt.alloc()))
+    print_answers(&rt, &mut Table::new(rt.alloc()))
 }

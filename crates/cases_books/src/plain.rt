@@ -1,5 +1,6 @@
 //! The number check over a plain list of all numbers that were accepted.
-use std::alloc::{AllocError, Global};
+use case_lines::Page;
+use std::alloc::Global;
 
 /// A window with all that it accepted.
 #[derive(Drop)]
@@ -44,10 +45,9 @@ impl Plain {
     }
 
     /// Accepts a number.
-    pub fn accept(&mut self, n: u64) -> Result<(), AllocError> {
-        self.accepted.push(n)?;
+    pub fn accept(&mut self, n: u64, page: &mut Page) {
+        page.check(self.accepted.push(n));
         self.high = self.high.max(n);
-        Ok(())
     }
 
     /// Begins anew at a number.

@@ -4,10 +4,9 @@ ghost use Rattle.std.specs.Prelude.{◌≤◌};
 use crate::drawn::Drawn;
 use crate::plain::Plain;
 use crate::windows::offered;
-use case_lines::number;
+use case_lines::{Page, Words, number};
 use replay_window::{MOST_BACK, Verdict, Window, window_field};
-use std::alloc::{AllocError, Global};
-use std::str::SplitWhitespace;
+use std::alloc::Global;
 
 /// The steps of a sequence.
 const STEPS: u64 = 60;
@@ -56,7 +55,7 @@ fn drawn_pair(alloc: Global, drawn: &mut Drawn) -> Pair {
 }
 
 impl Pair {
-    fn offer(&mut self, n: u64, end: u64, counts: &mut Counts) -> Result<(), AllocError> {
+    fn offer(&mut self, n: u64, end: u64, counts: &mut Counts, page: &mut Page) {
         let (fresh, late) = (self.plain.is_fresh(n, end), self.plain.is_late(n));
         let said = offered(&mut self.window, n, end);
         if (said == Some(Verdict::Fresh)) != fresh {
@@ -64,14 +63,13 @@ impl Pair {
         }
         if fresh {
             counts.accepted = counts.accepted.saturating_add(1);
-            self.plain.accept(n)?;
+            self.plain.accept(n, page);
         } else {
             counts.refused = counts.refused.saturating_add(1);
         }
         if fresh && late {
             counts.late = counts.late.saturating_add(1);
         }
-        Ok(())
     }
 
     fn set(&mut self, drawn: &mut Drawn) {
@@ -89,7 +87,7 @@ impl Pair {
     }
 
     /// Offers a number near the highest one. The key's numbers end a little above it, or far.
-    fn offer_near(&mut self, drawn: &mut Drawn, counts: &mut Counts) -> Result<(), AllocError> {
+    fn offer_near(&mut self, drawn: &mut Drawn, counts: &mut Counts, page: &mut Page) {
         let high = self.plain.high;
         let n = high
             .saturating_add(drawn.below(40))
@@ -98,34 +96,28 @@ impl Pair {
             0 => high.saturating_sub(drawn.below(20)),
             _ => high.saturating_add(1000),
         };
-        self.offer(n, end, counts)
+        self.offer(n, end, counts, page);
     }
 
-    fn step(&mut self, drawn: &mut Drawn, counts: &mut Counts) -> Result<(), AllocError> {
+    fn step(&mut self, drawn: &mut Drawn, counts: &mut Counts, page: &mut Page) {
         match drawn.below(24) {
             0 => self.set(drawn),
             1 => self.begin(drawn),
-            _ => self.offer_near(drawn, counts)?,
+            _ => self.offer_near(drawn, counts, page),
         }
-        Ok(())
     }
 }
 
 /// Makes a sequence of steps.
-fn make_sequence(alloc: Global, drawn: &mut Drawn, counts: &mut Counts) -> Result<(), AllocError> {
-    let mut pair = drawn_pair(alloc, drawn);
+fn make_sequence(drawn: &mut Drawn, counts: &mut Counts, page: &mut Page) {
+    let mut pair = drawn_pair(page.alloc(), drawn);
     for _ in 0..STEPS {
-        pair.step(drawn, counts)?;
+        pair.step(drawn, counts, page);
     }
-    Ok(())
 }
 
 /// Makes sequences, and writes what came of the numbers: `SEED COUNT`.
-pub fn random(
-    alloc: Global,
-    words: &mut SplitWhitespace<'_>,
-    answer: &mut String,
-) -> Result<(), AllocError> {
+pub fn random(words: &mut Words<'_>, page: &mut Page) {
     let mut drawn = Drawn::new(number(words).unwrap_or(0));
     let mut counts = Counts {
         accepted: 0,
@@ -134,11 +126,11 @@ pub fn random(
         differ: 0,
     };
     for _ in 0..number(words).unwrap_or(0) {
-        make_sequence(alloc, &mut drawn, &mut counts)?;
+        make_sequence(&mut drawn, &mut counts, page);
     }
     write!(
-        answer,
+        page,
         "{} accepted, {} of them late, {} refused, {} differ",
         counts.accepted, counts.late, counts.refused, counts.differ
-    )
+    );
 }
