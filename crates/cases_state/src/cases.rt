@@ -1,13 +1,11 @@
 // Cases of frames, security headers and plain types, which depend on no state.
 use crate::{headers, names, reading, sealed, shielding};
-use case_lines::{flag, piece, short, suite};
+use case_lines::{Page, Words, flag, short, suite};
 use frame_shield::AnyLayout;
 use sdls_base::{Suite, TcLayout, fecf, same_octets};
-use std::alloc::{AllocError, Global};
-use std::str::SplitWhitespace;
 
 /// The layout of TC frames that the words say, with the most octets of a frame.
-fn tc_layout(words: &mut SplitWhitespace<'_>) -> AnyLayout {
+fn tc_layout(words: &mut Words<'_>) -> AnyLayout {
     AnyLayout::Tc(TcLayout {
         segment: flag(words),
         fecf: flag(words),
@@ -16,7 +14,7 @@ fn tc_layout(words: &mut SplitWhitespace<'_>) -> AnyLayout {
 }
 
 /// The layout that the words say, none if the kind is none of frames.
-fn layout_of(kind: &str, words: &mut SplitWhitespace<'_>) -> Option<AnyLayout> {
+fn layout_of(kind: &str, words: &mut Words<'_>) -> Option<AnyLayout> {
     match kind {
         "tc" => Some(tc_layout(words)),
         "tm" => Some(AnyLayout::Tm(shielding::tm_layout(words))),
@@ -26,91 +24,43 @@ fn layout_of(kind: &str, words: &mut SplitWhitespace<'_>) -> Option<AnyLayout> {
 }
 
 /// Writes the parts of a room: `SUITE OCTETS`.
-fn answer_room(
-    alloc: Global,
-    words: &mut SplitWhitespace<'_>,
-    answer: &mut String,
-) -> anyhow::Result<()> {
+fn answer_room(words: &mut Words<'_>, page: &mut Page) {
     let suite = suite(words).unwrap_or(Suite::Cmac);
-    let room = case_lines::octets(alloc, words)?;
-    Ok(headers::write_room(answer, suite, room.as_slice())?)
+    headers::write_room(suite, &page.octets(words), page);
 }
 
-/// Writes the index at the front of octets, or their error control field.
-fn answer_octets(
-    alloc: Global,
-    word: &str,
-    words: &mut SplitWhitespace<'_>,
-    answer: &mut String,
-) -> anyhow::Result<()> {
-    let octets = case_lines::octets(alloc, words)?;
-    let written = match word {
-        "index" => headers::write_index(answer, octets.as_slice()),
-        _ => write!(answer, "{:04x}", fecf(octets.as_slice())),
-    };
-    Ok(written?)
+/// Writes the error control field of octets.
+fn answer_fecf(words: &mut Words<'_>, page: &mut Page) {
+    let field = fecf(&page.octets(words));
+    write!(page, "{field:04x}");
 }
 
 /// Writes a prefix under a mask, or whether two texts of octets are the same.
-fn write_pair(
-    alloc: Global,
-    word: &str,
-    left: &[u8],
-    right: &[u8],
-    answer: &mut String,
-) -> Result<(), AllocError> {
+fn answer_pair(word: &str, words: &mut Words<'_>, page: &mut Page) {
+    let (left, right) = (page.piece(words), page.piece(words));
     match word {
-        "mask" => headers::write_masked(alloc, answer, left, right),
-        _ => write!(answer, "{}", same_octets(left, right)),
+        "mask" => headers::write_masked(&left, &right, page),
+        _ => write!(page, "{}", same_octets(&left, &right)),
     }
 }
 
-/// The same of these octets and of the next word.
-fn answer_second(
-    alloc: Global,
-    word: &str,
-    left: &[u8],
-    words: &mut SplitWhitespace<'_>,
-    answer: &mut String,
-) -> anyhow::Result<()> {
-    let right = piece(alloc, words)?;
-    Ok(write_pair(alloc, word, left, right.as_slice(), answer)?)
-}
-
-/// The same of the next two words.
-fn answer_pair(
-    alloc: Global,
-    word: &str,
-    words: &mut SplitWhitespace<'_>,
-    answer: &mut String,
-) -> anyhow::Result<()> {
-    let left = piece(alloc, words)?;
-    answer_second(alloc, word, left.as_slice(), words, answer)
-}
-
 /// Writes what a case answers that is none of a frame alone.
-fn answer_word(
-    alloc: Global,
-    word: &str,
-    words: &mut SplitWhitespace<'_>,
-    answer: &mut String,
-) -> anyhow::Result<()> {
+fn answer_word(word: &str, words: &mut Words<'_>, page: &mut Page) {
     match word {
-        "protect" | "open" | "bits" => sealed::answer(alloc, word, words, answer),
-        "index" | "fecf" => answer_octets(alloc, word, words, answer),
-        "mask" | "same" => answer_pair(alloc, word, words, answer),
-        "room" => answer_room(alloc, words, answer),
-        "printed" => names::answer_printed(alloc, words, answer),
-        "rows" => names::answer_rows(alloc, words, answer),
-        _ => Ok(names::answer(word, words, answer)?),
+        "protect" | "open" | "bits" => sealed::answer(word, words, page),
+        "index" => headers::write_index(&page.octets(words), page),
+        "fecf" => answer_fecf(words, page),
+        "mask" | "same" => answer_pair(word, words, page),
+        "room" => answer_room(words, page),
+        _ => names::answer(word, words, page),
     }
 }
 
 /// Writes what a case answers.
-pub fn answer(alloc: Global, word: &str, rest: &str, answer: &mut String) -> anyhow::Result<()> {
+pub fn answer(word: &str, rest: &str, page: &mut Page) {
     let mut words = rest.split_whitespace();
     match layout_of(word, &mut words) {
-        Some(layout) => reading::answer(alloc, &layout, &mut words, answer),
-        None => answer_word(alloc, word, &mut words, answer),
+        Some(layout) => reading::answer(&layout, &mut words, page),
+        None => answer_word(word, &mut words, page),
     }
 }

@@ -3,13 +3,12 @@
 ghost use Rattle.std.specs.Prelude.{IfSome};
 ghost use Rattle.unit_state.specs.Restart.{IsLight};
 
-use case_lines::{direction, key, key_state, number, octet, sa_state, spi};
+use case_lines::{Page, Words, direction, key, key_state, number, octet, sa_state, spi};
 use sdls_base::{Change, KeyId, KeyItem, KeyItems, KeyList, NewSa, Octets, Suite};
-use std::alloc::{AllocError, Global};
-use std::str::SplitWhitespace;
+use std::alloc::Global;
 
 /// The change that a reserve makes: `KEY MARK FLOOR`.
-pub fn marks(words: &mut SplitWhitespace<'_>) -> Option<Change>
+pub fn marks(words: &mut Words<'_>) -> Option<Change>
     ensures { IfSome result IsLight }
 {
     Some(Change::Marks {
@@ -20,7 +19,7 @@ pub fn marks(words: &mut SplitWhitespace<'_>) -> Option<Change>
 }
 
 /// The change that a frame makes: `SPI KEY NUMBER FLOOR`.
-pub fn accepted(words: &mut SplitWhitespace<'_>) -> Option<Change>
+pub fn accepted(words: &mut Words<'_>) -> Option<Change>
     ensures { IfSome result IsLight }
 {
     Some(Change::Accepted {
@@ -32,37 +31,31 @@ pub fn accepted(words: &mut SplitWhitespace<'_>) -> Option<Change>
 }
 
 /// The load of one key with these octets.
-pub fn load_of(alloc: Global, id: KeyId, octets: Vec<u8>) -> Result<Change, AllocError> {
-    let bytes = Octets::new(octets);
-    Ok(Change::Load(KeyItems::new(vec![in alloc; KeyItem { id, bytes }]?)))
+pub fn load_of(id: KeyId, octets: Vec<u8>, page: &mut Page) -> Change {
+    let (bytes, mut items) = (Octets::new(octets), Vec::new(page.alloc()));
+    page.check(items.push(KeyItem { id, bytes }));
+    Change::Load(KeyItems::new(items))
 }
 
-fn load(alloc: Global, words: &mut SplitWhitespace<'_>) -> Option<Change> {
+fn load(words: &mut Words<'_>, page: &mut Page) -> Option<Change> {
     let id = key(words)?;
-    let octets = hex::decode(alloc, words.next()?).ok()?;
-    load_of(alloc, id, octets).ok()
-}
-
-/// The key with this number, if it is a key's, with its identifier as its octets.
-fn push_item(alloc: Global, items: &mut Vec<KeyItem>, number: u16) -> Result<(), AllocError> {
-    if let Some(id) = KeyId::new(number) {
-        let octets = u128::from(number).to_be_bytes();
-        let bytes = Octets::new(Vec::from_slice(alloc, &octets)?);
-        items.push(KeyItem { id, bytes })?;
-    }
-    Ok(())
+    let octets = hex::decode(page.alloc(), words.next()?).ok()?;
+    Some(load_of(id, octets, page))
 }
 
 /// The load of eight keys from this one on, each with its identifier as its octets.
-pub fn eight_keys(alloc: Global, first: u16) -> Result<Change, AllocError> {
-    let mut items = Vec::new(alloc);
+pub fn eight_keys(first: u16, page: &mut Page) -> Change {
+    let mut items = Vec::new(page.alloc());
     for number in first..=first.saturating_add(7) {
-        push_item(alloc, &mut items, number)?;
+        if let Some(id) = KeyId::new(number) {
+            let bytes = Octets::new(page.copy(&u128::from(number).to_be_bytes()));
+            page.check(items.push(KeyItem { id, bytes }));
+        }
     }
-    Ok(Change::Load(KeyItems::new(items)))
+    Change::Load(KeyItems::new(items))
 }
 
-fn key_states(alloc: Global, words: &mut SplitWhitespace<'_>) -> Option<Change> {
+fn key_states(alloc: Global, words: &mut Words<'_>) -> Option<Change> {
     let to = key_state(words)?;
     let ids = vec![in alloc; key(words)?].ok()?;
     Some(Change::KeyStates {
@@ -72,7 +65,7 @@ fn key_states(alloc: Global, words: &mut SplitWhitespace<'_>) -> Option<Change> 
 }
 
 /// A CMAC association of one channel.
-fn create(alloc: Global, words: &mut SplitWhitespace<'_>) -> Option<Change> {
+fn create(alloc: Global, words: &mut Words<'_>) -> Option<Change> {
     let spi = spi(words)?;
     let direction = direction(words)?;
     let window = number(words)?;
@@ -86,7 +79,7 @@ fn create(alloc: Global, words: &mut SplitWhitespace<'_>) -> Option<Change> {
     }))
 }
 
-fn rekey(words: &mut SplitWhitespace<'_>) -> Option<Change> {
+fn rekey(words: &mut Words<'_>) -> Option<Change> {
     Some(Change::Rekey {
         spi: spi(words)?,
         key: key(words)?,
@@ -94,21 +87,21 @@ fn rekey(words: &mut SplitWhitespace<'_>) -> Option<Change> {
     })
 }
 
-fn take_state(words: &mut SplitWhitespace<'_>) -> Option<Change> {
+fn take_state(words: &mut Words<'_>) -> Option<Change> {
     Some(Change::SaTo {
         spi: spi(words)?,
         to: sa_state(words)?,
     })
 }
 
-fn set_number(words: &mut SplitWhitespace<'_>) -> Option<Change> {
+fn set_number(words: &mut Words<'_>) -> Option<Change> {
     Some(Change::SetNumber {
         spi: spi(words)?,
         number: number(words)?,
     })
 }
 
-fn set_window(words: &mut SplitWhitespace<'_>) -> Option<Change> {
+fn set_window(words: &mut Words<'_>) -> Option<Change> {
     Some(Change::SetWindow {
         spi: spi(words)?,
         window: number(words)?,
@@ -116,13 +109,13 @@ fn set_window(words: &mut SplitWhitespace<'_>) -> Option<Change> {
 }
 
 /// Reads a change.
-pub fn read(alloc: Global, text: &str) -> Option<Change> {
+pub fn read(text: &str, page: &mut Page) -> Option<Change> {
     let mut words = text.split_whitespace();
     match words.next()? {
         "marks" => marks(&mut words),
-        "load" => load(alloc, &mut words),
-        "states" => key_states(alloc, &mut words),
-        "create" => create(alloc, &mut words),
+        "load" => load(&mut words, page),
+        "states" => key_states(page.alloc(), &mut words),
+        "create" => create(page.alloc(), &mut words),
         "rekey" => rekey(&mut words),
         "sa" => take_state(&mut words),
         "number" => set_number(&mut words),

@@ -1,41 +1,35 @@
 // Security headers, rooms and masks.
-use case_lines::Digits;
+use case_lines::{Digits, Page, Words};
 use sdls_base::Suite;
 use sdls_header::{SecurityHeader, Split, Vector, masked, read_spi, split, write_header};
-use std::alloc::{AllocError, Global};
-use std::str::SplitWhitespace;
 
 /// Writes the index at the front of a room.
-pub fn write_index(answer: &mut String, room: &[u8]) -> Result<(), AllocError> {
+pub fn write_index(room: &[u8], page: &mut Page) {
     match read_spi(room) {
-        Some(spi) => write!(answer, "{spi}"),
-        None => answer.push_str("none"),
+        Some(spi) => write!(page, "{spi}"),
+        None => page.push_str("none"),
     }
 }
 
-fn write_vector(answer: &mut String, vector: &Vector) -> Result<(), AllocError> {
+fn write_vector(vector: &Vector, page: &mut Page) {
     match vector {
-        Vector::Sequence(number) => write!(answer, "{number}"),
-        Vector::Wide { device, number } => write!(answer, "{}:{number}", Digits(device)),
+        Vector::Sequence(number) => write!(page, "{number}"),
+        Vector::Wide { device, number } => write!(page, "{}:{number}", Digits(device)),
     }
 }
 
-fn write_split(answer: &mut String, pieces: &Split<'_>) -> Result<(), AllocError> {
-    write!(answer, "header {} vector ", Digits(pieces.header))?;
-    write_vector(answer, &pieces.vector)?;
-    write!(
-        answer,
-        " field {} mac {}",
-        Digits(pieces.field),
-        Digits(pieces.mac)
-    )
+fn write_split(pieces: &Split<'_>, page: &mut Page) {
+    write!(page, "header {} vector ", Digits(pieces.header));
+    write_vector(&pieces.vector, page);
+    let (field, mac) = (Digits(pieces.field), Digits(pieces.mac));
+    write!(page, " field {field} mac {mac}");
 }
 
 /// Writes a room taken apart.
-pub fn write_room(answer: &mut String, suite: Suite, room: &[u8]) -> Result<(), AllocError> {
+pub fn write_room(suite: Suite, room: &[u8], page: &mut Page) {
     match split(room, suite) {
-        Some(pieces) => write_split(answer, &pieces),
-        None => answer.push_str("none"),
+        Some(pieces) => write_split(&pieces, page),
+        None => page.push_str("none"),
     }
 }
 
@@ -51,28 +45,22 @@ fn vector_of(kind: &str, number: u64) -> Vector {
 }
 
 /// Writes a header of each suite as it is written into 15 octets of 55.
-pub fn answer_header(
-    words: &mut SplitWhitespace<'_>,
-    answer: &mut String,
-) -> Result<(), AllocError> {
+pub fn answer_header(words: &mut Words<'_>, page: &mut Page) {
     let kind = words.next().unwrap_or("");
     let Some(spi) = case_lines::spi(words) else {
-        return answer.push_str("no index");
+        return page.push_str("no index");
     };
     let vector = vector_of(kind, case_lines::number(words).unwrap_or(0));
     let mut out = [0x55; 15];
     let count = write_header(&SecurityHeader { spi, vector }, &mut out);
-    write!(answer, "{count} of {}", Digits(&out))
+    write!(page, "{count} of {}", Digits(&out));
 }
 
 /// Writes a prefix under a mask.
-pub fn write_masked(
-    alloc: Global,
-    answer: &mut String,
-    mask: &[u8],
-    prefix: &[u8],
-) -> Result<(), AllocError> {
-    let mut out = vec![in alloc; 0x55; prefix.len()]?;
+pub fn write_masked(mask: &[u8], prefix: &[u8], page: &mut Page) {
+    let Ok(mut out) = vec![in page.alloc(); 0x55; prefix.len()] else {
+        return page.spoil();
+    };
     masked(prefix, mask, out.as_mut_slice());
-    write!(answer, "{}", Digits(out.as_slice()))
+    page.push_digits(&out);
 }

@@ -31,9 +31,9 @@ mod shielding;
 mod showing;
 mod table;
 
-use case_lines::print_steps;
+use case_lines::print_answers;
 use table::Table;
 
 fn main(rt: HostRuntime) -> anyhow::Result<()> {
-    print_steps(&rt, &mut Table::new(rt.alloc()))
+    print_answers(&rt, &mut Table::new(rt.alloc()))
 }

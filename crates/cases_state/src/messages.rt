@@ -2,49 +2,51 @@
 ghost use Rattle.ep_codec.specs.Command.{IsInBounds};
 ghost use Rattle.ep_codec.specs.ReplyPdu.{IsInBounds as IsReplyInBounds};
 
+use case_lines::Page;
 use ep_codec::{Command, PduError, ReplyPdu, read_pdu, read_reply, write_pdu, write_reply};
-use sdls_base::NoMemory;
 use std::alloc::Global;
 
 /// Writes a command that was read, and whether its octets are written again.
-fn write_command(
-    alloc: Global,
-    answer: &mut String,
-    command: &Command,
-    octets: &[u8],
-) -> Result<(), NoMemory>
+fn write_command(command: &Command, octets: &[u8], page: &mut Page)
     requires { IsInBounds command.now }
 {
-    let again = write_pdu(alloc, command)?.as_slice() == octets;
-    Ok(write!(answer, "{command:?}, written again: {again}")?)
+    match write_pdu(page.alloc(), command) {
+        Ok(again) => write!(
+            page,
+            "{command:?}, written again: {}",
+            again.as_slice() == octets
+        ),
+        Err(_) => page.spoil(),
+    }
 }
 
 /// Writes what is read of a command, and whether its octets are written again, or the first fault.
-fn read_command(alloc: Global, answer: &mut String, octets: &[u8]) -> Result<(), NoMemory> {
-    match read_pdu(alloc, octets) {
-        Ok(command) => write_command(alloc, answer, &command, octets),
-        Err(error) => Ok(write!(answer, "{error}")?),
+fn read_command(octets: &[u8], page: &mut Page) {
+    match read_pdu(page.alloc(), octets) {
+        Ok(command) => write_command(&command, octets, page),
+        Err(error) => write!(page, "{error}"),
     }
 }
 
 /// The same of a reply that was read.
-fn write_again(
-    alloc: Global,
-    answer: &mut String,
-    reply: &ReplyPdu,
-    octets: &[u8],
-) -> Result<(), NoMemory>
+fn write_again(reply: &ReplyPdu, octets: &[u8], page: &mut Page)
     requires { IsReplyInBounds reply.now }
 {
-    let again = write_reply(alloc, reply)?.as_slice() == octets;
-    Ok(write!(answer, "{reply:?}, written again: {again}")?)
+    match write_reply(page.alloc(), reply) {
+        Ok(again) => write!(
+            page,
+            "{reply:?}, written again: {}",
+            again.as_slice() == octets
+        ),
+        Err(_) => page.spoil(),
+    }
 }
 
 /// The same of a reply.
-fn read_again(alloc: Global, answer: &mut String, octets: &[u8]) -> Result<(), NoMemory> {
-    match read_reply(alloc, octets) {
-        Ok(reply) => write_again(alloc, answer, &reply, octets),
-        Err(error) => Ok(write!(answer, "{error}")?),
+fn read_again(octets: &[u8], page: &mut Page) {
+    match read_reply(page.alloc(), octets) {
+        Ok(reply) => write_again(&reply, octets, page),
+        Err(error) => write!(page, "{error}"),
     }
 }
 
@@ -65,14 +67,14 @@ fn reply_fault(alloc: Global, octets: &[u8]) -> Option<u32> {
 }
 
 /// Writes at how many octets a cut of the command is reported to be its first fault.
-fn count_cuts(alloc: Global, answer: &mut String, octets: &[u8]) -> Result<(), NoMemory> {
+fn count_cuts(octets: &[u8], page: &mut Page) {
     let mut reported: u32 = 0;
     for end in 0..octets.len() {
-        if command_fault(alloc, &octets[..end]).is_some_and(|at| at as usize == end) {
+        if command_fault(page.alloc(), &octets[..end]).is_some_and(|at| at as usize == end) {
             reported = reported.saturating_add(1);
         }
     }
-    Ok(write!(answer, "{reported}")?)
+    write!(page, "{reported}");
 }
 
 /// Whether messages of this tag may have so many octets of data, which are all of the room behind the header.
@@ -93,39 +95,33 @@ fn is_allowed(alloc: Global, tag: u8, length: u16, room: &mut [u8]) -> bool {
 }
 
 /// Writes the lengths up to a greatest one that messages of a tag may have, all of whose data are the room's.
-fn write_lengths(
-    alloc: Global,
-    answer: &mut String,
-    tag: u8,
-    greatest: u16,
-    room: &mut [u8],
-) -> Result<(), NoMemory> {
-    answer.push_str("lengths")?;
+fn write_lengths(tag: u8, greatest: u16, room: &mut [u8], page: &mut Page) {
+    page.push_str("lengths");
     for length in 0..=greatest {
-        if is_allowed(alloc, tag, length, room) {
-            write!(answer, " {length}")?;
+        if is_allowed(page.alloc(), tag, length, room) {
+            write!(page, " {length}");
         }
     }
-    Ok(())
 }
 
 /// Writes the lengths up to a greatest one that messages of a tag may have whose data are octets of 1: `TAG GREATEST`,
 /// the tag in hexadecimal.
-pub fn answer_lengths(alloc: Global, text: &str, answer: &mut String) -> Result<(), NoMemory> {
+fn answer_lengths(text: &str, page: &mut Page) {
     let (tag, greatest) = text.split_once(' ').unwrap_or((text, ""));
     let tag = u8::from_str_radix(tag, 16).unwrap_or(0);
     let greatest: u16 = greatest.parse().unwrap_or(0);
-    let mut room = vec![in alloc; 1; usize::from(greatest) + 3]?;
-    write_lengths(alloc, answer, tag, greatest, room.as_mut_slice())
+    match vec![in page.alloc(); 1; usize::from(greatest) + 3] {
+        Ok(mut room) => write_lengths(tag, greatest, room.as_mut_slice(), page),
+        Err(_) => page.spoil(),
+    }
 }
 
-/// Writes what a step on a message answers: `command`, `reply`, or `cuts`.
-pub fn answer(alloc: Global, word: &str, text: &str, answer: &mut String) -> anyhow::Result<()> {
-    let octets = hex::decode(alloc, text)?;
-    let written = match word {
-        "command" => read_command(alloc, answer, octets.as_slice()),
-        "reply" => read_again(alloc, answer, octets.as_slice()),
-        _ => count_cuts(alloc, answer, octets.as_slice()),
-    };
-    Ok(written?)
+/// Writes what a step on messages answers: `command`, `reply`, `cuts`, or `lengths`.
+pub fn answer(word: &str, text: &str, page: &mut Page) {
+    match word {
+        "command" => read_command(&page.octets_at(text, 0), page),
+        "reply" => read_again(&page.octets_at(text, 0), page),
+        "cuts" => count_cuts(&page.octets_at(text, 0), page),
+        _ => answer_lengths(text, page),
+    }
 }

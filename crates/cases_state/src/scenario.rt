@@ -8,6 +8,8 @@ ghost use Rattle.unit_state.specs.Restart.{IsLight};
 ghost use Rattle.unit_state.specs.State.{KeepsRules};
 ghost use Rattle.frame_shield.specs.Binding.{IsBinding};
 
+use crate::showing::push_text;
+use case_lines::Page;
 use case_units::{fits, reply_text};
 use ep_codec::Command;
 use ep_core::{Need, Reply, judge, plan_change};
@@ -15,19 +17,18 @@ use frame_checks::{OpenReply, binding, open_frame};
 use frame_shield::{Binding, ShieldFault};
 use key_book::KeyRow;
 use sa_book::SaRow;
-use sdls_base::{Change, KeyId, NoMemory, Seen};
-use std::alloc::{AllocError, Global};
+use sdls_base::{Change, KeyId, Seen};
 use std::marker::Model;
 use unit_plan::Plan;
 use unit_state::{State, rules_stay};
 
 /// Writes what was needed.
-fn write_need(answer: &mut String, need: Need) -> Result<(), AllocError> {
+fn write_need(need: Need, page: &mut Page) {
     match need {
-        Need::Nothing => answer.push_str("nothing: "),
-        Need::Look(key) => write!(answer, "look {}: ", key.get()),
-        Need::Raise(key, number) => write!(answer, "raise {} {number}: ", key.get()),
-        Need::Number(key) => write!(answer, "number {}: ", key.get()),
+        Need::Nothing => page.push_str("nothing: "),
+        Need::Look(key) => write!(page, "look {}: ", key.get()),
+        Need::Raise(key, number) => write!(page, "raise {} {number}: ", key.get()),
+        Need::Number(key) => write!(page, "number {}: ", key.get()),
     }
 }
 
@@ -73,9 +74,11 @@ impl Scenario {
     }
 
     /// Takes an equal state.
-    pub fn take_copy(&mut self) -> Result<(), NoMemory> {
-        self.state = self.state.copy()?;
-        Ok(())
+    pub fn take_copy(&mut self, page: &mut Page) {
+        match self.state.copy() {
+            Ok(copy) => self.state = copy,
+            Err(_) => page.spoil(),
+        }
     }
 
     /// Leaves what a restart leaves.
@@ -83,14 +86,14 @@ impl Scenario {
         self.state.restart();
     }
 
-    /// Makes a change where the state allows it, and says whether it does.
-    pub fn apply(&mut self, change: &Change) -> Result<bool, NoMemory> {
+    /// Makes a change where the state allows it, and returns whether it does.
+    pub fn apply(&mut self, change: &Change, page: &mut Page) -> bool {
         let allowed = self.state.allows(change);
         if allowed {
             rules_stay();
-            self.state.apply(change)?;
+            page.check(self.state.apply(change));
         }
-        Ok(allowed)
+        allowed
     }
 
     /// The same for a change that moves numbers alone. Takes no memory.
@@ -106,38 +109,27 @@ impl Scenario {
     }
 
     /// Makes the change that was decided, and writes what is answered.
-    fn carry_out(
-        &mut self,
-        alloc: Global,
-        change: &Change,
-        reply: &Reply,
-        answer: &mut String,
-    ) -> Result<(), NoMemory> {
-        if self.apply(change)? {
-            answer.push_str(reply_text(alloc, reply)?.as_str())?;
+    fn carry_out(&mut self, change: &Change, reply: &Reply, page: &mut Page) {
+        if self.apply(change, page) {
+            push_text(reply_text(page.alloc(), reply), page);
         } else {
-            answer.push_str("not allowed")?;
+            page.push_str("not allowed");
         }
-        Ok(())
     }
 
     /// Writes what a command needs, and what it is answered with what was seen. The state is changed as it says.
-    pub fn obey(
-        &mut self,
-        alloc: Global,
-        command: &Command,
-        seen: Seen,
-        answer: &mut String,
-    ) -> Result<(), NoMemory>
+    pub fn obey(&mut self, command: &Command, seen: Seen, page: &mut Page)
         requires { IsInBounds command.now }
     {
         let need = judge(&self.state, command);
-        write_need(answer, need)?;
+        write_need(need, page);
         if !fits(&self.state, &need, seen) {
-            return Ok(answer.push_str("unfit")?);
+            return page.push_str("unfit");
         }
-        let (change, reply) = plan_change(alloc, &self.state, command, &seen)?;
-        self.carry_out(alloc, &change, &reply, answer)
+        match plan_change(page.alloc(), &self.state, command, &seen) {
+            Ok((change, reply)) => self.carry_out(&change, &reply, page),
+            Err(_) => page.spoil(),
+        }
     }
 
     /// The floor of a key.

@@ -6,12 +6,12 @@ ghost use Rattle.frame_shield.specs.Binding.{IsBinding};
 ghost use Rattle.frame_shield.specs.Opens.{CarriesIndex};
 
 use aes_block::Schedule;
+use case_lines::Words;
 use frame_shield::{
     AnyLayout, Binding, FRAME_ROOM, Link, Mask, Opened, ShieldFault, fits, shield, unshield,
 };
 use sdls_base::{AosLayout, KeyId, Spi, Suite, TcLayout, TmLayout};
 use sdls_header::read_spi;
-use std::str::SplitWhitespace;
 
 /// The key of the examples of SP 800-38B.
 const CMAC_KEY: [u8; 16] = *b"\x2b\x7e\x15\x16\x28\xae\xd2\xa6\xab\xf7\x15\x88\x09\xcf\x4f\x3c";
@@ -21,7 +21,7 @@ const GCM_KEY: [u8; 16] = *b"\x00\x01\x02\x03\x04\x05\x06\x07\x08\x09\x0a\x0b\x0
 /// What stands in octets that are not written.
 pub const UNTOUCHED: u8 = 0x55;
 
-fn tc_link(words: &mut SplitWhitespace<'_>) -> Link
+fn tc_link(words: &mut Words<'_>) -> Link
     ensures { IsLink result }
 {
     let segment = case_lines::flag(words);
@@ -36,14 +36,14 @@ fn tc_link(words: &mut SplitWhitespace<'_>) -> Link
 }
 
 /// The layout of TM frames that the words say: `LENGTH FECF`.
-pub fn tm_layout(words: &mut SplitWhitespace<'_>) -> TmLayout {
+pub fn tm_layout(words: &mut Words<'_>) -> TmLayout {
     TmLayout {
         length: case_lines::short(words).unwrap_or(0),
         fecf: case_lines::flag(words),
     }
 }
 
-fn tm_link(words: &mut SplitWhitespace<'_>) -> Option<Link>
+fn tm_link(words: &mut Words<'_>) -> Option<Link>
     ensures { IfSome result IsLink }
 {
     let layout = tm_layout(words);
@@ -70,7 +70,7 @@ fn aos_mask(word: Option<&str>) -> Mask
 }
 
 /// The layout of AOS frames that the words say: `LENGTH INSERT OCF FECF`.
-pub fn aos_layout(words: &mut SplitWhitespace<'_>) -> AosLayout {
+pub fn aos_layout(words: &mut Words<'_>) -> AosLayout {
     AosLayout {
         length: case_lines::short(words).unwrap_or(0),
         insert: case_lines::octet(words).unwrap_or(0),
@@ -79,7 +79,7 @@ pub fn aos_layout(words: &mut SplitWhitespace<'_>) -> AosLayout {
     }
 }
 
-fn aos_link(words: &mut SplitWhitespace<'_>) -> Option<Link>
+fn aos_link(words: &mut Words<'_>) -> Option<Link>
     ensures { IfSome result IsLink }
 {
     let layout = aos_layout(words);
@@ -94,7 +94,7 @@ fn aos_link(words: &mut SplitWhitespace<'_>) -> Option<Link>
 }
 
 /// The link that the words say, none where it lies outside the bounds.
-fn link(words: &mut SplitWhitespace<'_>) -> Option<Link>
+fn link(words: &mut Words<'_>) -> Option<Link>
     ensures { IfSome result IsLink }
 {
     match words.next() {
@@ -106,7 +106,7 @@ fn link(words: &mut SplitWhitespace<'_>) -> Option<Link>
 }
 
 /// The binding that the words say: suite, index and link.
-pub fn binding(words: &mut SplitWhitespace<'_>, device: [u8; 4]) -> Option<Binding>
+pub fn binding(words: &mut Words<'_>, device: [u8; 4]) -> Option<Binding>
     ensures { IfSome result IsBinding }
 {
     let suite = case_lines::suite(words).unwrap_or(Suite::Cmac);

@@ -5,9 +5,9 @@ ghost use Rattle.unit_state.specs.Restart.{IsLight};
 
 use crate::scenario::Scenario;
 use crate::{cases, changes, commands, frames, messages, showing};
-use case_lines::{Gathered, Steps, number_at};
-use sdls_base::{Change, NoMemory};
-use std::alloc::{AllocError, Global};
+use case_lines::{Answers, Gathered, Page, number_at};
+use sdls_base::Change;
+use std::alloc::Global;
 use unit_plan::{Plan, PlanError};
 use unit_state::State;
 
@@ -16,103 +16,70 @@ fn allowed_word(allowed: bool) -> &'static str {
 }
 
 /// Makes a change of numbers, if there is one that the state allows.
-fn move_numbers(
-    scenario: &mut Scenario,
-    change: Option<Change>,
-    answer: &mut String,
-) -> Result<(), NoMemory>
+fn move_numbers(scenario: &mut Scenario, change: Option<Change>, page: &mut Page)
     requires { IfSome change IsLight }
 {
     let allowed = match change {
         Some(change) => scenario.apply_here(&change),
         None => false,
     };
-    Ok(answer.push_str(allowed_word(allowed))?)
+    page.push_str(allowed_word(allowed));
 }
 
 /// Makes a change in words, if the state allows it.
-fn make(
-    alloc: Global,
-    scenario: &mut Scenario,
-    words: &str,
-    answer: &mut String,
-) -> Result<(), NoMemory> {
-    let made = match changes::read(alloc, words) {
-        Some(change) => allowed_word(scenario.apply(&change)?),
+fn make(scenario: &mut Scenario, words: &str, page: &mut Page) {
+    let made = match changes::read(words, page) {
+        Some(change) => allowed_word(scenario.apply(&change, page)),
         None => "no change",
     };
-    Ok(write!(answer, "{words}: {made}")?)
+    write!(page, "{words}: {made}");
 }
 
 /// Loads eight keys, the first with this number, if the state allows it, and returns whether it does.
-fn load_eight(alloc: Global, scenario: &mut Scenario, first: u16) -> Result<bool, NoMemory> {
-    let load = changes::eight_keys(alloc, first)?;
-    scenario.apply(&load)
+fn load_eight(scenario: &mut Scenario, first: u16, page: &mut Page) -> bool {
+    let load = changes::eight_keys(first, page);
+    scenario.apply(&load, page)
 }
 
 /// Makes so many loads of eight keys each, the first from this key on, and writes how many the state allows: `FIRST
 /// COUNT`.
-fn load_eights(
-    alloc: Global,
-    scenario: &mut Scenario,
-    words: &str,
-    answer: &mut String,
-) -> Result<(), NoMemory> {
+fn load_eights(scenario: &mut Scenario, words: &str, page: &mut Page) {
     let mut first = u16::try_from(number_at(words, 0)).unwrap_or(0);
     let wanted = number_at(words, 1);
     let mut count = 0u32;
     for _ in 0..wanted {
-        if load_eight(alloc, scenario, first)? {
+        if load_eight(scenario, first, page) {
             count = count.wrapping_add(1);
         }
         first = first.wrapping_add(8);
     }
-    Ok(write!(answer, "{count} loads of {wanted}")?)
+    write!(page, "{count} loads of {wanted}");
 }
 
-fn copy(scenario: &mut Scenario, answer: &mut String) -> Result<(), NoMemory> {
-    scenario.take_copy()?;
-    Ok(answer.push_str("copied")?)
+fn copy(scenario: &mut Scenario, page: &mut Page) {
+    scenario.take_copy(page);
+    page.push_str("copied");
 }
 
-fn restart(scenario: &mut Scenario, answer: &mut String) -> Result<(), NoMemory> {
+fn restart(scenario: &mut Scenario, page: &mut Page) {
     scenario.restart();
-    Ok(answer.push_str("restarted")?)
+    page.push_str("restarted");
 }
 
-/// Makes what a step names of a state without a frame or a message, and writes what it answers.
-fn change(
-    alloc: Global,
-    scenario: &mut Scenario,
-    word: &str,
-    rest: &str,
-    answer: &mut String,
-) -> Result<(), NoMemory> {
+/// Does a step on a state, and writes what it answers.
+fn step_on_state(scenario: &mut Scenario, word: &str, rest: &str, page: &mut Page) {
     let mut words = rest.split_whitespace();
     match word {
-        "change" => make(alloc, scenario, rest, answer),
-        "loads" => load_eights(alloc, scenario, rest, answer),
-        "marks" => move_numbers(scenario, changes::marks(&mut words), answer),
-        "accepted" => move_numbers(scenario, changes::accepted(&mut words), answer),
-        "copy" => copy(scenario, answer),
-        "restart" => restart(scenario, answer),
-        _ => showing::write_state(scenario, answer),
-    }
-}
-
-/// Writes what a step on a state answers.
-fn step_on_state(
-    alloc: Global,
-    scenario: &mut Scenario,
-    word: &str,
-    rest: &str,
-    answer: &mut String,
-) -> anyhow::Result<()> {
-    match word {
-        "do" => commands::obey(alloc, scenario, rest, answer),
-        "receive" => frames::answer_frame(alloc, scenario, rest, answer),
-        "send" => frames::answer_clear(alloc, scenario, rest, answer),
-        _ => Ok(change(alloc, scenario, word, rest, answer)?),
+        "do" => commands::obey(scenario, rest, page),
+        "receive" => frames::answer_frame(scenario, rest, page),
+        "send" => frames::answer_clear(scenario, rest, page),
+        "change" => make(scenario, rest, page),
+        "loads" => load_eights(scenario, rest, page),
+        "marks" => move_numbers(scenario, changes::marks(&mut words), page),
+        "accepted" => move_numbers(scenario, changes::accepted(&mut words), page),
+        "copy" => copy(scenario, page),
+        "restart" => restart(scenario, page),
+        _ => showing::write_state(scenario, page),
     }
 }
 
@@ -147,54 +114,38 @@ impl Table {
     }
 
     /// Begins a scenario, and writes what is wrong with the lines if there is none.
-    fn begin(&mut self, alloc: Global, answer: &mut String) -> Result<(), AllocError> {
-        let begun = self.take_plan(alloc);
-        self.plan.clear();
-        match begun {
-            Ok(()) => answer.push_str("begun"),
-            Err(fault) => write!(answer, "{fault}"),
+    fn begin(&mut self, page: &mut Page) {
+        match self.take_plan(page.alloc()) {
+            Ok(()) => page.push_str("begun"),
+            Err(fault) => write!(page, "{fault}"),
         }
+        self.plan.clear();
     }
 
-    /// Writes what a step on the state answers, or that there is none.
-    fn step_on_scenario(
-        &mut self,
-        alloc: Global,
-        word: &str,
-        rest: &str,
-        answer: &mut String,
-    ) -> anyhow::Result<()> {
+    /// Does a step on the state, and writes what it answers, or that there is none.
+    fn step_on_scenario(&mut self, word: &str, rest: &str, page: &mut Page) {
         match &mut self.scenario {
-            Some(scenario) => step_on_state(alloc, scenario, word, rest, answer),
-            None => Ok(write!(answer, "{word}: no state")?),
+            Some(scenario) => step_on_state(scenario, word, rest, page),
+            None => write!(page, "{word}: no state"),
         }
     }
 }
 
 /// Writes a case, and what it answers.
-fn answer_case(
-    alloc: Global,
-    line: &str,
-    word: &str,
-    rest: &str,
-    answer: &mut String,
-) -> anyhow::Result<()> {
-    write!(answer, "{line}: ")?;
-    cases::answer(alloc, word, rest, answer)
+fn answer_case(line: &str, word: &str, rest: &str, page: &mut Page) {
+    write!(page, "{line}: ");
+    cases::answer(word, rest, page);
 }
 
-impl Steps for Table {
-    fn step(&mut self, alloc: Global, line: &str, answer: &mut String) -> anyhow::Result<()> {
+impl Answers for Table {
+    fn answer(&mut self, line: &str, page: &mut Page) {
         let (word, rest) = line.split_once(' ').unwrap_or((line, ""));
         match word {
-            "plan" => Ok(self.plan.push(rest)?),
-            "begin" => Ok(self.begin(alloc, answer)?),
-            "command" | "reply" | "cuts" => messages::answer(alloc, word, rest, answer),
-            "lengths" => Ok(messages::answer_lengths(alloc, rest, answer)?),
-            _ if STEPS_ON_STATE.contains(&word) => {
-                self.step_on_scenario(alloc, word, rest, answer)
-            }
-            _ => answer_case(alloc, line, word, rest, answer),
+            "plan" => page.check(self.plan.push(rest)),
+            "begin" => self.begin(page),
+            "command" | "reply" | "cuts" | "lengths" => messages::answer(word, rest, page),
+            _ if STEPS_ON_STATE.contains(&word) => self.step_on_scenario(word, rest, page),
+            _ => answer_case(line, word, rest, page),
         }
     }
 }
