@@ -4,11 +4,15 @@ use crate::meeting::STOP;
 use crate::runs::life;
 use crate::waits::Flag;
 use crate::watch::Watch;
-use case_units::{BEGINNING, TELECOMMAND, TWO_SENDERS, image_of_sender, joined};
+use case_units::{BEGINNING, FENCE, TELECOMMAND, TWO_SENDERS, image_of_sender, joined};
 use sdls_outside::MemSite;
 use sdls_run::Gate;
 use sdls_run::status::DONE;
+use std::alloc::Global;
+use std::process::Abort;
+use std::sync::Wait;
 use std::test::Fail;
+use std::thread::Threads;
 
 /// Where two lanes and the site are.
 #[derive(Drop)]
@@ -69,17 +73,17 @@ impl Gate for Storing {
     }
 }
 
-/// Lane 0 protects two frames, and lane 1 stops an association of another channel between them. While the stop is being
-/// stored, under the turn, the second frame is protected: it needs the permit of the first, since a new one would need
-/// the turn.
-#[test]
-fn a_lane_with_a_permit_takes_no_turn(rt: HostRuntime) -> Result<(), Fail> {
-    let alloc = rt.alloc();
-    let input = joined(alloc, &[BEGINNING, TELECOMMAND, STOP, TELECOMMAND])?;
+/// Whether the second frame of lane 0 is protected while the stop of lane 1 is being stored, under the turn.
+fn takes_no_turn<R: Threads + Wait + Sync + Abort>(
+    rt: &R,
+    alloc: Global,
+    pieces: &[&[u8]],
+) -> Result<(), Fail> {
+    let input = joined(alloc, pieces)?;
     let image = image_of_sender(alloc, 16, 64, TWO_SENDERS).ok_or("no image")?;
     let storing = Storing::new();
     let site = MemSite::new(alloc, image, Vec::new(alloc), None);
-    let (status, entries, site) = life(&rt, alloc, input, site, &Watch::Storing(&storing))?;
+    let (status, entries, site) = life(rt, alloc, input, site, &Watch::Storing(&storing))?;
     assert!(rt; storing.has_held());
     // a reserve, the stop, and a release
     assert_eq!(rt; (status, entries), (DONE, 3));
@@ -90,4 +94,26 @@ fn a_lane_with_a_permit_takes_no_turn(rt: HostRuntime) -> Result<(), Fail> {
     let wanted = [(0x00, 0, 1), (0x03, 2, 0), (0x00, 0, 2), (0xff, 3, 0)];
     assert!(rt; found.eq(wanted));
     Ok(())
+}
+
+/// Lane 0 protects two frames, and lane 1 stops an association of another channel between them. While the stop is being
+/// stored, under the turn, the second frame is protected: it needs the permit of the first, since a new one would need
+/// the turn.
+#[test]
+fn a_lane_with_a_permit_takes_no_turn(rt: HostRuntime) -> Result<(), Fail> {
+    takes_no_turn(
+        &rt,
+        rt.alloc(),
+        &[BEGINNING, TELECOMMAND, STOP, TELECOMMAND],
+    )
+}
+
+/// So it is if the first frame is of the segment before.
+#[test]
+fn a_permit_passes_to_the_next_segment(rt: HostRuntime) -> Result<(), Fail> {
+    takes_no_turn(
+        &rt,
+        rt.alloc(),
+        &[BEGINNING, TELECOMMAND, FENCE, STOP, TELECOMMAND],
+    )
 }
