@@ -7,10 +7,8 @@
 
 mod cipher;
 mod expansion;
-mod octet;
-mod round;
 mod schedule;
 mod substitution;
 
-pub use octet::inverse_is_inverse;
 pub use schedule::{KeyLength, Schedule};
+pub use substitution::inverse_is_inverse;

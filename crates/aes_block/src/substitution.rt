@@ -1,9 +1,10 @@
 // The S-box by look-ups in tables of sixteen octets (FIPS 197, 5.1.1; M. Hamburg, Accelerating AES with Vector Permute
 // Instructions, 2009). A look-up is a shuffle within a vector, so no address depends on an octet.
 
-ghost use Rattle.std.specs.Prelude.{◌≡◌, ℕ, T, map, bit_xor};
+// Octets as elements of GF(2^8) (FIPS 197, 4.2 and 5.1.1).
+ghost use Rattle.std.specs.Prelude.{◌≡◌, ℕ, T, map, bit_xor, ◌<◌};
 ghost use Rattle.std.specs.Simd.Lanes.{Each1};
-ghost use Rattle.aes_block.specs.Aes.{sub_byte};
+ghost use Rattle.aes_block.specs.Aes.{sub_byte, inverse, octet_product};
 ghost use Rattle.aes_block.specs.Basis.{element, first_place, is_place, look, second_place, sub_linear};
 ghost use Rattle.aes_block.specs.Basis.{sub_linear_doubled};
 
@@ -111,3 +112,8 @@ pub fn sub_bytes(octets: u8x16) -> u8x16
 {
     sub_octets(on_basis(octets)) ^ u8x16::splat(0x63)
 }
+
+/// Law: each octet but 0 times its inverse is 1.
+pub fn inverse_is_inverse()
+    ensures { (a : ℕ) → 0 < a → a < 256 → octet_product a (inverse a) ≡ 1 }
+{}

@@ -4,8 +4,8 @@ use Rattle.std.proofs.lemmas.List.{append-nil}
 use Rattle.std.specs.Fmt.{decimal}
 use Rattle.std.specs.Prelude.{codes}
 use Rattle.sdls_base.specs.Places.{number_at}
-use Rattle.record_io.specs.declared.codes.AnswerCode.{AnswerCode}
-use Rattle.record_io.specs.declared.codes.AnswerCode.TheVariants.{End}
+use Rattle.record_io.specs.declared.code.AnswerCode.{AnswerCode}
+use Rattle.record_io.specs.declared.code.AnswerCode.TheVariants.{End}
 use Rattle.answer_text.specs.declared.form.Form.{Form}
 use Rattle.answer_text.specs.declared.form.Form.TheVariants.{Words, Json}
 use Rattle.record_io.specs.declared.answers.Answer.{Answer}

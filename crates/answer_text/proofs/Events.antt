@@ -4,7 +4,7 @@ use Rattle.std.proofs.Common.{append_assoc}
 use Rattle.std.specs.Prelude.{◌&&◌, codes}
 use Rattle.std.proofs.lemmas.List.{length-drop}
 use Rattle.sdls_base.specs.Places.{octet_at}
-use Rattle.fsr_log.specs.declared.events.Event.{Event}
+use Rattle.fsr_log.specs.declared.kinds.Event.{Event}
 use Rattle.fsr_log.specs.Kinds.{is_event}
 use Rattle.answer_text.specs.Part.{event_at, event_object, event_words, events_words, further_events}
 use Rattle.answer_text.specs.Monitor.{are_events}

@@ -19,11 +19,11 @@ use Rattle.ep_codec.specs.declared.reply_pdu.ReplyPdu.{ReplyPdu}
 use Rattle.ep_codec.specs.declared.reply_pdu.ReplyPdu.TheVariants as replies
 use Rattle.replay_window.specs.WindowField.{back_of}
 use Rattle.record_io.specs.declared.answers.Answer.{Answer}
-use Rattle.record_io.specs.declared.codes.AnswerCode.{AnswerCode}
-use Rattle.record_io.specs.declared.codes.AnswerCode.TheVariants.{Protected, Accepted, Clear, Done, Refused, Monitored}
-use Rattle.record_io.specs.declared.codes.AnswerCode.TheVariants.{MonitorFault, Layout, Channel, Spi, Direction, State}
-use Rattle.record_io.specs.declared.codes.AnswerCode.TheVariants.{Coverage, Mac, Number, Exhausted, SiteFault, Stopped}
-use Rattle.record_io.specs.declared.codes.AnswerCode.TheVariants.{NoMemory, End}
+use Rattle.record_io.specs.declared.code.AnswerCode.{AnswerCode}
+use Rattle.record_io.specs.declared.code.AnswerCode.TheVariants.{Protected, Accepted, Clear, Done, Refused, Monitored}
+use Rattle.record_io.specs.declared.code.AnswerCode.TheVariants.{MonitorFault, Layout, Channel, Spi, Direction, State}
+use Rattle.record_io.specs.declared.code.AnswerCode.TheVariants.{Coverage, Mac, Number, Exhausted, SiteFault, Stopped}
+use Rattle.record_io.specs.declared.code.AnswerCode.TheVariants.{NoMemory, End}
 use Rattle.answer_text.specs.Code.{code_word, word_of, layout_details, state_details, refusal_details, end_numbers}
 use Rattle.record_io.specs.Codes.{code_at}
 use Rattle.answer_text.specs.Part.{Part, word_of_code}

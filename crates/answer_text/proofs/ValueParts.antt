@@ -2,11 +2,11 @@
 use Rattle.std.proofs.Common.{◌≡◌, ◌∷◌, [], ◌++◌, ℕ, List, Option, Some, None}
 use Rattle.std.specs.Prelude.{IsSomeAnd, MatchOption, codes}
 use Rattle.record_io.specs.declared.answers.Answer.{Answer}
-use Rattle.record_io.specs.declared.codes.AnswerCode.{AnswerCode}
-use Rattle.record_io.specs.declared.codes.AnswerCode.TheVariants.{Protected, Accepted, Clear, Done, Refused, Monitored}
-use Rattle.record_io.specs.declared.codes.AnswerCode.TheVariants.{MonitorFault, Layout, Channel, Spi, Direction, State}
-use Rattle.record_io.specs.declared.codes.AnswerCode.TheVariants.{Coverage, Mac, Number, Exhausted, SiteFault, Stopped}
-use Rattle.record_io.specs.declared.codes.AnswerCode.TheVariants.{NoMemory, End}
+use Rattle.record_io.specs.declared.code.AnswerCode.{AnswerCode}
+use Rattle.record_io.specs.declared.code.AnswerCode.TheVariants.{Protected, Accepted, Clear, Done, Refused, Monitored}
+use Rattle.record_io.specs.declared.code.AnswerCode.TheVariants.{MonitorFault, Layout, Channel, Spi, Direction, State}
+use Rattle.record_io.specs.declared.code.AnswerCode.TheVariants.{Coverage, Mac, Number, Exhausted, SiteFault, Stopped}
+use Rattle.record_io.specs.declared.code.AnswerCode.TheVariants.{NoMemory, End}
 use Rattle.answer_text.specs.declared.error.TextError.{TextError}
 use Rattle.answer_text.specs.declared.error.TextError.TheVariants as errors
 use Rattle.answer_text.specs.declared.form.Form.{Form}

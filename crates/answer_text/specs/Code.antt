@@ -4,11 +4,11 @@ use Rattle.sdls_base.specs.declared.states.SaState.TheVariants.{Unkeyed, Keyed, 
 use Rattle.text_words.specs.Words.{sa_state_word}
 use Rattle.record_io.specs.declared.status.TheConstants.{MALFORMED, NO_STATE, SOURCE_FAULT}
 use Rattle.record_io.specs.declared.status.TheConstants as statuses
-use Rattle.record_io.specs.declared.codes.AnswerCode.{AnswerCode}
-use Rattle.record_io.specs.declared.codes.AnswerCode.TheVariants.{Protected, Accepted, Clear, Done, Refused, Layout}
-use Rattle.record_io.specs.declared.codes.AnswerCode.TheVariants.{Monitored, MonitorFault}
-use Rattle.record_io.specs.declared.codes.AnswerCode.TheVariants.{Channel, Spi, Direction, State, Coverage, Mac, Number}
-use Rattle.record_io.specs.declared.codes.AnswerCode.TheVariants.{Exhausted, SiteFault, Stopped, NoMemory, End}
+use Rattle.record_io.specs.declared.code.AnswerCode.{AnswerCode}
+use Rattle.record_io.specs.declared.code.AnswerCode.TheVariants.{Protected, Accepted, Clear, Done, Refused, Layout}
+use Rattle.record_io.specs.declared.code.AnswerCode.TheVariants.{Monitored, MonitorFault}
+use Rattle.record_io.specs.declared.code.AnswerCode.TheVariants.{Channel, Spi, Direction, State, Coverage, Mac, Number}
+use Rattle.record_io.specs.declared.code.AnswerCode.TheVariants.{Exhausted, SiteFault, Stopped, NoMemory, End}
 
 abbrev pub code_word : AnswerCode → List ℕ
 code_word Protected = codes "protected"

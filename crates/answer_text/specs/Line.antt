@@ -6,11 +6,11 @@ use Rattle.ep_codec.specs.declared.reply_pdu.ReplyPdu.{ReplyPdu}
 use Rattle.ep_codec.specs.ReplyPdu.{IsReplyPdu}
 use Rattle.sdls_base.specs.Places.{number_at}
 use Rattle.record_io.specs.declared.status.TheConstants.{SESSION_FULL}
-use Rattle.record_io.specs.declared.codes.AnswerCode.{AnswerCode}
-use Rattle.record_io.specs.declared.codes.AnswerCode.TheVariants.{Protected, Accepted, Clear, Done, Refused, Layout}
-use Rattle.record_io.specs.declared.codes.AnswerCode.TheVariants.{Monitored, MonitorFault}
-use Rattle.record_io.specs.declared.codes.AnswerCode.TheVariants.{Channel, Spi, Direction, State, Coverage, Mac, Number}
-use Rattle.record_io.specs.declared.codes.AnswerCode.TheVariants.{Exhausted, SiteFault, Stopped, NoMemory, End}
+use Rattle.record_io.specs.declared.code.AnswerCode.{AnswerCode}
+use Rattle.record_io.specs.declared.code.AnswerCode.TheVariants.{Protected, Accepted, Clear, Done, Refused, Layout}
+use Rattle.record_io.specs.declared.code.AnswerCode.TheVariants.{Monitored, MonitorFault}
+use Rattle.record_io.specs.declared.code.AnswerCode.TheVariants.{Channel, Spi, Direction, State, Coverage, Mac, Number}
+use Rattle.record_io.specs.declared.code.AnswerCode.TheVariants.{Exhausted, SiteFault, Stopped, NoMemory, End}
 use Rattle.answer_text.specs.declared.error.TextError.{TextError}
 use Rattle.answer_text.specs.declared.error.TextError.TheVariants as errors
 use Rattle.answer_text.specs.declared.form.Form.{Form}

@@ -7,7 +7,7 @@ use Rattle.record_io.specs.declared.code.TheConstants.{END}
 use Rattle.record_io.specs.Answers.{Cut, EndsWith, answer_octets}
 use Rattle.answer_text.specs.declared.listing.AnswersEnd.{AnswersEnd}
 use Rattle.answer_text.specs.declared.listing.AnswersEnd.TheVariants.{Whole, CutAt, NoAnswerAt, SourceFault, NoMemory}
-use Rattle.record_io.specs.declared.answer_cursor.NextAnswer.TheVariants.{Long}
+use Rattle.record_io.specs.declared.answers.NextAnswer.TheVariants.{Long}
 use Rattle.record_io.specs.NextAnswer.{Stands}
 use Rattle.answer_text.specs.declared.form.Form.{Form}
 use Rattle.answer_text.specs.Line.{HasLine, IsOfFormats}

@@ -3,7 +3,7 @@ use Rattle.std.specs.Prelude.{ℕ, zero, suc, ◌+◌, ◌-◌, ◌*◌, ◌/◌
 use Rattle.std.specs.Prelude.{List, [], ◌∷◌, drop, take, length, Option, Some, None, if◌then◌else◌}
 use Rattle.sdls_base.specs.Places.{octet_at, word_at}
 use Rattle.fsr_log.specs.declared.messages.TheConstants.{PING, LOG_STATUS, DUMP_LOG, ERASE_LOG, SELF_TEST, ALARM_RESET}
-use Rattle.fsr_log.specs.declared.replies.TheConstants.{REPLY, REPORT_WORD}
+use Rattle.fsr_log.specs.declared.messages.TheConstants.{REPLY, REPORT_WORD}
 use Rattle.fsr_log.specs.Kinds.{is_event}
 use Rattle.text_words.specs.declared.names.MessageName.{MessageName}
 use Rattle.text_words.specs.declared.names.MessageName.TheVariants.{Ping, LogStatus, DumpLog, EraseLog, SelfTest}

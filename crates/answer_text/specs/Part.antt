@@ -6,8 +6,8 @@ use Rattle.sdls_base.specs.declared.states.KeyState.{KeyState}
 use Rattle.text_words.specs.Members.{member, quoted}
 use Rattle.text_words.specs.Words.{octets_word, key_state_word, spaced}
 use Rattle.sdls_base.specs.Places.{number_at, octet_at}
-use Rattle.fsr_log.specs.declared.events.Event.{Event}
-use Rattle.record_io.specs.declared.codes.AnswerCode.{AnswerCode}
+use Rattle.fsr_log.specs.declared.kinds.Event.{Event}
+use Rattle.record_io.specs.declared.code.AnswerCode.{AnswerCode}
 use Rattle.answer_text.specs.Code.{code_word}
 use Rattle.record_io.specs.Codes.{code_at}
 use Rattle.answer_text.specs.declared.form.Form.{Form}

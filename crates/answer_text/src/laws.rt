@@ -1,13 +1,13 @@
 //! What holds of each line in JSON.
+ghost use Rattle.hex.specs.Hex.{encode_lower};
 ghost use Rattle.std.specs.Prelude.{◌≡◌, ℕ, ◌<◌, List, IsTrue};
 ghost use Rattle.std.specs.List.{All};
-ghost use Rattle.hex.specs.Hex.{encode_lower};
-ghost use Rattle.record_io.specs.declared.answers.Answer.{Answer};
-ghost use Rattle.record_io.specs.declared.codes.AnswerCode.{AnswerCode};
 ghost use Rattle.answer_text.specs.Code.{code_word};
 ghost use Rattle.answer_text.specs.Part.{Part};
 ghost use Rattle.answer_text.specs.Line.{HasValues};
 ghost use Rattle.answer_text.specs.Plain.{are_plain_parts, is_plain_text};
+ghost use Rattle.record_io.specs.declared.answers.Answer.{Answer};
+ghost use Rattle.record_io.specs.declared.code.AnswerCode.{AnswerCode};
 
 /// Law: each string of a line in JSON, be it a name, a word or the digits of octets, has letters, digits and hyphens
 /// alone, so that none of its octets needs an escape.

@@ -2,7 +2,7 @@
 #![tactic(auto, unfolding(crate::specs::Line::HasValues))]
 
 ghost use Rattle.std.specs.Prelude.{◌≡◌, ◌≤◌, ◌++◌, ◌∷◌, [], ◌↔◌, IsTrue, OnOk, IfErr, drop, length};
-ghost use Rattle.record_io.specs.declared.codes.AnswerCode.TheVariants as codes;
+ghost use Rattle.record_io.specs.declared.code.AnswerCode.TheVariants as codes;
 ghost use Rattle.answer_text.specs.Part.{Part, parts_text};
 ghost use Rattle.answer_text.specs.Line.{HasValues, IsBare, IsCounting, IsPlain, LacksUnlessNoMemory, LacksValues};
 ghost use Rattle.answer_text.specs.Line.{counting_parts, done_parts, drawn, monitored_parts, numbered, window_parts};

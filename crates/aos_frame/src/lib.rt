@@ -5,12 +5,9 @@
 //! field of the security header, the data and the security trailer stand in the room between prefix and trailer fields.
 #![tactic(auto)]
 
-mod header;
-mod parts;
-mod reading;
-mod writing;
+mod frame;
 
-pub use header::{is_idle, lacks_header, spacecraft_of, virtual_channel_of};
-pub use parts::Parts;
-pub use reading::{fault_of, read, take_apart};
-pub use writing::write;
+pub use frame::{
+    Parts, fault_of, is_idle, lacks_header, read, spacecraft_of, take_apart, virtual_channel_of,
+    write,
+};

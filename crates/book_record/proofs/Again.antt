@@ -17,10 +17,10 @@ use Rattle.sdls_base.specs.Code.{key_state_code, new_state_code, direction_code,
 use Rattle.sdls_base.specs.Spelling.{item_octets, association_octets}
 use Rattle.sdls_base.proofs.Codes.{key_state_again, new_state_again, direction_again, suite_again}
 use Rattle.sdls_base.proofs.PlaceFacts.{word_in_front}
-use Rattle.sdls_base.specs.declared.change.Change.{Change}
-use Rattle.sdls_base.specs.declared.change.Change.TheVariants.{Marks, Load, KeyStates, Create, Rekey, SaTo, SetNumber}
-use Rattle.sdls_base.specs.declared.change.Change.TheVariants.{SetWindow, Accepted, Nothing}
-use Rattle.sdls_base.specs.declared.key_item.KeyItem.{KeyItem}
+use Rattle.sdls_base.specs.declared.entry.Change.{Change}
+use Rattle.sdls_base.specs.declared.entry.Change.TheVariants.{Marks, Load, KeyStates, Create, Rekey, SaTo, SetNumber}
+use Rattle.sdls_base.specs.declared.entry.Change.TheVariants.{SetWindow, Accepted, Nothing}
+use Rattle.sdls_base.specs.declared.key_id.KeyItem.{KeyItem}
 use Rattle.sdls_base.specs.declared.states.Direction.{Direction}
 use Rattle.sdls_base.specs.declared.states.Direction.TheVariants.{Send, Receive}
 use Rattle.sdls_base.specs.declared.states.Suite.{Suite}
@@ -29,10 +29,10 @@ use Rattle.sdls_base.specs.declared.states.KeyState.{KeyState}
 use Rattle.sdls_base.specs.declared.states.KeyState.TheVariants.{PreActive, Active, Deactivated, Destroyed}
 use Rattle.sdls_base.specs.declared.states.SaState.{SaState}
 use Rattle.sdls_base.specs.declared.states.SaState.TheVariants.{Unkeyed, Keyed, Operational}
-use Rattle.book_record.specs.declared.kind.Kind.{Kind}
-use Rattle.book_record.specs.declared.kind.Kind.TheVariants as kinds
-use Rattle.book_record.specs.declared.record_error.RecordError.{RecordError}
-use Rattle.book_record.specs.declared.record_error.RecordError.TheVariants.{Malformed, NoMemory}
+use Rattle.book_record.specs.declared.data.Kind.{Kind}
+use Rattle.book_record.specs.declared.data.Kind.TheVariants as kinds
+use Rattle.book_record.specs.declared.data.RecordError.{RecordError}
+use Rattle.book_record.specs.declared.data.RecordError.TheVariants.{Malformed, NoMemory}
 use Rattle.book_record.specs.Kind.{kind_of}
 use Rattle.book_record.specs.Record.{body_of, record_octets, HasRecord, HasTypes, IsRecord, IsKey, IsSpi}
 use Rattle.sdls_base.specs.Places.{octet_at, word_at, number_at}

@@ -4,7 +4,7 @@ use Rattle.std.proofs.lemmas.List.Elements.{recursion_from_All}
 use Rattle.std.specs.List.{flat_map, All, AllByRecursion}
 use Rattle.std.specs.Int.{w16, to_be_bytes}
 use Rattle.sdls_base.specs.Bounds.{IsKeyLength}
-use Rattle.sdls_base.specs.declared.key_item.KeyItem.{KeyItem}
+use Rattle.sdls_base.specs.declared.key_id.KeyItem.{KeyItem}
 use Rattle.sdls_base.specs.Spelling.{item_octets}
 
 pub keys_length : (keys : List ℕ) → length (flat_map (to_be_bytes w16) keys) ≡ 2 * length keys

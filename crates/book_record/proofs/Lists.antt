@@ -7,9 +7,9 @@ use Rattle.std.proofs.Math.Seq.{take-suc}
 use Rattle.std.proofs.lemmas.List.{flat_map_more, length-take-le, length-drop}
 use Rattle.std.proofs.lemmas.List.Elements.{All-append, All-from_recursion}
 use Rattle.sdls_base.specs.Bounds.{IsKeyLength}
-use Rattle.book_record.specs.declared.record_error.RecordError.{RecordError}
-use Rattle.book_record.specs.declared.record_error.RecordError.TheVariants.{Malformed, NoMemory}
-use Rattle.sdls_base.specs.declared.key_item.KeyItem.{KeyItem}
+use Rattle.book_record.specs.declared.data.RecordError.{RecordError}
+use Rattle.book_record.specs.declared.data.RecordError.TheVariants.{Malformed, NoMemory}
+use Rattle.sdls_base.specs.declared.key_id.KeyItem.{KeyItem}
 use Rattle.book_record.specs.Record.{IsKey}
 use Rattle.sdls_base.specs.Places.{octet_at, word_at}
 use Rattle.book_record.specs.Reading.{HasCause, keys_in, AreKeys, item_at, IsItem, behind_item, items_in, AreItems}

@@ -16,10 +16,10 @@ use Rattle.sdls_base.specs.declared.states.KeyState.{KeyState}
 use Rattle.sdls_base.specs.declared.states.KeyState.TheVariants.{PreActive, Active, Deactivated, Destroyed}
 use Rattle.sdls_base.specs.declared.states.SaState.{SaState}
 use Rattle.sdls_base.specs.declared.states.SaState.TheVariants.{Unkeyed, Keyed, Operational}
-use Rattle.book_record.specs.declared.layout.TheConstants.{KEY_ROW_LENGTH, SA_ROW_LENGTH, KEY_ROOM, CHANNEL_ROOM}
+use Rattle.book_record.specs.declared.data.TheConstants.{KEY_ROW_LENGTH, SA_ROW_LENGTH, KEY_ROOM, CHANNEL_ROOM}
 use Rattle.key_book.specs.declared.key_row.KeyRow.{KeyRow}
 use Rattle.replay_window.proofs.Fields.{window_field-parts}
-use Rattle.book_record.specs.declared.sa_parts.SaParts.{SaParts}
+use Rattle.book_record.specs.declared.sa_rows.SaParts.{SaParts}
 use Rattle.book_record.specs.Padded.{padded}
 use Rattle.book_record.specs.KeyParts.{key_row_octets, IsRowKeyLength, HasKeyTypes, AreKeyRowOctets}
 use Rattle.book_record.specs.SaParts.{held_code, sa_parts, sa_row_octets, HasSaTypes, AreSaRowOctets}

@@ -3,8 +3,8 @@ use Rattle.std.specs.Prelude.{◌≡◌, ℕ, ◌^◌, ◌<◌, ◌⊎◌, List,
 use Rattle.std.specs.Int.{w16, w64, to_be_bytes}
 use Rattle.sdls_base.specs.Bounds.{IsKeyLength}
 use Rattle.sdls_base.specs.Code.{key_state_code}
-use Rattle.book_record.specs.declared.layout.TheConstants.{KEY_ROW_LENGTH, KEY_ROOM, DIGEST_LENGTH}
-use Rattle.book_record.specs.declared.key_parts.KeyView.{KeyView}
+use Rattle.book_record.specs.declared.data.TheConstants.{KEY_ROW_LENGTH, KEY_ROOM, DIGEST_LENGTH}
+use Rattle.book_record.specs.declared.key_rows.KeyView.{KeyView}
 use Rattle.key_book.specs.declared.key_row.KeyRow.{KeyRow}
 use Rattle.book_record.specs.Padded.{padded}
 use Rattle.book_record.specs.Record.{IsKey}

@@ -1,8 +1,8 @@
 -- The kinds of records, by their numbers (profile).
 use Rattle.std.specs.Prelude.{ℕ, ◌==◌, List, [], ◌∷◌, Option, find}
-use Rattle.book_record.specs.declared.kind.Kind.{Kind}
-use Rattle.book_record.specs.declared.kind.Kind.TheVariants.{Marks, Load, KeyStates, Create, Rekey, SaTo, SetNumber}
-use Rattle.book_record.specs.declared.kind.Kind.TheVariants.{SetWindow}
+use Rattle.book_record.specs.declared.data.Kind.{Kind}
+use Rattle.book_record.specs.declared.data.Kind.TheVariants.{Marks, Load, KeyStates, Create, Rekey, SaTo, SetNumber}
+use Rattle.book_record.specs.declared.data.Kind.TheVariants.{SetWindow}
 
 abbrev pub number_of : Kind → ℕ
 number_of Marks = 1

@@ -5,14 +5,14 @@ use Rattle.std.specs.Option.{option_map}
 use Rattle.sdls_base.specs.Bounds.{AreChannels, IsKeyLength, IsKeyCount}
 use Rattle.sdls_base.specs.Code.{key_state_of, new_state_of, direction_of, suite_of}
 use Rattle.sdls_base.specs.Places.{octet_at, word_at, number_at}
-use Rattle.sdls_base.specs.declared.change.Change.{Change}
-use Rattle.sdls_base.specs.declared.change.Change.TheVariants.{Marks, Load, KeyStates, Create, Rekey, SaTo, SetNumber}
-use Rattle.sdls_base.specs.declared.change.Change.TheVariants.{SetWindow}
-use Rattle.sdls_base.specs.declared.key_item.KeyItem.{KeyItem}
-use Rattle.book_record.specs.declared.kind.Kind.{Kind}
-use Rattle.book_record.specs.declared.kind.Kind.TheVariants as kinds
-use Rattle.book_record.specs.declared.record_error.RecordError.{RecordError}
-use Rattle.book_record.specs.declared.record_error.RecordError.TheVariants.{Malformed, NoMemory}
+use Rattle.sdls_base.specs.declared.entry.Change.{Change}
+use Rattle.sdls_base.specs.declared.entry.Change.TheVariants.{Marks, Load, KeyStates, Create, Rekey, SaTo, SetNumber}
+use Rattle.sdls_base.specs.declared.entry.Change.TheVariants.{SetWindow}
+use Rattle.sdls_base.specs.declared.key_id.KeyItem.{KeyItem}
+use Rattle.book_record.specs.declared.data.Kind.{Kind}
+use Rattle.book_record.specs.declared.data.Kind.TheVariants as kinds
+use Rattle.book_record.specs.declared.data.RecordError.{RecordError}
+use Rattle.book_record.specs.declared.data.RecordError.TheVariants.{Malformed, NoMemory}
 use Rattle.book_record.specs.Kind.{kind_of}
 use Rattle.book_record.specs.Record.{IsKey, IsSpi}
 

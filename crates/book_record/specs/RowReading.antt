@@ -2,10 +2,10 @@
 use Rattle.std.specs.Prelude.{ℕ, ◌==◌, if◌then◌else◌, List, take, drop, Option, Some, None}
 use Rattle.sdls_base.specs.Bounds.{AreChannels}
 use Rattle.sdls_base.specs.Code.{key_state_of, sa_state_of, direction_of, suite_of}
-use Rattle.book_record.specs.declared.layout.TheConstants.{DIGEST_LENGTH}
+use Rattle.book_record.specs.declared.data.TheConstants.{DIGEST_LENGTH}
 use Rattle.key_book.specs.declared.key_row.KeyRow.{KeyRow}
 use Rattle.replay_window.specs.Window.{new_window}
-use Rattle.sa_book.specs.declared.sa_row.SaRow.{SaRow}
+use Rattle.sa_book.specs.declared.sa_book.SaRow.{SaRow}
 use Rattle.book_record.specs.KeyParts.{IsRowKeyLength}
 use Rattle.sdls_base.specs.Places.{octet_at, word_at, number_at}
 use Rattle.book_record.specs.Reading.{IsWithin, channels_at}

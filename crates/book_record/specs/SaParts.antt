@@ -3,11 +3,11 @@ use Rattle.std.specs.Prelude.{◌≡◌, ℕ, ◌^◌, ◌<◌, List, ◌∷◌,
 use Rattle.std.specs.Int.{w16, w64, to_be_bytes}
 use Rattle.sdls_base.specs.Bounds.{AreChannels}
 use Rattle.sdls_base.specs.Code.{direction_code, suite_code, sa_state_code}
-use Rattle.book_record.specs.declared.layout.TheConstants.{SA_ROW_LENGTH, CHANNEL_ROOM}
-use Rattle.book_record.specs.declared.sa_parts.SaParts.{SaParts}
-use Rattle.book_record.specs.declared.sa_parts.SaView.{SaView}
+use Rattle.book_record.specs.declared.data.TheConstants.{SA_ROW_LENGTH, CHANNEL_ROOM}
+use Rattle.book_record.specs.declared.sa_rows.SaParts.{SaParts}
+use Rattle.book_record.specs.declared.sa_rows.SaView.{SaView}
 use Rattle.replay_window.specs.Window.{field_of, new_window}
-use Rattle.sa_book.specs.declared.sa_row.SaRow.{SaRow}
+use Rattle.sa_book.specs.declared.sa_book.SaRow.{SaRow}
 use Rattle.book_record.specs.Padded.{padded}
 use Rattle.book_record.specs.Record.{IsKey, IsSpi}
 

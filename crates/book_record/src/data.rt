@@ -3,10 +3,13 @@ ghost use Rattle.std.specs.Prelude.{◌≡◌, ◌+◌, ◌≤◌, [], ◌∷◌
 ghost use Rattle.std.specs.Int.{w16, w64, to_be_bytes};
 ghost use Rattle.book_record.specs.Padded.{padded};
 ghost use Rattle.book_record.specs.Record.{body_of};
+ghost use Rattle.book_record.specs.Kind.{kind_of, number_of};
+ghost use Rattle.book_record.specs.declared.data.RecordError.TheVariants.{NoMemory};
 
-use crate::layout::{DATA_ROOM, HEADER, MOST_PADDED};
-use sdls_base::{BODY_LENGTH, put};
+use sdls_base::{BODY_LENGTH, MOST_CHANNELS, put};
+use std::alloc::{AllocError, AllocFailed};
 use std::marker::Model;
+use thiserror::Error;
 
 /// The data that was put so far.
 #[derive(Drop)]
@@ -95,3 +98,87 @@ impl Data {
         body
     }
 }
+
+/// The kind of a record. `as u8` gives its number.
+#[derive(Clone, Copy, Debug, PartialEq, Eq)]
+pub(crate) enum Kind {
+    Marks = 1,
+    Load = 2,
+    KeyStates = 3,
+    Create = 4,
+    Rekey = 5,
+    SaTo = 6,
+    SetNumber = 7,
+    SetWindow = 8,
+}
+
+impl Kind {
+    /// The kind with this number.
+    #[tactic(auto, unfolding(crate::specs::Kind::kind_of))]
+    pub(crate) fn of(number: u8) -> Option<Kind>
+        ensures { result ≡ kind_of number }
+    {
+        match number {
+            1 => Some(Kind::Marks),
+            2 => Some(Kind::Load),
+            3 => Some(Kind::KeyStates),
+            4 => Some(Kind::Create),
+            5 => Some(Kind::Rekey),
+            6 => Some(Kind::SaTo),
+            7 => Some(Kind::SetNumber),
+            8 => Some(Kind::SetWindow),
+            _ => None,
+        }
+    }
+}
+
+/// Why a record was not read.
+#[derive(Clone, Copy, Debug, PartialEq, Eq, Error)]
+pub enum RecordError {
+    /// The body is no record.
+    #[error("malformed record")]
+    Malformed,
+    /// Memory ran out.
+    #[error("no memory")]
+    NoMemory,
+}
+
+impl From<AllocError> for RecordError {
+    ghost from_gives = { λ _ e. e ≡ NoMemory };
+
+    fn from(_refused: AllocError) -> RecordError {
+        RecordError::NoMemory
+    }
+}
+
+impl<T: Drop> From<AllocFailed<T>> for RecordError {
+    ghost from_gives = { λ _ e. e ≡ NoMemory };
+
+    fn from(_refused: AllocFailed<T>) -> RecordError {
+        RecordError::NoMemory
+    }
+}
+
+/// The octets before the data: the kind, and the length of the data.
+pub(crate) const HEADER: usize = 3;
+
+/// The most octets of data.
+pub(crate) const DATA_ROOM: usize = BODY_LENGTH - HEADER;
+
+/// The octets of a key's row in a bank (profile).
+pub const KEY_ROW_LENGTH: usize = 96;
+
+/// The octets of an association's row in a bank (profile).
+pub const SA_ROW_LENGTH: usize = 32;
+
+/// The octets that a key's row has for the key.
+pub(crate) const KEY_ROOM: usize = 32;
+
+/// The octets of a digest.
+pub(crate) const DIGEST_LENGTH: usize = 32;
+
+/// The octets that an association's row has for channels.
+pub(crate) const CHANNEL_ROOM: usize = MOST_CHANNELS;
+
+/// The most octets of a field with zeros behind it.
+pub(crate) const MOST_PADDED: usize = KEY_ROOM;

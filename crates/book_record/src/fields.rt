@@ -2,13 +2,13 @@
 ghost use Rattle.std.specs.Prelude.{◌≡◌, ◌+◌, ◌<◌, ◌≤◌, length, take, drop};
 ghost use Rattle.sdls_base.specs.Bounds.{IsKeyLength, IsKeyCount};
 ghost use Rattle.sdls_base.specs.Code.{key_state_of, sa_state_of, new_state_of, direction_of, suite_of};
+ghost use Rattle.sdls_base.specs.Places.{word_at};
 ghost use Rattle.book_record.specs.KeyParts.{IsRowKeyLength};
 ghost use Rattle.book_record.specs.Record.{IsKey, IsSpi};
-ghost use Rattle.sdls_base.specs.Places.{word_at};
 ghost use Rattle.book_record.specs.Reading.{JudgesField, IsWithin};
 ghost use Rattle.book_record.specs.RowReading.{held_of};
 
-use crate::record_error::RecordError;
+use crate::data::RecordError;
 use sdls_base::{
     Direction, KeyId, KeyState, MOST_CHANNELS, MOST_KEYS_AT_ONCE, SaState, Spi, Suite, word_at,
 };

@@ -5,13 +5,11 @@ ghost use Rattle.book_record.specs.KeyParts.{viewed, key_row_octets, IsRowKeyLen
 ghost use Rattle.book_record.specs.Reading.{JudgesField, IsReadUnlessNoMemory};
 ghost use Rattle.book_record.specs.RowReading.{key_row_at, MayBeKeyRow};
 
-use crate::data::Data;
+use crate::data::{Data, KEY_ROOM, KEY_ROW_LENGTH, RecordError};
 use crate::fields::{array, key, row_key_length, row_key_state};
-use crate::key_parts::KeyView;
-use crate::layout::{KEY_ROOM, KEY_ROW_LENGTH};
-use crate::record_error::RecordError;
 use key_book::{KeyOctets, KeyRow};
-use sdls_base::number_at;
+use sdls_base::{KeyId, KeyState, number_at};
+use std::fmt;
 
 /// Writes the row of a key, 96 octets: identifier, state, length of the key, the key in 32 octets, digest, mark, floor,
 /// zeros. Takes no memory.
@@ -66,5 +64,46 @@ pub fn read_key_row(row: &[u8; KEY_ROW_LENGTH]) -> Result<KeyRow, RecordError>
         Ok(parts)
     } else {
         Err(RecordError::Malformed)
+    }
+}
+
+/// The row of a key, borrowed: its octets are written of it without taking memory. `Debug` prints identifier and state
+/// alone.
+#[derive(Clone, Copy)]
+pub struct KeyView<'a> {
+    pub id: KeyId,
+    pub state: KeyState,
+    /// The key itself, 16 or 32 octets, or none.
+    pub bytes: &'a [u8],
+    /// The SHA-256 digest of the key.
+    pub digest: &'a [u8; 32],
+    /// Numbers below it may have been used for sending.
+    pub mark: u64,
+    /// Numbers up to it may have been accepted.
+    pub floor: u64,
+}
+
+impl fmt::Debug for KeyView<'_> {
+    fn fmt<W: fmt::Write>(&self, f: &mut fmt::Formatter<W>) -> fmt::Result {
+        write!(f, "KeyView({}, {:?})", self.id.get(), self.state)
+    }
+}
+
+impl<'a> KeyView<'a> {
+    ghost use Rattle.std.specs.Prelude.{◌≡◌};
+    ghost use Rattle.book_record.specs.KeyParts.{viewed};
+
+    /// The row of a book, borrowed.
+    pub fn of(row: &'a KeyRow) -> KeyView<'a>
+        ensures { viewed result ≡ row.now }
+    {
+        KeyView {
+            id: row.id,
+            state: row.state,
+            bytes: row.bytes.as_slice(),
+            digest: &row.digest,
+            mark: row.mark,
+            floor: row.floor,
+        }
     }
 }

@@ -1,11 +1,11 @@
 ghost use Rattle.std.specs.Prelude.{◌≡◌, ℕ, List, Some};
-ghost use Rattle.sdls_base.specs.declared.change.Change.{Change};
 ghost use Rattle.key_book.specs.declared.key_row.KeyRow.{KeyRow};
-ghost use Rattle.book_record.specs.declared.sa_parts.SaParts.{SaParts};
+ghost use Rattle.book_record.specs.declared.sa_rows.SaParts.{SaParts};
 ghost use Rattle.book_record.specs.KeyParts.{AreKeyRowOctets};
 ghost use Rattle.book_record.specs.Reading.{change_of};
 ghost use Rattle.book_record.specs.Record.{IsRecord};
 ghost use Rattle.book_record.specs.SaParts.{AreSaRowOctets};
+ghost use Rattle.sdls_base.specs.declared.entry.Change.{Change};
 
 /// Law: no two changes have one record.
 pub fn one_change()

@@ -11,25 +11,17 @@
 
 mod data;
 mod fields;
-mod key_parts;
 mod key_rows;
-mod kind;
 mod laws;
-mod layout;
 mod reading;
-mod record_error;
-mod sa_parts;
 mod sa_rows;
 mod writing;
 
+pub use data::{KEY_ROW_LENGTH, RecordError, SA_ROW_LENGTH};
 pub use key_book::KeyRow as KeyParts;
-pub use key_parts::KeyView;
-pub use key_rows::{read_key_row, write_key_row};
+pub use key_rows::{KeyView, read_key_row, write_key_row};
 pub use laws::{change_of_its_kind, one_change, one_key_row, one_sa_row};
-pub use layout::{KEY_ROW_LENGTH, SA_ROW_LENGTH};
 pub use reading::read_record;
-pub use record_error::RecordError;
-pub use sa_parts::{SaParts, SaView};
-pub use sa_rows::{read_association, read_sa_row, write_sa_row};
+pub use sa_rows::{SaParts, SaView, read_association, read_sa_row, write_sa_row};
 pub use sdls_base::BODY_LENGTH;
 pub use writing::write_record;

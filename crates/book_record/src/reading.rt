@@ -2,17 +2,16 @@
 #![tactic(auto, unfolding(crate::specs::Reading::change_at, crate::specs::Reading::MayStand))]
 
 ghost use Rattle.std.specs.Prelude.{◌≡◌, ◌+◌, ◌≤◌, length, IfOk};
-ghost use Rattle.sdls_base.specs.declared.change.Change.{Change};
-ghost use Rattle.book_record.specs.declared.kind.Kind.TheVariants.{Marks, Load, KeyStates, Create, Rekey, SaTo};
-ghost use Rattle.book_record.specs.declared.kind.Kind.TheVariants.{SetNumber, SetWindow};
+ghost use Rattle.sdls_base.specs.declared.entry.Change.{Change};
+ghost use Rattle.book_record.specs.declared.data.Kind.TheVariants.{Marks, Load, KeyStates, Create, Rekey, SaTo};
+ghost use Rattle.book_record.specs.declared.data.Kind.TheVariants.{SetNumber, SetWindow};
 ghost use Rattle.book_record.specs.Record.{IsRecord};
 ghost use Rattle.sdls_base.specs.Places.{octet_at};
 ghost use Rattle.book_record.specs.Reading.{JudgesField, IsReadUnlessNoMemory, item_at, IsItem, items_in};
 ghost use Rattle.book_record.specs.Reading.{AreItems, keys_in, AreKeys, change_at, MayStand};
 
+use crate::data::{Kind, RecordError};
 use crate::fields::{count, direction, key, key_length, key_state, sa_state, spi, suite};
-use crate::kind::Kind;
-use crate::record_error::RecordError;
 use crate::writing::write_record;
 use sdls_base::{
     BODY_LENGTH, Change, KeyItem, KeyItems, KeyList, MOST_KEYS_AT_ONCE, NewSa, Octets,

@@ -5,14 +5,13 @@ ghost use Rattle.std.specs.Prelude.{◌≡◌, ◌≢◌, ◌+◌, ◌^◌, ◌<
 ghost use Rattle.std.specs.List.{flat_map, All};
 ghost use Rattle.std.specs.Int.{w16, w64, to_be_bytes};
 ghost use Rattle.sdls_base.specs.Bounds.{AreChannels, IsKeyLength, IsKeyCount};
-ghost use Rattle.sdls_base.specs.declared.change.Change.TheVariants.{Marks, Load, KeyStates, Create, Rekey, SaTo};
+ghost use Rattle.sdls_base.specs.declared.entry.Change.TheVariants.{Marks, Load, KeyStates, Create, Rekey, SaTo};
 ghost use Rattle.sdls_base.specs.declared.states.KeyState.TheVariants.{PreActive};
 ghost use Rattle.sdls_base.specs.Code.{new_state_code};
 ghost use Rattle.sdls_base.specs.Spelling.{item_octets};
 ghost use Rattle.book_record.specs.Record.{body_of, record_octets, HasRecord, IsRecord, IsKey, IsSpi};
 
-use crate::data::Data;
-use crate::layout::DATA_ROOM;
+use crate::data::{DATA_ROOM, Data};
 use sdls_base::{
     BODY_LENGTH, Change, KeyId, KeyItem, KeyItems, KeyList, KeyState, NewSa, SaState, Spi,
 };

@@ -5,14 +5,14 @@ ghost use Rattle.unit_plan.specs.PlanLines.{PlanLines};
 ghost use Rattle.unit_plan.specs.Plan.{plan_of};
 ghost use Rattle.unit_plan.specs.Bare.{bare_of};
 ghost use Rattle.unit_state.specs.declared.state.State.{State};
-ghost use Rattle.image_content.specs.Content.{content_of};
-ghost use Rattle.image_content.specs.Reading.{FitsVersion};
+ghost use Rattle.unit_image.specs.Content.{content_of};
+ghost use Rattle.unit_image.specs.ContentReading.{FitsVersion};
 ghost use Rattle.disk_journal.specs.declared.layout.HeaderForm.TheVariants.{Old};
 ghost use Rattle.disk_journal.specs.Initial.{created_image};
 ghost use Rattle.unit_image.specs.Beginning.{SaysPlan, image_of_plan};
 
 use disk_journal::{JournalFault, create};
-use image_content::write_content;
+use unit_image::write_content;
 use sdls_base::{CONTENT_LENGTH_ONE, CONTENT_LENGTH_TWO, Version};
 use sdls_outside::{Crash, MemSite, Site};
 use std::alloc::{AllocError, Global};
@@ -168,7 +168,7 @@ fn old_image_of_state(alloc: Global, text: &[u8], plan: &Plan, state: &State) ->
     ensures { IfSome result (λ image. image.items
         ≡ created_image Old (bare_of text.now) plan.now.slots (content_of One state.now)) }
 {
-    if !image_content::fits(Version::One, state) {
+    if !unit_image::fits(Version::One, state) {
         return None;
     }
     let mut bare = zeros(alloc, text.len() + 1)?;

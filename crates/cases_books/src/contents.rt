@@ -1,7 +1,7 @@
 // Contents of states.
 use crate::answers::again;
 use case_lines::Page;
-use image_content::{fits, read_content, write_content, write_content_two};
+use unit_image::{fits, read_content, write_content, write_content_two};
 use sdls_base::{ChannelList, Version};
 use unit_plan::Plan;
 use unit_state::State;

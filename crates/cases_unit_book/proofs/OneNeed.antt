@@ -3,8 +3,8 @@ use Rattle.std.proofs.Common.{◌≡◌, ◌⊎◌, ⊎_elim, ℕ, List, Some, N
 use Rattle.ep_codec.specs.declared.command.Command.{Command}
 use Rattle.ep_codec.specs.Command.{IsCommandPdu}
 use Rattle.ep_codec.specs.MessageFault.{command_fault}
-use Rattle.ep_core.specs.declared.need.Need.{Need}
-use Rattle.ep_core.specs.declared.need.Need.TheVariants as needs
+use Rattle.ep_core.specs.declared.judging.Need.{Need}
+use Rattle.ep_core.specs.declared.judging.Need.TheVariants as needs
 use Rattle.ep_core.specs.Need.{need_of}
 use Rattle.unit_state.specs.declared.state.State.{State}
 

@@ -1,4 +1,5 @@
 //! The word `audit`.
+// The line that says what an audit found.
 ghost use Rattle.std.specs.Prelude.{◌≡◌, ◌≢◌, [], IfOk, IsTrue, take};
 ghost use Rattle.sdls_outside.specs.Faults.{Rose};
 ghost use Rattle.sdls_outside.specs.Output.{OnlySinks};
@@ -9,15 +10,16 @@ ghost use Rattle.pair_audit.specs.Recording.{AuditFound};
 ghost use Rattle.pair_audit.specs.Taking.{HasStopCause};
 ghost use Rattle.pair_audit.specs.declared.walk.AuditEnd.{AuditEnd};
 ghost use Rattle.cli_audit.specs.Ends.{EndsAudit};
-ghost use Rattle.cli_audit.specs.Text.{audit_status, audit_text};
+ghost use Rattle.cli_audit.specs.Text.{audit_status, audit_text, clean_text, kind_word, offset_text, repeat_text};
 
-use crate::text::{audit_line, status_of};
 use command_words::end_with;
-use pair_audit::{AuditStop, audit_recording};
+use pair_audit::{AuditEnd, AuditStop, Repeat, audit_recording};
 use record_io::Outcome;
-use record_io::status::{NO_MEMORY, SOURCE_FAULT};
+use record_io::status::{DONE, MALFORMED, NO_MEMORY, REFUSED, SOURCE_FAULT};
+use sdls_base::NoMemory;
 use sdls_outside::{Site, Source};
 use std::alloc::Global;
+use text_words::{put_decimal, put_octets};
 
 /// Audits the input, and returns the line and the status that say what was found.
 fn line_and_status<S: Source>(alloc: Global, source: &mut S) -> Result<(Vec<u8>, u8), AuditStop>
@@ -52,5 +54,86 @@ pub fn run_audit<S: Source, O: Site>(alloc: Global, source: &mut S, site: O) -> 
         Ok((line, status)) => end_with(alloc, site, &line, status),
         Err(AuditStop::SourceFault) => end_with(alloc, site, b"source fault\n", SOURCE_FAULT),
         Err(AuditStop::NoMemory) => end_with(alloc, site, b"no memory\n", NO_MEMORY),
+    }
+}
+
+/// All is well, with the counts of runs, of numbers used and of numbers accepted.
+#[tactic(auto, unfolding(crate::specs::Text::clean_text))]
+fn clean_line(alloc: Global, runs: u64, uses: u64, acceptances: u64) -> Result<Vec<u8>, NoMemory>
+    ensures { IfOk result (λ line. line.items ≡ clean_text runs uses acceptances) }
+{
+    let mut line = Vec::new(alloc);
+    put_octets(&mut line, b"audit ok runs ")?;
+    put_decimal(&mut line, runs)?;
+    put_octets(&mut line, b" pairs ")?;
+    put_decimal(&mut line, uses)?;
+    put_octets(&mut line, b" accepts ")?;
+    put_decimal(&mut line, acceptances)?;
+    put_octets(&mut line, b"\n")?;
+    Ok(line)
+}
+
+/// The word for what both answers do with the number.
+fn kind_word(pair: bool) -> &'static [u8]
+    ensures { result.now ≡ kind_word pair }
+{
+    if pair { b"pair" } else { b"accept" }
+}
+
+/// The repeat, with its key, its number and its places.
+#[tactic(auto, unfolding(crate::specs::Text::repeat_text))]
+fn repeat_line(alloc: Global, repeat: Repeat) -> Result<Vec<u8>, NoMemory>
+    ensures { IfOk result (λ line. line.items ≡ repeat_text repeat) }
+{
+    let mut line = Vec::new(alloc);
+    put_octets(&mut line, b"audit repeat ")?;
+    put_octets(&mut line, kind_word(repeat.pair))?;
+    put_octets(&mut line, b" ")?;
+    put_decimal(&mut line, u64::from(repeat.key))?;
+    put_octets(&mut line, b" ")?;
+    put_decimal(&mut line, repeat.number)?;
+    put_octets(&mut line, b" at ")?;
+    put_decimal(&mut line, repeat.first)?;
+    put_octets(&mut line, b" ")?;
+    put_decimal(&mut line, repeat.second)?;
+    put_octets(&mut line, b"\n")?;
+    Ok(line)
+}
+
+/// The offset at which the recording is malformed.
+#[tactic(auto, unfolding(crate::specs::Text::offset_text))]
+fn offset_line(alloc: Global, offset: u64) -> Result<Vec<u8>, NoMemory>
+    ensures { IfOk result (λ line. line.items ≡ offset_text offset) }
+{
+    let mut line = Vec::new(alloc);
+    put_octets(&mut line, b"input at ")?;
+    put_decimal(&mut line, offset)?;
+    put_octets(&mut line, b"\n")?;
+    Ok(line)
+}
+
+/// The line that says what the audit found.
+pub(crate) fn audit_line(alloc: Global, end: AuditEnd) -> Result<Vec<u8>, NoMemory>
+    ensures { IfOk result (λ line. line.items ≡ audit_text end) }
+{
+    match end {
+        AuditEnd::Clean {
+            runs,
+            uses,
+            acceptances,
+        } => clean_line(alloc, runs, uses, acceptances),
+        AuditEnd::Repeated(repeat) => repeat_line(alloc, repeat),
+        AuditEnd::BreaksAt(offset) => offset_line(alloc, offset),
+    }
+}
+
+/// The status that goes with it.
+pub(crate) fn status_of(end: AuditEnd) -> u8
+    ensures { result ≡ audit_status end }
+{
+    match end {
+        AuditEnd::Clean { .. } => DONE,
+        AuditEnd::Repeated(_) => REFUSED,
+        AuditEnd::BreaksAt(_) => MALFORMED,
     }
 }

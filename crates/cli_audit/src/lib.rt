@@ -5,6 +5,5 @@
 #![tactic(auto)]
 
 mod audit;
-mod text;
 
 pub use audit::run_audit;

@@ -2,8 +2,8 @@ use Rattle.std.proofs.Common.{◌≡◌, ℕ, ◌+◌, ◌<◌, ◌≤◌, Bool,
 use Rattle.std.proofs.Common.{sym, ◌∙◌, subst, arith, inl, inr, append-nil, Result, Ok, Err, MatchResult, Bor}
 use Rattle.std.proofs.lemmas.Bool.{cases_lt, false≢true}
 use Rattle.std.proofs.lemmas.List.{length-take-le, length-append}
-use Rattle.cli_check.specs.declared.refusal.Refusal.{Refusal}
-use Rattle.cli_check.specs.declared.refusal.Refusal.TheVariants.{Short, Long, Version, Spare, Spi, Mac}
+use Rattle.cli_check.specs.declared.check.Refusal.{Refusal}
+use Rattle.cli_check.specs.declared.check.Refusal.TheVariants.{Short, Long, Version, Spare, Spi, Mac}
 use Rattle.record_io.specs.declared.status.TheConstants.{DONE, REFUSED}
 use Rattle.cli_check.specs.Check.{PassesChecks, IsFirstFault, data_field}
 use Rattle.sdls_outside.specs.Intake.{Collects}

@@ -2,8 +2,8 @@
 use Rattle.std.specs.Prelude.{◌≡◌, ℕ, ◌⊎◌, Bool, IsTrue, List, ◌++◌, codes, Result, IfOk}
 use Rattle.hex.specs.Hex.{encode_lower}
 use Rattle.sdls_outside.specs.Moments.{Trace}
-use Rattle.cli_check.specs.declared.refusal.Refusal.{Refusal}
-use Rattle.cli_check.specs.declared.refusal.Refusal.TheVariants.{Short, Long, Version, Spare, Spi, Mac}
+use Rattle.cli_check.specs.declared.check.Refusal.{Refusal}
+use Rattle.cli_check.specs.declared.check.Refusal.TheVariants.{Short, Long, Version, Spare, Spi, Mac}
 use Rattle.record_io.specs.declared.status.TheConstants.{DONE, REFUSED, SOURCE_FAULT}
 use Rattle.record_io.specs.Outcome.{Ends, line}
 use Rattle.command_words.specs.Lines.{source_fault_text}

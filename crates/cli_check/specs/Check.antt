@@ -5,8 +5,8 @@ use Rattle.aos_frame.specs.FirstFault.{version_of, spare_of}
 use Rattle.cmac.specs.Cmac.{mac}
 use Rattle.sdls_base.specs.declared.states.Suite.TheVariants.{Cmac}
 use Rattle.sdls_base.specs.Suite.{overhead_of}
-use Rattle.cli_check.specs.declared.refusal.Refusal.{Refusal}
-use Rattle.cli_check.specs.declared.refusal.Refusal.TheVariants.{Short, Long, Version, Spare, Spi, Mac}
+use Rattle.cli_check.specs.declared.check.Refusal.{Refusal}
+use Rattle.cli_check.specs.declared.check.Refusal.TheVariants.{Short, Long, Version, Spare, Spi, Mac}
 
 -- the octets of primary header, security header and security trailer: profile
 abbrev pub least_length : ℕ

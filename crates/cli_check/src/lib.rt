@@ -5,12 +5,6 @@
 //! [`check_frame`] judges a frame in memory.
 #![tactic(auto)]
 
-mod answer;
 mod check;
-mod frame_check;
-mod output;
-mod refusal;
 
-pub use check::run_check;
-pub use frame_check::{GREATEST_LENGTH, check_frame};
-pub use refusal::Refusal;
+pub use check::{GREATEST_LENGTH, Refusal, check_frame, run_check};

@@ -15,7 +15,7 @@ use Rattle.disk_journal.proofs.Refused.{short_verdict}
 use Rattle.unit_plan.specs.PlanLines.{PlanLines}
 use Rattle.unit_state.specs.declared.state.State.{State}
 use Rattle.unit_plan.specs.Bare.{bare_of}
-use Rattle.image_content.specs.Content.{content_of}
+use Rattle.unit_image.specs.Content.{content_of}
 use Rattle.disk_journal.specs.declared.layout.HeaderForm.TheVariants.{New}
 use Rattle.sdls_base.specs.declared.version.Version.TheVariants.{Two}
 use Rattle.unit_image.specs.Beginning.{SaysPlan, image_of_plan}

@@ -13,8 +13,8 @@ use Rattle.unit_image.specs.Image.{held, IsAtRest, OnlySyncs, used_next}
 use Rattle.disk_journal.proofs.Moments.{only_syncs_moments}
 use Rattle.unit_plan.specs.Plan.{plan_of}
 use Rattle.status_text.specs.Text.{status_text}
-use Rattle.unit_image.specs.declared.fault.OpenFault.{OpenFault}
-use Rattle.unit_image.specs.declared.fault.OpenFault.TheVariants as faults
+use Rattle.unit_image.specs.declared.opening_image.OpenFault.{OpenFault}
+use Rattle.unit_image.specs.declared.opening_image.OpenFault.TheVariants as faults
 use Rattle.unit_state.specs.declared.state.State.{State}
 use Rattle.unit_state.specs.Restart.{restarted}
 use Rattle.unit_state.specs.History.{after_first}

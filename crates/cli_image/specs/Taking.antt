@@ -2,7 +2,7 @@
 use Rattle.std.specs.Prelude.{ℕ, ◌+◌, List}
 use Rattle.sdls_outside.specs.Intake.{TakesAtMost}
 use Rattle.unit_plan.specs.declared.TheConstants.{MOST_OCTETS}
-use Rattle.cli_check.specs.declared.frame_check.TheConstants.{GREATEST_LENGTH}
+use Rattle.cli_check.specs.declared.check.TheConstants.{GREATEST_LENGTH}
 
 -- `check`: one octet more than a frame may have
 abbrev pub TakesFrame : List ℕ → List ℕ → Type 0

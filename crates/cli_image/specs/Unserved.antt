@@ -1,8 +1,8 @@
 -- Which words `run_plain` does not serve.
 use Rattle.std.specs.Prelude.{⊤}
-use Rattle.command_words.specs.declared.command.Command.{Command}
-use Rattle.command_words.specs.declared.command.Command.TheVariants.{Check, Init, Stat, Run, Audit, Drill, LinkDrill}
-use Rattle.command_words.specs.declared.command.Command.TheVariants.{Usage}
+use Rattle.command_words.specs.declared.reading.Command.{Command}
+use Rattle.command_words.specs.declared.reading.Command.TheVariants.{Check, Init, Stat, Run, Audit, Drill, LinkDrill}
+use Rattle.command_words.specs.declared.reading.Command.TheVariants.{Usage}
 
 -- those of no command, and those that need threads
 abbrev pub IsUnserved : Command → Type 0

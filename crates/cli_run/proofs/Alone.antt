@@ -18,7 +18,7 @@ use Rattle.counter_table.specs.declared.view.View.{View}
 use Rattle.counter_table.specs.Play.{IsAsKnown}
 use Rattle.counter_table.specs.Turn.{places, stands}
 use Rattle.counter_table.specs.Whole.{IsWhole, RowStands}
-use Rattle.record_io.specs.declared.records.Record.{Record}
+use Rattle.record_io.specs.declared.item_cursor.Record.{Record}
 use Rattle.unit_book.specs.declared.fault.BookFault.{BookFault}
 use Rattle.unit_book.specs.declared.fault.BookFault.TheVariants.{SiteFault, Stopped, SessionFull, NoMemory}
 use Rattle.unit_book.specs.Book.{BookView, PutFails}

@@ -3,9 +3,9 @@ use Rattle.std.proofs.Common.{◌≡◌, [], ◌∷◌, List, Option, Ok, Err, R
 use Rattle.counter_table.specs.declared.view.View.{View}
 use Rattle.fsr_log.specs.Report.{Report}
 use Rattle.record_io.specs.declared.answers.Answer.{Answer}
-use Rattle.record_io.specs.declared.records.Record.{Record}
-use Rattle.record_io.specs.declared.records.SegmentEnd.{SegmentEnd}
-use Rattle.record_io.specs.declared.records.SegmentEnd.TheVariants as segments
+use Rattle.record_io.specs.declared.item_cursor.Record.{Record}
+use Rattle.record_io.specs.declared.item_cursor.SegmentEnd.{SegmentEnd}
+use Rattle.record_io.specs.declared.item_cursor.SegmentEnd.TheVariants as segments
 use Rattle.run_promise.specs.Call.{Begin}
 use Rattle.run_promise.specs.declared.end.RunEnd.{RunEnd}
 use Rattle.law_workers.specs.Deeds.{Ascend}

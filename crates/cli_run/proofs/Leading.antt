@@ -7,11 +7,11 @@ use Rattle.fsr_log.specs.Report.{Report, report_of}
 use Rattle.counter_table.specs.declared.view.View.{View}
 use Rattle.counter_table.specs.Whole.{IsWhole}
 use Rattle.record_io.specs.declared.answers.Answer.{Answer}
-use Rattle.record_io.specs.declared.kinds.RecordKind.{RecordKind}
-use Rattle.record_io.specs.declared.kinds.RecordKind.TheVariants.{Monitor}
-use Rattle.record_io.specs.declared.records.Record.{Record}
-use Rattle.record_io.specs.declared.records.SegmentEnd.{SegmentEnd}
-use Rattle.record_io.specs.declared.records.SegmentEnd.TheVariants as segments
+use Rattle.record_io.specs.declared.reader.RecordKind.{RecordKind}
+use Rattle.record_io.specs.declared.reader.RecordKind.TheVariants.{Monitor}
+use Rattle.record_io.specs.declared.item_cursor.Record.{Record}
+use Rattle.record_io.specs.declared.item_cursor.SegmentEnd.{SegmentEnd}
+use Rattle.record_io.specs.declared.item_cursor.SegmentEnd.TheVariants as segments
 use Rattle.record_io.specs.Input.{Item}
 use Rattle.record_io.specs.Places.{Place, counted, first_count, places_of, records_of}
 use Rattle.record_io.specs.Reading.{GoesOn, HasFaultCause, Loses, ReadsMonitor, ReadsTo, SourceSeen, Standing}

@@ -4,8 +4,8 @@ use Rattle.std.specs.List.{slice_get}
 use Rattle.fsr_log.specs.Reply.{Answers}
 use Rattle.fsr_log.specs.Report.{Report}
 use Rattle.record_io.specs.declared.answers.Answer.{Answer}
-use Rattle.record_io.specs.declared.kinds.RecordKind.TheVariants.{Monitor}
-use Rattle.record_io.specs.declared.records.Record.{Record}
+use Rattle.record_io.specs.declared.reader.RecordKind.TheVariants.{Monitor}
+use Rattle.record_io.specs.declared.item_cursor.Record.{Record}
 use Rattle.run_promise.specs.Deed.{deed_of}
 use Rattle.run_promise.specs.Sound.{IsReported}
 use Rattle.counter_table.specs.declared.view.View.{View}

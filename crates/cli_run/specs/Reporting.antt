@@ -4,7 +4,7 @@ use Rattle.fsr_log.specs.Noted.{Noted}
 use Rattle.fsr_log.specs.Reply.{Answers}
 use Rattle.fsr_log.specs.Report.{Report, report_of}
 use Rattle.record_io.specs.declared.answers.Answer.{Answer}
-use Rattle.record_io.specs.declared.records.Record.{Record}
+use Rattle.record_io.specs.declared.item_cursor.Record.{Record}
 use Rattle.run_promise.specs.Answers.{monitored_told, told_by}
 use Rattle.run_promise.specs.Fits.{IsWanting}
 use Rattle.run_promise.specs.Sound.{AreReported, noted_of}

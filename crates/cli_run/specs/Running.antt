@@ -11,7 +11,7 @@ use Rattle.counter_table.specs.Whole.{IsWhole}
 use Rattle.record_io.specs.declared.status.TheConstants.{SITE_FAULT}
 use Rattle.record_io.specs.Answers.{IsAnswer, answer_octets}
 use Rattle.record_io.specs.Reading.{SourceSeen}
-use Rattle.unit_image.specs.declared.fault.OpenFault.{OpenFault}
+use Rattle.unit_image.specs.declared.opening_image.OpenFault.{OpenFault}
 use Rattle.run_promise.specs.Call.{SiteSeen, Begin}
 use Rattle.unit_book.specs.Book.{BookView, IsKept}
 use Rattle.shared_unit.specs.Told.{known_of_book}

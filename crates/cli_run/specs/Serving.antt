@@ -2,9 +2,9 @@
 use Rattle.std.specs.Prelude.{◌≡◌, ◌≤◌, Bool, true, false, List, [], ◌∷◌, length, Result, Ok, Err}
 use Rattle.counter_table.specs.declared.view.View.{View}
 use Rattle.record_io.specs.declared.answers.Answer.{Answer}
-use Rattle.record_io.specs.declared.records.Record.{Record}
-use Rattle.record_io.specs.declared.records.SegmentEnd.{SegmentEnd}
-use Rattle.record_io.specs.declared.records.SegmentEnd.TheVariants as segments
+use Rattle.record_io.specs.declared.item_cursor.Record.{Record}
+use Rattle.record_io.specs.declared.item_cursor.SegmentEnd.{SegmentEnd}
+use Rattle.record_io.specs.declared.item_cursor.SegmentEnd.TheVariants as segments
 use Rattle.record_io.specs.Reading.{SourceSeen, Standing}
 use Rattle.std.specs.Prelude.{Option, Some, None}
 use Rattle.run_promise.specs.Call.{Begin}

@@ -1,27 +1,40 @@
 // The word `run`: a recorded input is served, with the unit of an image.
-ghost use Rattle.std.specs.Prelude.{◌≡◌, ◌≤◌, IsTrue, [], MatchResult};
+// The end of a run: the release of what was not used, and End.
+// The log of a run: answers that are noted, and monitoring messages that are answered.
+// Octets that are put by the one worker of a unit.
+ghost use Rattle.std.specs.Prelude.{◌≡◌, ◌≤◌, IsTrue, [], MatchResult, ◌↔◌, ◌<◌, ℕ, length, slice_index, List};
 ghost use Rattle.sdls_outside.specs.Disk.{Leaves};
-ghost use Rattle.counter_table.specs.Worker.{view};
+ghost use Rattle.sdls_outside.specs.Faults.{Rose};
 ghost use Rattle.record_io.specs.Reading.{SourceSeen, source_seen};
+ghost use Rattle.record_io.specs.Answers.{IsAnswer};
+ghost use Rattle.record_io.specs.declared.item_cursor.Record.{Record};
+ghost use Rattle.fsr_log.specs.Report.{report_of};
 ghost use Rattle.run_promise.specs.Call.{call_seen, site_seen};
 ghost use Rattle.run_promise.specs.Life.{EndsAndLives};
-ghost use Rattle.run_promise.specs.Account.{end_status};
-ghost use Rattle.fsr_log.specs.Report.{report_of};
+ghost use Rattle.run_promise.specs.Account.{end_status, end_answer};
+ghost use Rattle.run_promise.specs.Log.{entries_of};
+ghost use Rattle.unit_book.specs.Book.{BookView, IsKept};
+ghost use Rattle.counter_table.specs.Worker.{view};
+ghost use Rattle.law_workers.specs.Reporting.{Looked};
+ghost use Rattle.law_workers.specs.Views.{entries_in};
 ghost use Rattle.law_runs.specs.Refused.{refused_end};
-ghost use Rattle.cli_run.specs.Putting.{IsAlone, OfRun};
+ghost use Rattle.law_runs.specs.Ending.{Finishes, IsToldEnd, PutsEnd};
+ghost use Rattle.cli_run.specs.Putting.{IsAlone, OfRun, PutsOctets};
 ghost use Rattle.cli_run.specs.Running.{PutsRefusal, RunsUnit};
 ghost use Rattle.cli_run.specs.Serving.{Comes};
+ghost use Rattle.cli_run.specs.Reporting.{LogAnswers, NotesAll};
 
-use crate::ending::{answer_of, finish, told_end};
-use crate::session::Session;
+use crate::serving::Session;
 use frame_workers::{Crew, Gate, LaneTask, LaneWork, Team};
 use fsr_log::Log;
 use kept_threads::{Fresh, Named};
+use law_calls::{putting_settles, putting_works, visiting_works};
 use law_image::shown_keeps_rules;
 use law_runs::{refused_run_ends, run_ends_well};
 use record_io::status::SITE_FAULT;
-use record_io::{Outcome, answer_header};
+use record_io::{Answer, Outcome, Record, answer_header, code};
 use run_promise::RunEnd;
+use sdls_base::NoMemory;
 use sdls_outside::{Failed, Site, Source};
 use shared_unit::{Unit, Worker};
 use std::alloc::Global;
@@ -29,7 +42,7 @@ use std::marker::Brand;
 use std::sync::Wait;
 use std::thread;
 use std::thread::Threads;
-use unit_book::states_have_bounds;
+use unit_book::{Book, BookFault, states_have_bounds};
 use unit_image::OpenFault;
 
 /// Why a run ends whose book was not opened.
@@ -244,4 +257,146 @@ pub fn run_recorded<R: Threads + Wait + Sync, S: Source, O: Site + Send, G: Gate
         Ok((unit, worker)) => serve_unit(rt, alloc, source, gate, unit, worker, before),
         Err((fault, site)) => refuse(alloc, before, fault, site),
     }
+}
+
+/// Whether a count of faults rose.
+fn rose(before: u64, now: u64) -> bool
+    requires { before ≤ now }
+    ensures { IsTrue result ↔ Rose before now }
+{
+    now > before || now == u64::MAX
+}
+
+/// The end that is told: a fault of the site that came before all answers were put; else what came; and behind an input
+/// that ended, what the release met.
+pub(crate) fn told_end(
+    before: u64,
+    last: u64,
+    now: u64,
+    came: RunEnd,
+    released: Result<(), BookFault>,
+) -> RunEnd
+    requires last { before ≤ last }
+    requires now { last ≤ now }
+    ensures { IsToldEnd before last now came released result }
+{
+    if rose(before, last) {
+        return RunEnd::SiteFault(last);
+    }
+    if came != RunEnd::Ended {
+        return came;
+    }
+    if rose(last, now) {
+        return RunEnd::SiteFault(now);
+    }
+    if released == Err(BookFault::SessionFull) {
+        return RunEnd::SessionFull;
+    }
+    RunEnd::Ended
+}
+
+/// The End answer.
+pub(crate) fn answer_of(alloc: Global, end: RunEnd, entries: u64) -> Answer
+    ensures answer { result ≡ end_answer end entries }
+    ensures widths { IsAnswer (end_answer end entries) }
+{
+    Answer::counting(alloc, code::END, end.status(), end.number(), entries)
+}
+
+/// Writes End, and answers the status. Where a put failed before, nothing is put.
+fn put_end<O: Site>(alloc: Global, book: &mut Book<O>, came: RunEnd, told: RunEnd) -> u8
+    requires kept { IsKept O.told book.old }
+    ensures kept { IsKept O.told book.new }
+    ensures ends { PutsEnd O.told came told book.old book.new result }
+    ensures widths { IsAnswer (end_answer told (length (entries_of book.old.log))) }
+{
+    let header = answer_header(&answer_of(alloc, told, book.count()));
+    if came == RunEnd::PutFailed {
+        return SITE_FAULT;
+    }
+    match book.put(&header) {
+        Ok(()) => told.status(),
+        Err(_) => SITE_FAULT,
+    }
+}
+
+/// Releases what the run did not use, and writes End. `before` is the site's count of faults before the run, `words`
+/// the rows' words `next`.
+pub fn finish<O: Site>(
+    alloc: Global,
+    mut book: Book<O>,
+    words: &[u64],
+    before: u64,
+    came: RunEnd,
+) -> Outcome<O>
+    requires kept { IsKept O.told book }
+    requires words { length book.state.keys ≤ length words.now }
+    requires some { (place : ℕ) → place < length book.state.keys → 1 ≤ slice_index words.now place }
+    requires later { before ≤ book.site.faults }
+    ensures finishes { Finishes O.told before words.now came book
+        (site_seen O.trace O.faults O.put_faults result.site) result.entries.items result.status }
+{
+    let last = book.faults();
+    let released = book.release(words);
+    let told = told_end(before, last, book.faults(), came, released);
+    let status = put_end(alloc, &mut book, came, told);
+    let (site, entries) = book.into_site();
+    Outcome {
+        status,
+        site,
+        entries,
+    }
+}
+
+/// Notes the answers to records, in their order. It takes no memory.
+pub(crate) fn note_all(log: &mut Log, records: &[Record], answers: &[Answer])
+    requires few { length answers.now ≤ length records.now }
+    ensures { NotesAll records.now answers.now log.old log.new }
+{
+    for place in 0..answers.len() {
+        let task = &records[place];
+        log.note(task.index, task.kind, &answers[place]);
+    }
+}
+
+/// The answer of the log to a monitoring message, when the run has so many entries.
+pub(crate) fn log_answer(alloc: Global, log: &Log, message: &[u8], entries: u64) -> Answer
+    ensures { LogAnswers log.now message.now entries result }
+{
+    match log.answer(alloc, message) {
+        Ok(Ok(reply)) => Answer::numbered(code::MONITORED, 0, 0, entries, reply),
+        Ok(Err(offset)) => {
+            Answer::counting(alloc, code::MONITOR_FAULT, 0, u64::from(offset), entries)
+        }
+        Err(NoMemory) => Answer::counting(alloc, code::NO_MEMORY, 0, 0, 0),
+    }
+}
+
+/// Writes octets. Nobody else does anything meanwhile, since the worker has all shares.
+pub(crate) fn put_alone<R: Wait, O: Site>(
+    rt: &R,
+    unit: &Unit<O>,
+    worker: &mut Worker<O>,
+    octets: &[u8],
+) -> Result<(), BookFault>
+    requires alone { IsAlone unit.now.counters unit.now.plan worker.old }
+    ensures alone { IsAlone unit.now.counters unit.now.plan worker.new }
+    ensures puts { PutsOctets O.told octets.now result (view worker.old) (view worker.new) }
+{
+    putting_works::<O>();
+    putting_settles::<O>();
+    unit.put(rt, worker, octets)
+}
+
+/// How many entries the run has. Nobody else does anything meanwhile, since the worker has all shares.
+pub(crate) fn count_alone<R: Wait, O: Site>(rt: &R, unit: &Unit<O>, worker: &mut Worker<O>) -> u64
+    requires alone { IsAlone unit.now.counters unit.now.plan worker.old }
+    ensures alone { IsAlone unit.now.counters unit.now.plan worker.new }
+    ensures counted { result ≡ length (entries_in (view worker.new)) }
+    ensures opening { (view worker.new).turn.known.opening ≡ (view worker.old).turn.known.opening }
+    ensures looked { (tasks : List Record) → OfRun O.told (view worker.old)
+        (λ begin. Looked begin (view worker.old) (view worker.new) tasks) }
+{
+    visiting_works::<O>();
+    unit.count(rt, worker)
 }

@@ -2,7 +2,7 @@
 use Rattle.std.proofs.Common.{◌≡◌, ◌<◌, ◌≤◌, ℕ, List, [], ◌∷◌, length, get_or, map, String, string_bytes, refl, sym}
 use Rattle.std.proofs.Common.{◌∙◌, ap, arith}
 use Rattle.std.specs.declared.alloc.Global.{Global}
-use Rattle.command_words.specs.declared.command.Command.TheVariants.{Usage}
+use Rattle.command_words.specs.declared.reading.Command.TheVariants.{Usage}
 use Rattle.command_words.specs.Words.{command_of, of_one, of_three, of_two, of_words}
 
 -- a list of one, by its item

@@ -7,10 +7,10 @@ use Rattle.std.specs.Str.{bytes_eq}
 use Rattle.hex.specs.Hex.{decode_of}
 use Rattle.hex.specs.declared.error.FromHexError.{FromHexError}
 use Rattle.unit_plan.specs.Number.{number_of}
-use Rattle.command_words.specs.declared.command.TheConstants.{MOST_FRAMES}
-use Rattle.command_words.specs.declared.command.Command.{Command}
-use Rattle.command_words.specs.declared.command.Command.TheVariants.{Check, Init, Stat, Run, Audit, Drill, LinkDrill}
-use Rattle.command_words.specs.declared.command.Command.TheVariants.{Usage}
+use Rattle.command_words.specs.declared.reading.TheConstants.{MOST_FRAMES}
+use Rattle.command_words.specs.declared.reading.Command.{Command}
+use Rattle.command_words.specs.declared.reading.Command.TheVariants.{Check, Init, Stat, Run, Audit, Drill, LinkDrill}
+use Rattle.command_words.specs.declared.reading.Command.TheVariants.{Usage}
 
 -- what a word asks for by a table, whose rows have a word each
 abbrev pub command_in : List (List ℕ × Command) → List ℕ → Command

@@ -5,12 +5,6 @@
 //! line.
 #![tactic(auto)]
 
-mod command;
-mod ending;
-mod output;
 mod reading;
 
-pub use command::{Command, MOST_FRAMES};
-pub use ending::{end_with, end_with_usage};
-pub use output::put_text;
-pub use reading::command_of;
+pub use reading::{Command, MOST_FRAMES, command_of, end_with, end_with_usage, put_text};

@@ -1,9 +1,17 @@
-ghost use Rattle.std.specs.Prelude.{◌≡◌, ◌≤◌, IfSome};
+ghost use Rattle.std.specs.Prelude.{◌≡◌, ◌≤◌, IfSome, ◌≢◌, [], IsTrue};
+ghost use Rattle.sdls_outside.specs.Faults.{Rose, HasCause};
+ghost use Rattle.sdls_outside.specs.Output.{OnlySinks, Delivers};
+ghost use Rattle.record_io.specs.Outcome.{Ends};
+ghost use Rattle.record_io.specs.declared.status.TheConstants.{SITE_FAULT, USAGE};
 ghost use Rattle.command_words.specs.Words.{HasFewFrames, check_of, command_of, drill_of, frames_of, key_of, of_one};
 ghost use Rattle.command_words.specs.Words.{of_three, of_two};
+ghost use Rattle.command_words.specs.Lines.{usage_text};
 
-use crate::command::{Command, MOST_FRAMES};
 use aes_block::Schedule;
+use record_io::Outcome;
+use record_io::status::{SITE_FAULT, USAGE};
+use sdls_outside::{Failed, Site};
+use std::alloc::Global;
 use unit_plan::number_of;
 
 /// The most octets of a key.
@@ -119,4 +127,72 @@ pub fn command_of(words: &[String]) -> Command
         [word, second, digits] => of_three(word.as_str(), second.as_str(), digits.as_str()),
         _ => Command::Usage,
     }
+}
+
+/// The most frames of a drill.
+pub const MOST_FRAMES: u64 = 100_000;
+
+/// What the words after the program's name ask for.
+#[derive(Drop)]
+pub enum Command {
+    /// `check KEY`: one frame is judged under this key.
+    Check(Schedule),
+    /// `init`: the image of a unit is made from a plan.
+    Init,
+    /// `stat`: the state in an image is printed.
+    Stat,
+    /// `run`: a recorded input is served.
+    Run,
+    /// `audit`: a recording of runs is searched for repeats.
+    Audit,
+    /// `drill N`: this number of frames goes from one unit to another.
+    Drill(u64),
+    /// `drill link N`: the same over a link that loses, repeats and delays.
+    LinkDrill(u64),
+    /// Any other words: the usage line is printed.
+    Usage,
+}
+
+const USAGE_TEXT: &[u8] = b"usage: sdls check KEY, init, run, stat, drill N, drill link N, audit\n";
+
+/// Writes a line, and ends the call with this status; or with that of a failed site, if the line could not be written
+/// whole. The call made no entry.
+pub fn end_with<O: Site>(alloc: Global, mut site: O, line: &[u8], status: u8) -> Outcome<O>
+    ensures ends { Ends O.told (O.trace site) (O.trace result.site) (Rose (O.faults site) (O.faults result.site))
+        line.now status result.status }
+    ensures only_sinks { IsTrue O.told → OnlySinks (O.trace site) (O.trace result.site) }
+    ensures quiet { result.status ≢ SITE_FAULT → O.faults result.site ≡ O.faults site }
+    ensures no_history { result.entries.items ≡ [] }
+{
+    match site.put(line) {
+        Ok(()) => Outcome {
+            status,
+            site,
+            entries: Vec::new(alloc),
+        },
+        Err(Failed) => Outcome {
+            status: SITE_FAULT,
+            site,
+            entries: Vec::new(alloc),
+        },
+    }
+}
+
+/// Ends a call whose words are none of a command: with the usage line.
+pub fn end_with_usage<O: Site>(alloc: Global, site: O) -> Outcome<O>
+    ensures ends { Ends O.told (O.trace site) (O.trace result.site) (Rose (O.faults site) (O.faults result.site))
+        usage_text USAGE result.status }
+    ensures only_sinks { IsTrue O.told → OnlySinks (O.trace site) (O.trace result.site) }
+    ensures quiet { result.status ≢ SITE_FAULT → O.faults result.site ≡ O.faults site }
+    ensures no_history { result.entries.items ≡ [] }
+{
+    end_with(alloc, site, USAGE_TEXT, USAGE)
+}
+
+/// Writes a text in one piece.
+pub fn put_text<O: Site>(site: &mut O, text: &[u8]) -> Result<(), Failed>
+    ensures delivered { IsTrue O.told → Delivers text.now result (O.trace site.old) (O.trace site.new) }
+    ensures cause { HasCause (O.faults site.old) (O.faults site.new) result }
+{
+    site.put(text)
 }

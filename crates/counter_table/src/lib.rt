@@ -9,15 +9,13 @@
 //! specs/Rule.antt. Of the book this crate knows what `Counted` says.
 #![tactic(auto)]
 
-mod counters;
 mod drawing;
 mod rule;
 mod shares;
-mod ticket;
 mod turns;
 mod view;
 
-pub use counters::{Counters, Held, Worker};
+pub use drawing::{Arm, Armed, Funded, Ticket};
 pub use rule::{Counted, Rule};
-pub use ticket::{Arm, Armed, Funded, Ticket};
+pub use turns::{Counters, Held, Worker};
 pub use view::{Known, Numbers, Opening, Trail, Turn, View};

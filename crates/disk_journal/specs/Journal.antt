@@ -3,8 +3,8 @@ use Rattle.std.specs.Prelude.{◌≡◌, ⊤, ℕ, ◌+◌, ◌≤◌, List, len
 use Rattle.sdls_outside.specs.Disk.{IsSynced}
 use Rattle.sdls_outside.specs.Moments.{Trace}
 use Rattle.sdls_outside.specs.Faults.{Rose}
-use Rattle.disk_journal.specs.declared.fault.JournalFault.{JournalFault}
-use Rattle.disk_journal.specs.declared.fault.JournalFault.TheVariants.{SiteFault, Image}
+use Rattle.disk_journal.specs.declared.layout.JournalFault.{JournalFault}
+use Rattle.disk_journal.specs.declared.layout.JournalFault.TheVariants.{SiteFault, Image}
 use Rattle.disk_journal.specs.declared.layout.Bank.{Bank}
 use Rattle.disk_journal.specs.declared.layout.Layout.{Layout}
 use Rattle.disk_journal.specs.declared.layout.TheConstants.{BANKS_AT, HEADER_LENGTH}

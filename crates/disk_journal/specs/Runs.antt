@@ -3,7 +3,7 @@ use Rattle.std.specs.Prelude.{◌≡◌, ℕ, ◌+◌, ◌-◌, ◌*◌, ◌<◌
 use Rattle.std.specs.List.{slice_get}
 use Rattle.sdls_base.specs.declared.TheConstants.{BODY_LENGTH}
 use Rattle.disk_journal.specs.declared.layout.TheConstants.{SLOT_LENGTH, RUN}
-use Rattle.disk_journal.specs.declared.record_run.RecordRun.{RecordRun}
+use Rattle.disk_journal.specs.declared.layout.RecordRun.{RecordRun}
 use Rattle.disk_journal.specs.Image.{records}
 
 -- the body of a slot of those that were read

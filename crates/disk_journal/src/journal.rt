@@ -1,34 +1,32 @@
 // The journal.
-ghost use Rattle.std.specs.Prelude.{◌≡◌, ℕ, ◌+◌, ◌^◌, ◌<◌, ◌≤◌, ◌⊎◌, IsTrue, IfOk, OnOk, OnErr, List, length};
-ghost use Rattle.std.specs.Prelude.{take, slice_get, slice_index};
+ghost use Rattle.std.specs.Prelude.{◌≡◌, ℕ, ◌+◌, ◌^◌, ◌<◌, ◌≤◌, ◌⊎◌, IsTrue, IfOk, OnOk, OnErr, List, length, take};
+ghost use Rattle.std.specs.Prelude.{slice_get, slice_index};
 ghost use Rattle.sdls_base.specs.Version.{content_length_of};
 ghost use Rattle.sdls_outside.specs.Disk.{IsSynced, Leaves};
 ghost use Rattle.sdls_outside.specs.Faults.{HasCause};
 ghost use Rattle.disk_journal.specs.Moments.{EachImage, OnlySyncs};
 ghost use Rattle.disk_journal.specs.declared.layout.TheConstants.{CLOSED, MIGRATED_AT};
-ghost use Rattle.disk_journal.specs.Banks.{version_of, version_number, layout_of, image_end, bank_at, slot_at};
-ghost use Rattle.disk_journal.specs.Banks.{other, next};
+ghost use Rattle.disk_journal.specs.Banks.{version_of, version_number, layout_of, image_end, bank_at, slot_at, other};
+ghost use Rattle.disk_journal.specs.Banks.{next};
 ghost use Rattle.disk_journal.specs.Image.{records, plan_of, content, current_at, record_at, held, grown, turned};
 ghost use Rattle.disk_journal.specs.Image.{version_in, migrated};
 ghost use Rattle.disk_journal.specs.Changes.{KeepsBeside, KeepsPlan, KeepsPast};
 ghost use Rattle.disk_journal.specs.Fault.{image_fault};
 ghost use Rattle.disk_journal.specs.Forms.{Becomes, Settles};
-ghost use Rattle.disk_journal.specs.Journal.{JournalView, IsJournalOf, IsOpen, IsClosed, IsSettled};
-ghost use Rattle.disk_journal.specs.Journal.{HasFault, HasSiteFault};
+ghost use Rattle.disk_journal.specs.Journal.{JournalView, IsJournalOf, IsOpen, IsClosed, IsSettled, HasFault};
+ghost use Rattle.disk_journal.specs.Journal.{HasSiteFault};
 ghost use Rattle.disk_journal.specs.Rest.{IsRest};
 ghost use Rattle.disk_journal.specs.Runs.{Has, IsRunOf};
 
-use crate::fault::JournalFault;
+use crate::creating::migrate_banks;
 use crate::layout::{
-    BANKS_AT, Bank, CONTENT_AT, FIRST_GENERATION, HEADER_LENGTH, HeaderForm, Layout, MOST_SLOTS,
-    PLAN_ROOM, RUN, SLOT_LENGTH, next_generation,
+    BANKS_AT, Bank, CONTENT_AT, FIRST_GENERATION, HEADER_LENGTH, HeaderForm, JournalFault, Layout,
+    MOST_SLOTS, PLAN_ROOM, RUN, RecordRun, SLOT_LENGTH, next_generation,
 };
-use crate::migrating::migrate_banks;
 use crate::opening_image::{Verdict, inspect_synced};
-use crate::record_run::RecordRun;
-use crate::settling::{clear_others, close_gate, close_migration, close_slot};
-use crate::storing::store_record;
-use crate::turning::turn_banks;
+use crate::storing::{
+    clear_others, close_gate, close_migration, close_slot, store_record, turn_banks,
+};
 use sdls_base::{BODY_LENGTH, CONTENT_LENGTH_TWO, Version};
 use sdls_outside::{Failed, Site};
 use std::marker::Model;

@@ -1,9 +1,23 @@
 // Where what stands in an image of two banks. All numbers in it are big-endian.
-ghost use Rattle.std.specs.Prelude.{◌≡◌, ◌+◌, ◌*◌, ◌^◌, ◌<◌, ◌≤◌};
+// Laws of images: each function is a statement about the definitions, and does nothing.
+// Records that are read a run at a time.
+ghost use Rattle.std.specs.Prelude.{◌≡◌, ◌+◌, ◌*◌, ◌^◌, ◌<◌, ◌≤◌, ◌⊎◌, ℕ, List, length, take, None, ◌↔◌, ◌-◌, IsTrue};
+ghost use Rattle.sdls_base.specs.Version.{content_length_of};
 ghost use Rattle.disk_journal.specs.Banks.{version_of, magic_of, zeros_at_of, banks_of, layout_of, IsLayout};
 ghost use Rattle.disk_journal.specs.Banks.{bank_length, bank_at, image_end, slot_at, other, next};
+ghost use Rattle.disk_journal.specs.declared.layout.TheConstants.{PLAN_ROOM, LEAST_SLOTS, MOST_SLOTS, OPEN, BANKS_AT};
+ghost use Rattle.disk_journal.specs.declared.layout.Bank.{Bank};
+ghost use Rattle.disk_journal.specs.declared.layout.HeaderForm.{HeaderForm};
+ghost use Rattle.disk_journal.specs.declared.layout.HeaderForm.TheVariants.{Old, New};
+ghost use Rattle.disk_journal.specs.Image.{image_layout};
+ghost use Rattle.disk_journal.specs.Rest.{IsRest};
+ghost use Rattle.disk_journal.specs.Initial.{front_image, rest_image, BeginsAtRest};
+ghost use Rattle.disk_journal.specs.Fault.{image_fault};
+ghost use Rattle.disk_journal.specs.Forms.{HasOneClosed, Regates, StaysWithin};
+ghost use Rattle.disk_journal.specs.Runs.{body_in, Has, IsRunOf};
 
-use sdls_base::{CONTENT_LENGTH_ONE, Version};
+use sdls_base::{BODY_LENGTH, CONTENT_LENGTH_ONE, Version};
+use thiserror::Error;
 
 /// The octets of the header, with which the image begins.
 pub const HEADER_LENGTH: u64 = 512;
@@ -216,5 +230,81 @@ impl Layout {
         ensures { result ≡ slot_at self bank index }
     {
         bank + CONTENT_AT + self.content_length + SLOT_LENGTH * index as u64
+    }
+}
+
+/// Law: an opening that is cut off while gates are closed leaves an image that holds what the image
+/// held, or one of its opened forms; and no opened form but the image and its opened forms.
+pub fn opening_stays()
+    ensures { (image left : List ℕ) → image_fault image ≡ None → HasOneClosed image → Regates image left
+        → StaysWithin image left }
+{}
+
+/// Law: the image that `create` or `create_two` writes opens, at rest and with a zero other bank, and holds
+/// the plan, the slots, the content and no records.
+pub fn initial_image_opens()
+    ensures { (form : HeaderForm) (plan text : List ℕ) (slots : ℕ) → (form ≡ Old) ⊎ (form ≡ New)
+        → length plan ≤ PLAN_ROOM → LEAST_SLOTS ≤ slots → slots ≤ MOST_SLOTS
+        → length text ≡ content_length_of (version_of form) → BeginsAtRest form plan slots text }
+{}
+
+/// Law: if each octet of all banks is stated, as after a turn or a migration, and what stands before them is
+/// the front of a plan, the image is the plan with one bank at rest, from its first octet to its last.
+pub fn rest_is_whole()
+    ensures { (form : HeaderForm) (image plan text : List ℕ) (slots generation : ℕ) (bank : Bank)
+        → image_layout image ≡ layout_of form slots
+        → length image ≡ image_end (layout_of form slots) → take BANKS_AT image ≡ front_image form OPEN plan slots
+        → IsRest image bank generation text → image ≡ rest_image form OPEN plan slots text generation bank }
+{}
+
+/// Why a call on a journal failed.
+#[derive(Clone, Copy, Debug, PartialEq, Eq, Error)]
+pub enum JournalFault {
+    /// The site failed; the count of its faults, which rose in the call.
+    #[error("site failed, fault {0}")]
+    SiteFault(u64),
+    /// The image does not open; the offset of the first check that fails. From `open` alone.
+    #[error("image does not open, fault at offset {0}")]
+    Image(u64),
+}
+
+/// The slots of records that were read in one call.
+#[derive(Drop)]
+pub struct RecordRun {
+    /// The slots, in the front.
+    pub(crate) slots: [u8; RUN_LENGTH],
+    /// The index of the first of the records, and the one behind the last.
+    pub(crate) first: u32,
+    pub(crate) end: u32,
+}
+
+impl RecordRun {
+    /// A run of no records.
+    pub fn new() -> RecordRun
+        ensures { (image : List ℕ) → IsRunOf image result }
+    {
+        RecordRun {
+            slots: [0; RUN_LENGTH],
+            first: 0,
+            end: 0,
+        }
+    }
+
+    /// Whether the record with this index is in the run.
+    pub(crate) fn has(&self, index: u32) -> bool
+        ensures { IsTrue result ↔ Has self.now index }
+    {
+        self.first <= index && index < self.end && index - self.first < RUN
+    }
+
+    /// The body of a record that is in the run.
+    pub(crate) fn body(&self, index: u32) -> [u8; BODY_LENGTH]
+        requires { Has self.now index }
+        ensures { result ≡ body_in self.now.slots (index - self.now.first) }
+    {
+        let mut body = [0; BODY_LENGTH];
+        let at = SLOT_LENGTH as usize * (index - self.first) as usize + 1;
+        body.copy_from_slice(&self.slots[at..at + BODY_LENGTH]);
+        body
     }
 }

@@ -10,30 +10,20 @@
 //! version 2 of one of version 1. No call takes memory.
 #![tactic(auto)]
 
-mod choosing;
 mod creating;
-mod fault;
-mod gates;
 mod header;
 mod journal;
-mod laws;
 mod layout;
-mod migrating;
 mod opening_image;
-mod record_run;
-mod settling;
 mod storing;
-mod turning;
 
 pub use creating::{create, create_two};
-pub use fault::JournalFault;
 pub use journal::Journal;
-pub use laws::{initial_image_opens, opening_stays, rest_is_whole};
 pub use layout::{
     BANKS_AT, Bank, CLOSED, CONTENT_AT, FIELD_LENGTH, FIRST_GENERATION, GENERATION_AT,
-    GENERATION_LENGTH, HEADER_LENGTH, HeaderForm, LEAST_SLOTS, Layout, MAGIC_AT, MAGIC_ONE,
-    MAGIC_TWO, MIGRATED_AT, MOST_SLOTS, OPEN, PLAN_AT, PLAN_LENGTH_AT, PLAN_ROOM, SLOT_COUNT_AT,
-    SLOT_LENGTH, ZEROS_AT,
+    GENERATION_LENGTH, HEADER_LENGTH, HeaderForm, JournalFault, LEAST_SLOTS, Layout, MAGIC_AT,
+    MAGIC_ONE, MAGIC_TWO, MIGRATED_AT, MOST_SLOTS, OPEN, PLAN_AT, PLAN_LENGTH_AT, PLAN_ROOM,
+    RecordRun, SLOT_COUNT_AT, SLOT_LENGTH, ZEROS_AT, initial_image_opens, opening_stays,
+    rest_is_whole,
 };
-pub use record_run::RecordRun;
 pub use sdls_base::BODY_LENGTH;

@@ -7,9 +7,7 @@ ghost use Rattle.disk_journal.specs.Banks.{IsLayout, image_end, bank_at};
 ghost use Rattle.disk_journal.specs.Journal.{IsHeaderOf, IsCurrent};
 ghost use Rattle.disk_journal.specs.Verdict.{IsVerdict};
 
-use crate::choosing::{choose, read_front};
-use crate::gates::{first_closed, stray_gate};
-use crate::header::{Header, read_header};
+use crate::header::{Header, choose, first_closed, read_front, read_header, stray_gate};
 use crate::journal::Journal;
 use crate::layout::{Bank, HEADER_LENGTH, Layout, PLAN_ROOM};
 use sdls_outside::{Failed, Site};

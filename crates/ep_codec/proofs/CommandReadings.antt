@@ -3,8 +3,8 @@ use Rattle.std.proofs.Common.{◌≡◌, ℕ, List, [], ◌∷◌, length, Optio
 use Rattle.std.proofs.Common.{◌∙◌}
 use Rattle.std.specs.Prelude.{IfOk, not, nat_lt, is_none}
 use Rattle.ep_codec.specs.declared.command.Command.{Command}
-use Rattle.ep_codec.specs.declared.pdu_error.PduError.{PduError}
-use Rattle.ep_codec.specs.declared.pdu_error.PduError.TheVariants.{Fault, NoMemory}
+use Rattle.ep_codec.specs.declared.procedure.PduError.{PduError}
+use Rattle.ep_codec.specs.declared.procedure.PduError.TheVariants.{Fault, NoMemory}
 use Rattle.ep_codec.specs.declared.procedure.PduType.TheVariants as types
 use Rattle.ep_codec.specs.declared.procedure.Procedure.{Procedure}
 use Rattle.sdls_base.specs.FirstFailing.{first_failing}

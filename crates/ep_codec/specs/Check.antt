@@ -1,8 +1,8 @@
 -- The tests of a procedure message, in an order (profile): each has the offset of its fault.
 use Rattle.std.specs.Prelude.{◌≡◌, ⊤, ℕ, List, Option, Some, None, Result, Ok, Err}
 use Rattle.sdls_base.specs.FirstFailing.{Check, first_failing}
-use Rattle.ep_codec.specs.declared.pdu_error.PduError.{PduError}
-use Rattle.ep_codec.specs.declared.pdu_error.PduError.TheVariants.{Fault, NoMemory}
+use Rattle.ep_codec.specs.declared.procedure.PduError.{PduError}
+use Rattle.ep_codec.specs.declared.procedure.PduError.TheVariants.{Fault, NoMemory}
 
 -- the error is the first fault; lack of memory needs no cause
 abbrev pub IsFirst : PduError → List (Check ℕ) → Type 0

@@ -11,10 +11,8 @@ ghost use Rattle.ep_codec.specs.Procedure.{has_command_length};
 ghost use Rattle.ep_codec.specs.Field.{count_check};
 
 use crate::command::Command;
-use crate::field_lists::{channels, keys};
-use crate::fields::{TAG, VECTOR, array, direction, key, spi, suite, window};
-use crate::pdu_error::PduError;
-use crate::procedure::Procedure;
+use crate::fields::{TAG, VECTOR, array, channels, direction, key, keys, spi, suite, window};
+use crate::procedure::{PduError, Procedure};
 use sdls_base::{NewSa, Octets, number_at, word_at};
 use std::alloc::Global;
 

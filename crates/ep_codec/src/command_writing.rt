@@ -1,15 +1,14 @@
 //! Commands as octets.
 ghost use Rattle.std.specs.Prelude.{◌≡◌, ◌*◌, ◌+◌, ◌^◌, ◌<◌, ◌≤◌, IsTrue, [], ◌∷◌, ◌++◌, length, OnOk, IfOk};
 ghost use Rattle.std.specs.Int.{w16, w64, to_be_bytes, is_in_range};
-ghost use Rattle.ep_codec.specs.Field.{is_key, is_spi};
 ghost use Rattle.sdls_base.specs.Bounds.{IsKeyCount};
 ghost use Rattle.sdls_base.specs.Spelling.{association_octets};
+ghost use Rattle.ep_codec.specs.Field.{is_key, is_spi};
 ghost use Rattle.ep_codec.specs.Command.{AreKeys, message, sealed_data, keys_data, command_octets, IsInBounds};
 ghost use Rattle.ep_codec.specs.Command.{HasTypes, IsCommandPdu};
 
 use crate::command::Command;
-use crate::fields::SEALED_EXTRA;
-use crate::writing::{begin, put_number, put_word};
+use crate::fields::{SEALED_EXTRA, begin, put_number, put_word};
 use sdls_base::{KeyId, KeyList, MOST_CHANNELS, NewSa, NoMemory, Octets, Spi};
 use std::alloc::Global;
 

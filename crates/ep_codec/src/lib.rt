@@ -9,23 +9,17 @@
 mod command;
 mod command_reading;
 mod command_writing;
-mod field_lists;
 mod fields;
-mod header;
 mod laws;
-mod pdu_error;
 mod procedure;
-mod reading;
 mod reply_pdu;
 mod reply_reading;
 mod reply_writing;
-mod writing;
 
 pub use command::Command;
 pub use command_writing::write_pdu;
+pub use fields::{read_pdu, read_reply};
 pub use laws::{command_without_fault, one_command, one_reply, reply_without_fault};
-pub use pdu_error::PduError;
-pub use procedure::Procedure;
-pub use reading::{read_pdu, read_reply};
+pub use procedure::{PduError, Procedure};
 pub use reply_pdu::ReplyPdu;
 pub use reply_writing::write_reply;

@@ -1,6 +1,10 @@
 ghost use Rattle.std.specs.Prelude.{◌≡◌};
 ghost use Rattle.ep_codec.specs.Procedure.{procedure_of, tag_of, has_command_length, has_reply_length};
 ghost use Rattle.ep_codec.specs.Procedure.{procedure_tagged, has_length};
+ghost use Rattle.ep_codec.specs.declared.procedure.PduError.TheVariants.{NoMemory};
+
+use std::alloc::{AllocError, AllocFailed};
+use thiserror::Error;
 
 /// One of the seventeen procedures of the key and association management (CCSDS 355.1-B-1 by purpose): the seven of
 /// keys, then the ten of associations. A command and the reply to it are messages of one procedure.
@@ -149,5 +153,32 @@ impl PduType {
             PduType::Command => procedure.has_command_length(length),
             PduType::Reply => procedure.has_reply_length(length),
         }
+    }
+}
+
+/// Why octets were not read.
+#[derive(Clone, Copy, Debug, PartialEq, Eq, Error)]
+pub enum PduError {
+    /// The octets are no message of this type. The offset of the first fault, in octets from the first.
+    #[error("no message, fault at octet {0}")]
+    Fault(u32),
+    /// Memory ran out.
+    #[error("no memory")]
+    NoMemory,
+}
+
+impl From<AllocError> for PduError {
+    ghost from_gives = { λ _ e. e ≡ NoMemory };
+
+    fn from(_refused: AllocError) -> PduError {
+        PduError::NoMemory
+    }
+}
+
+impl<T: Drop> From<AllocFailed<T>> for PduError {
+    ghost from_gives = { λ _ e. e ≡ NoMemory };
+
+    fn from(_refused: AllocFailed<T>) -> PduError {
+        PduError::NoMemory
     }
 }

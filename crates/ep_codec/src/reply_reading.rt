@@ -11,10 +11,8 @@ ghost use Rattle.ep_codec.specs.Procedure.{has_reply_length};
 ghost use Rattle.sdls_base.specs.Places.{word_at};
 ghost use Rattle.ep_codec.specs.Field.{sealing_key_check, mac_key_check, inner_tag_check, inner_length_check};
 
-use crate::field_lists::rows;
-use crate::fields::{TAG, VECTOR, array, direction, key, sa_state, spi, suite, window};
-use crate::pdu_error::PduError;
-use crate::procedure::Procedure;
+use crate::fields::{TAG, VECTOR, array, direction, key, rows, sa_state, spi, suite, window};
+use crate::procedure::{PduError, Procedure};
 use crate::reply_pdu::ReplyPdu;
 use sdls_base::{KeyClass, KeyId, Octets, double_word_at, number_at, word_at};
 use std::alloc::Global;

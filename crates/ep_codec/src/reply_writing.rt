@@ -9,10 +9,9 @@ ghost use Rattle.ep_codec.specs.ReplyPdu.{AreKeyRows, row_octets, reply_octets, 
 ghost use Rattle.ep_codec.specs.Procedure.{tag_of};
 
 use crate::command_writing::{number_message, put_sealed, sealed_message};
-use crate::fields::{KEY, SEALED_EXTRA, TAG};
+use crate::fields::{HEADER, KEY, SEALED_EXTRA, TAG, begin, put_double_word, put_number, put_word};
 use crate::procedure::Procedure;
 use crate::reply_pdu::ReplyPdu;
-use crate::writing::{HEADER, begin, put_double_word, put_number, put_word};
 use sdls_base::{Direction, KeyId, KeyRows, KeyState, NoMemory, Octets, SaState, Spi, Suite};
 use std::alloc::Global;
 

@@ -8,7 +8,7 @@ use Rattle.sdls_base.specs.declared.entry.Seen.{Seen}
 use Rattle.sdls_base.specs.declared.states.SaState.{SaState}
 use Rattle.sdls_base.specs.declared.states.SaState.TheVariants.{Unkeyed}
 use Rattle.key_book.specs.declared.key_row.KeyRow.{KeyRow}
-use Rattle.sa_book.specs.declared.sa_row.SaRow.{SaRow}
+use Rattle.sa_book.specs.declared.sa_book.SaRow.{SaRow}
 use Rattle.sa_book.specs.SaRefusal.{on_row, unless_unkeyed}
 use Rattle.unit_state.specs.declared.state.State.{State}
 use Rattle.unit_state.specs.State.{key_row, association_row}

@@ -9,25 +9,25 @@ use Rattle.sdls_base.specs.FirstFailing.{fails_if, first_told}
 use Rattle.sdls_base.specs.KeyId.{class_of, end_of}
 use Rattle.sdls_base.specs.Suite.{class_of_suite}
 use Rattle.sdls_base.specs.declared.TheConstants.{MOST_KEYS, MOST_ASSOCIATIONS}
-use Rattle.sdls_base.specs.declared.change.NewSa.{NewSa}
-use Rattle.sdls_base.specs.declared.key_item.KeyItem.{KeyItem}
+use Rattle.sdls_base.specs.declared.entry.NewSa.{NewSa}
+use Rattle.sdls_base.specs.declared.key_id.KeyItem.{KeyItem}
 use Rattle.sdls_base.specs.declared.states.Direction.{Direction}
 use Rattle.sdls_base.specs.declared.states.Direction.TheVariants.{Send, Receive}
 use Rattle.sdls_base.specs.declared.states.KeyState.{KeyState}
 use Rattle.sdls_base.specs.declared.states.KeyState.TheVariants.{PreActive, Active, Deactivated, Destroyed}
 use Rattle.sdls_base.specs.declared.states.SaState.{SaState}
 use Rattle.sdls_base.specs.declared.states.SaState.TheVariants.{Unkeyed, Keyed, Operational}
-use Rattle.key_book.specs.declared.key_refusal.KeyRefusal.{KeyRefusal}
-use Rattle.key_book.specs.declared.key_refusal.KeyRefusal.TheVariants as key_book
+use Rattle.key_book.specs.declared.refusals.KeyRefusal.{KeyRefusal}
+use Rattle.key_book.specs.declared.refusals.KeyRefusal.TheVariants as key_book
 use Rattle.key_book.specs.declared.key_row.KeyRow.{KeyRow}
 use Rattle.key_book.specs.KeyRow.{new_row}
 use Rattle.key_book.specs.KeyRefusal.{row_with, key_refusal, items_refusal, load_refusal}
 use Rattle.key_book.specs.KeyBook.{row_of}
 use Rattle.key_book.specs.Moves as moves
 use Rattle.key_book.specs.Moves.{moved, moves_refusal}
-use Rattle.sa_book.specs.declared.sa_refusal.SaRefusal.{SaRefusal}
-use Rattle.sa_book.specs.declared.sa_refusal.SaRefusal.TheVariants as sa_book
-use Rattle.sa_book.specs.declared.sa_row.SaRow.{SaRow}
+use Rattle.sa_book.specs.declared.refusals.SaRefusal.{SaRefusal}
+use Rattle.sa_book.specs.declared.refusals.SaRefusal.TheVariants as sa_book
+use Rattle.sa_book.specs.declared.sa_book.SaRow.{SaRow}
 use Rattle.sa_book.specs.SaBook.{row_of as found_row}
 use Rattle.sa_book.specs.SaRefusal as rows
 use Rattle.sa_book.specs.SaRefusal.{on_row, number_refusal, number_refusal_of, create_refusal, rekey_refusal}

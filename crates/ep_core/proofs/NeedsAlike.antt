@@ -13,9 +13,9 @@ use Rattle.sdls_base.specs.declared.states.Direction.{Direction}
 use Rattle.sdls_base.specs.declared.states.Direction.TheVariants.{Send, Receive}
 use Rattle.sdls_base.specs.declared.states.KeyState.{KeyState}
 use Rattle.key_book.specs.declared.key_row.KeyRow.{KeyRow}
-use Rattle.sa_book.specs.declared.sa_row.SaRow.{SaRow}
-use Rattle.sa_book.specs.declared.sa_refusal.SaRefusal.{SaRefusal}
-use Rattle.sa_book.specs.declared.sa_refusal.SaRefusal.TheVariants.{WrongSuite}
+use Rattle.sa_book.specs.declared.sa_book.SaRow.{SaRow}
+use Rattle.sa_book.specs.declared.refusals.SaRefusal.{SaRefusal}
+use Rattle.sa_book.specs.declared.refusals.SaRefusal.TheVariants.{WrongSuite}
 use Rattle.sa_book.specs.SaRefusal.{on_row, unless_unkeyed, if_unkeyed, unless_active, is_same_class, taken_key}
 use Rattle.sa_book.specs.SaRefusal.{receiver_with, number_refusal, number_refusal_of, key_refusal}
 use Rattle.unit_state.specs.declared.state.State.{State}
@@ -26,8 +26,8 @@ use Rattle.ep_codec.specs.declared.command.Command.TheVariants.{Rekeying, Activa
 use Rattle.ep_codec.specs.declared.command.Command.TheVariants.{Inventory, Compose, ReadNumber, Create, Delete}
 use Rattle.ep_codec.specs.declared.command.Command.TheVariants.{SetWindow, Rekey, Expire, SetNumber, Start, Stop}
 use Rattle.ep_codec.specs.declared.command.Command.TheVariants.{Status}
-use Rattle.ep_core.specs.declared.need.Need.{Need}
-use Rattle.ep_core.specs.declared.need.Need.TheVariants.{Nothing, Look, Raise, Number}
+use Rattle.ep_core.specs.declared.judging.Need.{Need}
+use Rattle.ep_core.specs.declared.judging.Need.TheVariants.{Nothing, Look, Raise, Number}
 use Rattle.ep_core.specs.declared.refusal.Refusal.{Refusal}
 use Rattle.ep_core.specs.declared.refusal.Refusal.TheVariants.{NotMaster, NotSession}
 use Rattle.ep_core.specs.Need.{is_sending, sending_key_of, need_of}

@@ -9,7 +9,7 @@ use Rattle.ep_codec.specs.Command.{message, sealed_data}
 use Rattle.ep_codec.specs.ReplyPdu.{HasTypes, IsInBounds, IsReplyPdu, reply_octets, row_octets}
 use Rattle.ep_codec.proofs.Lengths.{rows_length}
 use Rattle.ep_codec.proofs.FieldFacts.{high_bound}
-use Rattle.ep_core.specs.declared.reply_octets.TheConstants.{MOST_REPLY_OCTETS}
+use Rattle.ep_core.specs.declared.refusal.TheConstants.{MOST_REPLY_OCTETS}
 
 sealed_length : (key : ℕ) (vector sealed tag : List ℕ) → length vector ≡ 12 → length tag ≡ 16
     → length (sealed_data key vector sealed tag) ≡ 30 + length sealed

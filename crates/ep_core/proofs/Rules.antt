@@ -4,10 +4,10 @@ use Rattle.std.proofs.lemmas.List.{length-take}
 use Rattle.sdls_base.specs.KeyId.{end_of}
 use Rattle.sdls_base.specs.declared.states.Direction.{Direction}
 use Rattle.sdls_base.specs.declared.states.Direction.TheVariants.{Send, Receive}
-use Rattle.key_book.specs.declared.inventory.Inventory.{Inventory}
+use Rattle.key_book.specs.declared.key_book.Inventory.{Inventory}
 use Rattle.key_book.specs.declared.key_row.KeyRow.{KeyRow}
 use Rattle.key_book.specs.Inventory.{IsInventory}
-use Rattle.sa_book.specs.declared.sa_row.SaRow.{SaRow}
+use Rattle.sa_book.specs.declared.sa_book.SaRow.{SaRow}
 use Rattle.sa_book.specs.SaRow.{IsSaRow, HasHigh}
 use Rattle.unit_state.specs.declared.state.State.{State}
 use Rattle.unit_state.specs.State.{KeepsRules, association_row}

@@ -9,14 +9,14 @@ use Rattle.std.specs.List.{AllByRecursion}
 use Rattle.std.proofs.lemmas.List.Elements.{All-nil, All-cons}
 use Rattle.std.specs.Option.{option_or}
 use Rattle.sdls_base.specs.FirstFailing.{first_told}
-use Rattle.sdls_base.specs.declared.change.Change.{Change}
+use Rattle.sdls_base.specs.declared.entry.Change.{Change}
 use Rattle.sdls_base.specs.declared.entry.Seen.{Seen}
 use Rattle.gcm.specs.Gcm.{gcm_open, gctr, tag_of}
 use Rattle.unit_state.specs.declared.state.State.{State}
 use Rattle.ep_codec.specs.declared.command.Command.{Command}
 use Rattle.ep_codec.specs.declared.command.Command.TheVariants.{Rekeying}
 use Rattle.ep_core.specs.declared.refusal.Refusal.{Refusal}
-use Rattle.ep_core.specs.declared.reply.Reply.{Reply}
+use Rattle.ep_core.specs.declared.refusal.Reply.{Reply}
 use Rattle.ep_core.specs.Refusals.{refusal_of, opened, master_checks, text_checks, rekeying_checks}
 use Rattle.ep_core.specs.Step.{IsStep, IsDone, IsLoading, refused}
 use Rattle.ep_core.proofs.Checks.{told_append}

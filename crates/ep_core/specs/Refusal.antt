@@ -2,10 +2,10 @@
 use Rattle.std.specs.Prelude.{ℕ, Option, Some, None}
 use Rattle.std.specs.Option.{option_map}
 use Rattle.sdls_base.specs.declared.TheConstants.{MOST_KEYS, MOST_ASSOCIATIONS}
-use Rattle.key_book.specs.declared.key_refusal.KeyRefusal.{KeyRefusal}
-use Rattle.key_book.specs.declared.key_refusal.KeyRefusal.TheVariants as key_book
-use Rattle.sa_book.specs.declared.sa_refusal.SaRefusal.{SaRefusal}
-use Rattle.sa_book.specs.declared.sa_refusal.SaRefusal.TheVariants as sa_book
+use Rattle.key_book.specs.declared.refusals.KeyRefusal.{KeyRefusal}
+use Rattle.key_book.specs.declared.refusals.KeyRefusal.TheVariants as key_book
+use Rattle.sa_book.specs.declared.refusals.SaRefusal.{SaRefusal}
+use Rattle.sa_book.specs.declared.refusals.SaRefusal.TheVariants as sa_book
 use Rattle.sdls_base.specs.Code.{key_state_code, sa_state_code}
 use Rattle.ep_core.specs.declared.refusal.Refusal.{Refusal}
 use Rattle.ep_core.specs.declared.refusal.Refusal.TheVariants.{AlreadyLoaded, DuplicateKey, BookFull, KeyInState}

@@ -5,7 +5,7 @@ use Rattle.std.specs.Prelude.{slice_index, Option, Some, None}
 use Rattle.std.specs.Int.{w16, w32, to_be_bytes, from_be_bytes}
 use Rattle.std.specs.Option.{option_or}
 use Rattle.sdls_base.specs.FirstFailing.{first_failing}
-use Rattle.sdls_base.specs.declared.key_item.KeyItem.{KeyItem}
+use Rattle.sdls_base.specs.declared.key_id.KeyItem.{KeyItem}
 
 -- the first five octets of a Rekeying message, by its master key and how many octets are sealed: its tag, the length of
 -- its data in bits, and the key

@@ -6,8 +6,8 @@ use Rattle.cmac.specs.Cmac.{mac}
 use Rattle.gcm.specs.Gcm.{gcm_seal}
 use Rattle.sdls_base.specs.FirstFailing.{first_told}
 use Rattle.sdls_base.specs.KeyId.{class_of}
-use Rattle.sdls_base.specs.declared.change.Change.{Change}
-use Rattle.sdls_base.specs.declared.change.Change.TheVariants as changes
+use Rattle.sdls_base.specs.declared.entry.Change.{Change}
+use Rattle.sdls_base.specs.declared.entry.Change.TheVariants as changes
 use Rattle.sdls_base.specs.declared.entry.Seen.{Seen}
 use Rattle.sdls_base.specs.declared.key_id.KeyClass.{KeyClass}
 use Rattle.sdls_base.specs.declared.key_id.KeyClass.TheVariants.{Master, Gcm, Cmac}
@@ -15,11 +15,11 @@ use Rattle.sdls_base.specs.declared.states.Direction.{Direction}
 use Rattle.sdls_base.specs.declared.states.Direction.TheVariants.{Send, Receive}
 use Rattle.sdls_base.specs.declared.states.KeyState.TheVariants.{Active, Deactivated, Destroyed}
 use Rattle.sdls_base.specs.declared.states.SaState.TheVariants.{Unkeyed, Keyed, Operational}
-use Rattle.key_book.specs.declared.inventory.Inventory.{Inventory as Listing}
+use Rattle.key_book.specs.declared.key_book.Inventory.{Inventory as Listing}
 use Rattle.key_book.specs.declared.key_row.KeyRow.{KeyRow}
 use Rattle.key_book.specs.Inventory.{IsInventory}
 use Rattle.replay_window.specs.Window.{field_of}
-use Rattle.sa_book.specs.declared.sa_row.SaRow.{SaRow}
+use Rattle.sa_book.specs.declared.sa_book.SaRow.{SaRow}
 use Rattle.unit_state.specs.declared.state.State.{State}
 use Rattle.unit_state.specs.State.{key_row, association_row}
 use Rattle.ep_codec.specs.declared.command.Command.{Command}
@@ -31,12 +31,12 @@ use Rattle.ep_codec.specs.declared.reply_pdu.ReplyPdu.{ReplyPdu}
 use Rattle.ep_codec.specs.declared.reply_pdu.ReplyPdu.TheVariants as replies
 use Rattle.ep_codec.specs.ReplyPdu.{reply_octets}
 use Rattle.ep_core.specs.declared.refusal.Refusal.{Refusal}
-use Rattle.ep_core.specs.declared.reply.Reply.{Reply}
-use Rattle.ep_core.specs.declared.reply.Reply.TheVariants.{Done, Refused}
+use Rattle.ep_core.specs.declared.refusal.Reply.{Reply}
+use Rattle.ep_core.specs.declared.refusal.Reply.TheVariants.{Done, Refused}
 use Rattle.ep_core.specs.Refusal.{code_of, value_of}
 use Rattle.ep_core.specs.Refusals.{refusal_of, opened, items_of, text_checks}
 use Rattle.sdls_base.specs.Spelling.{item_octets}
-use Rattle.sdls_header.specs.declared.pieces.Vector.TheVariants.{Wide}
+use Rattle.sdls_header.specs.declared.header.Vector.TheVariants.{Wide}
 use Rattle.sdls_header.specs.SecurityHeader.{vector_octets}
 use Rattle.ep_core.specs.Sealed.{front, challenge_data, challenge_text}
 use Rattle.ep_core.specs.Seen.{word_of, number_of}

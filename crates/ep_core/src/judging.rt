@@ -1,13 +1,12 @@
 ghost use Rattle.std.specs.Prelude.{◌≡◌, is_some, if◌then◌else◌};
 ghost use Rattle.std.specs.Option.{option_map_or};
-ghost use Rattle.ep_codec.specs.Command.{IsInBounds};
 ghost use Rattle.unit_state.specs.State.{KeepsRules};
-ghost use Rattle.ep_core.specs.declared.need.Need.TheVariants.{Nothing, Raise};
+ghost use Rattle.ep_codec.specs.Command.{IsInBounds};
+ghost use Rattle.ep_core.specs.declared.judging.Need.TheVariants.{Nothing, Raise};
 ghost use Rattle.ep_core.specs.Need.{is_sending, sends, sending_key_of, sending_key, need_of};
 
-use crate::need::Need;
 use crate::refusal::Refusal;
-use crate::{associations, sealing};
+use crate::{effects, sealing};
 use ep_codec::Command;
 use sa_book::SaRow;
 use sdls_base::{Direction, KeyId, Seen, Spi};
@@ -101,15 +100,15 @@ pub fn judge(state: &State, command: &Command) -> Need
             Need::Number(*master),
         ),
         Command::ReadNumber(spi) => unless_refused(
-            associations::refuse_read_number(state, *spi),
+            effects::refuse_read_number(state, *spi),
             sending_key(state, *spi).map_or(Need::Nothing, Need::Look),
         ),
         Command::Rekey { spi, key, number } => unless_refused(
-            associations::refuse_rekey(state, *spi, *key, *number, 0),
+            effects::refuse_rekey(state, *spi, *key, *number, 0),
             rekey_need(state, *spi, *key, *number),
         ),
         Command::SetNumber { spi, number } => unless_refused(
-            associations::refuse_set_number(state, *spi, *number, 0),
+            effects::refuse_set_number(state, *spi, *number, 0),
             number_need(state, *spi, *number),
         ),
         Command::Rekeying { .. }
@@ -125,4 +124,17 @@ pub fn judge(state: &State, command: &Command) -> Need
         | Command::Stop(_)
         | Command::Status(_) => Need::Nothing,
     }
+}
+
+/// What the numbers of a key have to show before a command is decided.
+#[derive(Clone, Copy, Debug, PartialEq, Eq)]
+pub enum Need {
+    /// Nothing: the command is decided by the state alone.
+    Nothing,
+    /// The next number of the key.
+    Look(KeyId),
+    /// The next number of the key, which is then raised to at least this one.
+    Raise(KeyId, u64),
+    /// A number of the key, drawn for use.
+    Number(KeyId),
 }

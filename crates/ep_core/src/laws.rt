@@ -1,6 +1,4 @@
 ghost use Rattle.std.specs.Prelude.{◌≡◌, ◌≢◌, ℕ, ◌<◌, List, ◌∷◌, ◌++◌, length, take};
-ghost use Rattle.sdls_base.specs.declared.change.Change.{Change};
-ghost use Rattle.sdls_base.specs.declared.entry.Seen.{Seen};
 ghost use Rattle.sdls_header.specs.Authenticated.{authenticated};
 ghost use Rattle.unit_state.specs.declared.state.State.{State};
 ghost use Rattle.unit_state.specs.State.{KeepsRules};
@@ -9,11 +7,13 @@ ghost use Rattle.unit_state.specs.Restart.{still};
 ghost use Rattle.ep_codec.specs.declared.command.Command.{Command};
 ghost use Rattle.ep_codec.specs.declared.command.Command.TheVariants.{Rekeying};
 ghost use Rattle.ep_codec.specs.Command.{IsInBounds, command_octets};
-ghost use Rattle.ep_core.specs.declared.reply.Reply.{Reply};
+ghost use Rattle.ep_core.specs.declared.refusal.Reply.{Reply};
 ghost use Rattle.ep_core.specs.Need.{need_of};
 ghost use Rattle.ep_core.specs.Sealed.{front, no_frame};
 ghost use Rattle.ep_core.specs.Seen.{MeetsNeed};
 ghost use Rattle.ep_core.specs.Step.{IsStep};
+ghost use Rattle.sdls_base.specs.declared.entry.Change.{Change};
+ghost use Rattle.sdls_base.specs.declared.entry.Seen.{Seen};
 
 /// Law: what a MAC covers of a frame does not begin with four octets ff, whatever the mask, where the frame's first
 /// octet is below 192: a frame's version is not 3. So no answer to a challenge covers what a frame's MAC or tag covers.

@@ -5,28 +5,17 @@
 //! [`judge`] says what has to be seen before a command is decided, and [`plan_change`] decides it.
 #![tactic(auto)]
 
-mod associations;
-mod composing;
 mod effects;
-mod items;
 mod judging;
 mod keys;
 mod laws;
-mod need;
 mod planning;
 mod refusal;
-mod rekeying;
-mod reply;
-mod reply_octets;
-mod sealed;
 mod sealing;
 mod step;
 mod verifying;
 
-pub use judging::judge;
+pub use judging::{Need, judge};
 pub use laws::{changes_are_allowed, front_is_the_message, needs_alike, no_frame_begins_so};
-pub use need::Need;
 pub use planning::plan_change;
-pub use refusal::Refusal;
-pub use reply::Reply;
-pub use reply_octets::{MOST_REPLY_OCTETS, ReplyOctets};
+pub use refusal::{MOST_REPLY_OCTETS, Refusal, Reply, ReplyOctets};

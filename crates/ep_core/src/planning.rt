@@ -1,14 +1,14 @@
 ghost use Rattle.std.specs.Prelude.{IfOk};
-ghost use Rattle.ep_codec.specs.Command.{IsInBounds};
 ghost use Rattle.unit_state.specs.State.{KeepsRules};
+ghost use Rattle.ep_codec.specs.Command.{IsInBounds};
 ghost use Rattle.ep_core.specs.Need.{need_of};
 ghost use Rattle.ep_core.specs.Seen.{MeetsNeed};
 ghost use Rattle.ep_core.specs.Step.{IsStep};
 
-use crate::composing::compose;
 use crate::effects::plain;
-use crate::rekeying::rekeying;
-use crate::reply::Reply;
+use crate::keys::rekeying;
+use crate::refusal::Reply;
+use crate::sealing::compose;
 use crate::verifying::verify;
 use ep_codec::Command;
 use sdls_base::{Change, NoMemory, Seen};

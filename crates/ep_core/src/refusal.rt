@@ -1,9 +1,11 @@
-ghost use Rattle.std.specs.Prelude.{◌≡◌, Option};
+//! The message of a reply.
+ghost use Rattle.std.specs.Prelude.{◌≡◌, Option, ◌≤◌, length};
 ghost use Rattle.ep_core.specs.Refusal.{code_of, value_of, of_keys, of_association};
 
 use key_book::KeyRefusal;
 use sa_book::SaRefusal;
-use sdls_base::{ChannelId, KeyId, KeyState, MOST_ASSOCIATIONS, MOST_KEYS, SaState, Spi};
+use sdls_base::{ChannelId, KeyId, KeyState, MOST_ASSOCIATIONS, MOST_KEYS, Octets, SaState, Spi};
+use std::marker::Model;
 
 /// Why a command is refused, with what decided.
 #[derive(Clone, Copy)]
@@ -155,5 +157,80 @@ impl Refusal {
             SaRefusal::KeyTaken(other) => Some(Refusal::KeyTaken(other)),
             SaRefusal::NoMemory => None,
         }
+    }
+}
+
+/// The reply to a command.
+#[derive(Drop)]
+pub enum Reply {
+    /// The command was done.
+    Done {
+        /// The key of which a number was used; none where no number was.
+        key: Option<KeyId>,
+        /// The number that was used, or 0.
+        number: u64,
+        /// The message that says it.
+        pdu: ReplyOctets,
+    },
+    /// The command was refused, and nothing changed.
+    Refused {
+        /// The detail that names the refusal.
+        code: u8,
+        /// The value that decided.
+        value: u64,
+    },
+}
+
+impl Reply {
+    pub(crate) fn refused(refusal: Refusal) -> Reply
+        ensures { result ≡ Reply.Refused (code_of refusal) (value_of refusal) }
+    {
+        Reply::Refused {
+            code: refusal.code(),
+            value: refusal.value(),
+        }
+    }
+}
+
+/// The most octets of a reply: the inventory of 256 keys, 3 octets each, behind a header and a count.
+pub const MOST_REPLY_OCTETS: usize = 773;
+
+/// The octets of a reply, at most [`MOST_REPLY_OCTETS`].
+#[derive(Drop)]
+pub struct ReplyOctets {
+    octets: Octets,
+}
+
+impl Model for ReplyOctets {
+    ghost use Rattle.std.specs.Prelude.{List, ℕ, ◌≤◌, length};
+    ghost use Rattle.ep_core.specs.declared.refusal.TheConstants.{MOST_REPLY_OCTETS};
+
+    ghost Value = { List ℕ };
+
+    ghost view = { λ reply. reply.octets };
+
+    ghost invariant = { λ reply. length reply.octets ≤ MOST_REPLY_OCTETS };
+}
+
+impl ReplyOctets {
+    pub fn new(octets: Octets) -> ReplyOctets
+        requires { length octets ≤ MOST_REPLY_OCTETS }
+        ensures { result ≡ octets }
+    {
+        ReplyOctets { octets }
+    }
+
+    pub fn as_slice(&self) -> &[u8]
+        ensures { result.now ≡ self.now }
+    {
+        self.octets.as_slice()
+    }
+
+    /// The octets, given back without taking memory.
+    pub fn into_octets(self) -> Octets
+        ensures octets { result ≡ self }
+        ensures few { length result ≤ MOST_REPLY_OCTETS }
+    {
+        self.octets
     }
 }

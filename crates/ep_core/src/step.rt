@@ -1,12 +1,9 @@
 //! The parts of a step: a change with the reply that says it.
-
 ghost use Rattle.std.specs.Prelude.{◌≡◌, IfOk};
 ghost use Rattle.ep_codec.specs.ReplyPdu.{IsInBounds, reply_octets};
 ghost use Rattle.ep_core.specs.Step.{done, refused, using_number};
 
-use crate::refusal::Refusal;
-use crate::reply::Reply;
-use crate::reply_octets::ReplyOctets;
+use crate::refusal::{Refusal, Reply, ReplyOctets};
 use ep_codec::{ReplyPdu, write_reply};
 use sdls_base::{Change, KeyId, NoMemory};
 use std::alloc::Global;

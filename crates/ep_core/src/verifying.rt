@@ -1,24 +1,22 @@
 //! Challenges that are answered.
-
 ghost use Rattle.std.specs.Prelude.{◌≡◌, ◌≤◌, ◌<◌, ◌^◌, ◌++◌, IfOk, IsTrue, length, None, Some};
 ghost use Rattle.sdls_base.specs.Bounds.{IsKeyLength};
 ghost use Rattle.sdls_base.specs.KeyId.{class_of};
 ghost use Rattle.sdls_base.specs.declared.key_id.KeyClass.TheVariants.{Cmac};
 ghost use Rattle.cmac.specs.Cmac.{mac};
+ghost use Rattle.unit_state.specs.State.{KeepsRules};
 ghost use Rattle.ep_codec.specs.declared.command.Command.TheVariants.{Verify};
 ghost use Rattle.ep_codec.specs.declared.reply_pdu.ReplyPdu.TheVariants.{VerifyCmac};
 ghost use Rattle.ep_codec.specs.Field.{seals};
 ghost use Rattle.ep_codec.specs.ReplyPdu.{IsInBounds};
-ghost use Rattle.unit_state.specs.State.{KeepsRules};
 ghost use Rattle.ep_core.specs.Refusals.{refusal_of};
 ghost use Rattle.ep_core.specs.Sealed.{challenge_text};
 ghost use Rattle.ep_core.specs.Need.{need_of};
 ghost use Rattle.ep_core.specs.Seen.{MeetsNeed, IsNumberSeen, number_of};
 ghost use Rattle.ep_core.specs.Step.{IsDone, IsStep, sealed_challenge, verified};
 
-use crate::reply::Reply;
-use crate::sealed::{challenge_data, schedule};
-use crate::sealing::{number_of, verify_refusal};
+use crate::refusal::Reply;
+use crate::sealing::{challenge_data, number_of, schedule, verify_refusal};
 use crate::step::{refused, using_number};
 use cmac::mac;
 use ep_codec::ReplyPdu;

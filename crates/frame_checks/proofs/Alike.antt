@@ -9,7 +9,7 @@ use Rattle.sdls_base.specs.FirstFailing.{first_failing}
 use Rattle.sdls_base.specs.declared.link.Link.{Link}
 use Rattle.sdls_base.specs.declared.states.Suite.{Suite}
 use Rattle.key_book.specs.declared.key_row.KeyRow.{KeyRow}
-use Rattle.sa_book.specs.declared.sa_row.SaRow.{SaRow}
+use Rattle.sa_book.specs.declared.sa_book.SaRow.{SaRow}
 use Rattle.sa_book.specs.SaBook.{sender_on}
 use Rattle.unit_plan.specs.PlanLines.{PlanLines, link_of}
 use Rattle.unit_state.specs.declared.state.State.{State}
@@ -20,7 +20,7 @@ use Rattle.frame_shield.specs.declared.binding.Binding.{Binding}
 use Rattle.frame_shield.specs.declared.protecting_frames.ShieldFault.TheVariants.{Layout, Channel, State as NoSender}
 use Rattle.frame_checks.specs.Binding.{binding_of}
 use Rattle.frame_checks.specs.Header.{lacks_header, is_clear, channel_of}
-use Rattle.frame_checks.specs.declared.trying.Opener.{Opener}
+use Rattle.frame_checks.specs.declared.opening_frames.Opener.{Opener}
 use Rattle.frame_checks.specs.OpeningFrames.{association_checks}
 use Rattle.frame_checks.specs.Trying.{IsOpener}
 use Rattle.frame_checks.specs.ProtectingFrames.{Answer, sender_of, answer_on, protect_check}

@@ -10,7 +10,7 @@ use Rattle.sdls_base.specs.declared.states.Direction as directions
 use Rattle.sdls_base.specs.declared.states.Direction.TheVariants.{Send, Receive}
 use Rattle.sdls_base.specs.declared.states.SaState.{SaState}
 use Rattle.sdls_base.specs.declared.states.SaState.TheVariants.{Unkeyed, Keyed, Operational}
-use Rattle.sa_book.specs.declared.sa_row.SaRow.{SaRow}
+use Rattle.sa_book.specs.declared.sa_book.SaRow.{SaRow}
 use Rattle.sa_book.specs.SaRow.{MayAccept}
 use Rattle.sa_book.specs.SaBook.{is_operational}
 use Rattle.sa_book.specs.SaRefusal.{is_receiving}
@@ -20,10 +20,10 @@ use Rattle.unit_state.specs.State.{key_row, association_row}
 use Rattle.frame_shield.specs.AnyFrame.{IsFrame}
 use Rattle.frame_shield.specs.Opens.{CarriesIndex}
 use Rattle.frame_shield.specs.declared.binding.Binding.{Binding}
-use Rattle.frame_checks.specs.declared.open_reply.OpenReply.{OpenReply}
-use Rattle.frame_checks.specs.declared.open_reply.OpenReply.TheVariants.{Accepted, Clear, Layout, Channel, Spi}
-use Rattle.frame_checks.specs.declared.open_reply.OpenReply.TheVariants.{Direction, State as NotOperational, Coverage}
-use Rattle.frame_checks.specs.declared.open_reply.OpenReply.TheVariants.{Mac, Number}
+use Rattle.frame_checks.specs.declared.opening_frames.OpenReply.{OpenReply}
+use Rattle.frame_checks.specs.declared.opening_frames.OpenReply.TheVariants.{Accepted, Clear, Layout, Channel, Spi}
+use Rattle.frame_checks.specs.declared.opening_frames.OpenReply.TheVariants.{Direction, State as NotOperational, Coverage}
+use Rattle.frame_checks.specs.declared.opening_frames.OpenReply.TheVariants.{Mac, Number}
 use Rattle.frame_checks.specs.Accepting.{MayBeAccepted, OnAccepted}
 use Rattle.frame_checks.specs.Addressed.{IsAddressed}
 use Rattle.frame_checks.specs.Binding.{binding_of}

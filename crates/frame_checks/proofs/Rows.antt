@@ -15,7 +15,7 @@ use Rattle.sdls_base.specs.declared.states.Direction.TheVariants.{Send}
 use Rattle.sdls_base.specs.declared.states.Suite.{Suite}
 use Rattle.key_book.specs.declared.key_row.KeyRow.{KeyRow}
 use Rattle.key_book.specs.KeyRow.{HasBytes}
-use Rattle.sa_book.specs.declared.sa_row.SaRow.{SaRow}
+use Rattle.sa_book.specs.declared.sa_book.SaRow.{SaRow}
 use Rattle.sa_book.specs.SaRow.{IsSaRow}
 use Rattle.sa_book.specs.SaBook.{is_operational, is_same_direction, sender_on}
 use Rattle.unit_plan.specs.PlanLines.{PlanLines}

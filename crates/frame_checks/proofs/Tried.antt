@@ -6,9 +6,9 @@ use Rattle.sdls_base.specs.FirstFailing.{first_failing}
 use Rattle.unit_plan.specs.PlanLines.{PlanLines, link_of}
 use Rattle.unit_state.specs.declared.state.State.{State}
 use Rattle.unit_state.specs.State.{association_row}
-use Rattle.frame_checks.specs.declared.open_reply.OpenReply.{OpenReply}
-use Rattle.frame_checks.specs.declared.open_reply.OpenReply.TheVariants.{Clear, Layout, Channel, Spi}
-use Rattle.frame_checks.specs.declared.trying.Opener.{Opener}
+use Rattle.frame_checks.specs.declared.opening_frames.OpenReply.{OpenReply}
+use Rattle.frame_checks.specs.declared.opening_frames.OpenReply.TheVariants.{Clear, Layout, Channel, Spi}
+use Rattle.frame_checks.specs.declared.opening_frames.Opener.{Opener}
 use Rattle.frame_checks.specs.OpeningFrames.{IsJudged, IsOpenReply, IsOpenedUnder, IsReplyOn, IsReplyUnder}
 use Rattle.frame_checks.specs.OpeningFrames.{association_checks, association_in, frame_checks}
 use Rattle.frame_checks.specs.Trying.{IsOpener, IsOfOpener}

@@ -4,10 +4,10 @@ use Rattle.sdls_base.specs.KeyId.{end_of}
 use Rattle.sa_book.specs.SaRow.{MayAccept}
 use Rattle.unit_state.specs.declared.state.State.{State}
 use Rattle.unit_state.specs.State.{key_row, association_row}
-use Rattle.frame_checks.specs.declared.open_reply.OpenReply.{OpenReply}
-use Rattle.frame_checks.specs.declared.open_reply.OpenReply.TheVariants.{Accepted, Clear, Layout, Channel, Spi}
-use Rattle.frame_checks.specs.declared.open_reply.OpenReply.TheVariants.{Direction, State as NotOperational, Coverage}
-use Rattle.frame_checks.specs.declared.open_reply.OpenReply.TheVariants.{Mac, Number}
+use Rattle.frame_checks.specs.declared.opening_frames.OpenReply.{OpenReply}
+use Rattle.frame_checks.specs.declared.opening_frames.OpenReply.TheVariants.{Accepted, Clear, Layout, Channel, Spi}
+use Rattle.frame_checks.specs.declared.opening_frames.OpenReply.TheVariants.{Direction, State as NotOperational, Coverage}
+use Rattle.frame_checks.specs.declared.opening_frames.OpenReply.TheVariants.{Mac, Number}
 
 -- where a data field stands, and that the octets around it are as they were
 pub record IsInPlace (from to : ℕ) (old new : List ℕ) : Type 0 where

@@ -9,7 +9,7 @@ use Rattle.sdls_base.specs.KeyId.{end_of}
 use Rattle.sdls_base.specs.declared.layout.FrameFault.{FrameFault}
 use Rattle.sdls_base.specs.declared.link.Link.{Link}
 use Rattle.replay_window.specs.Window.{IsFresh}
-use Rattle.sa_book.specs.declared.sa_row.SaRow.{SaRow}
+use Rattle.sa_book.specs.declared.sa_book.SaRow.{SaRow}
 use Rattle.sa_book.specs.SaBook.{is_operational}
 use Rattle.sa_book.specs.SaRefusal.{is_receiving}
 use Rattle.unit_plan.specs.PlanLines.{PlanLines, link_of}
@@ -19,10 +19,10 @@ use Rattle.frame_shield.specs.AnyFrame.{first_fault}
 use Rattle.frame_shield.specs.Opens.{Opens}
 use Rattle.frame_shield.specs.ShieldFault.{fault_number}
 use Rattle.frame_shield.specs.declared.binding.Binding.{Binding}
-use Rattle.frame_checks.specs.declared.open_reply.OpenReply.{OpenReply}
-use Rattle.frame_checks.specs.declared.open_reply.OpenReply.TheVariants.{Accepted, Clear, Layout, Channel, Spi}
-use Rattle.frame_checks.specs.declared.open_reply.OpenReply.TheVariants.{Direction, State as NotOperational, Coverage}
-use Rattle.frame_checks.specs.declared.open_reply.OpenReply.TheVariants.{Mac, Number}
+use Rattle.frame_checks.specs.declared.opening_frames.OpenReply.{OpenReply}
+use Rattle.frame_checks.specs.declared.opening_frames.OpenReply.TheVariants.{Accepted, Clear, Layout, Channel, Spi}
+use Rattle.frame_checks.specs.declared.opening_frames.OpenReply.TheVariants.{Direction, State as NotOperational, Coverage}
+use Rattle.frame_checks.specs.declared.opening_frames.OpenReply.TheVariants.{Mac, Number}
 use Rattle.frame_checks.specs.Header.{HasRoom, is_clear, channel_of}
 use Rattle.frame_checks.specs.Binding.{binding_of}
 

@@ -3,7 +3,7 @@ use Rattle.std.specs.Prelude.{◌≡◌, ℕ, false, nat_lt, List, length, Some,
 use Rattle.std.specs.Int.{w16, to_be_bytes}
 use Rattle.std.specs.Prelude.{take}
 use Rattle.sdls_base.specs.FirstFailing.{first_failing}
-use Rattle.sa_book.specs.declared.sa_row.SaRow.{SaRow}
+use Rattle.sa_book.specs.declared.sa_book.SaRow.{SaRow}
 use Rattle.unit_plan.specs.PlanLines.{PlanLines, link_of}
 use Rattle.unit_state.specs.declared.state.State.{State}
 use Rattle.unit_state.specs.State.{association_row}
@@ -13,7 +13,7 @@ use Rattle.frame_shield.specs.Opens.{Opens, OpensInPlace, OnField}
 use Rattle.frame_shield.specs.declared.binding.Binding.{Binding}
 use Rattle.frame_shield.specs.declared.opening_frames.Opened.{Opened}
 use Rattle.frame_shield.specs.declared.opening_frames.Opened.TheVariants.{BadMac}
-use Rattle.frame_checks.specs.declared.trying.Opener.{Opener}
+use Rattle.frame_checks.specs.declared.opening_frames.Opener.{Opener}
 use Rattle.frame_checks.specs.Binding.{binding_of}
 use Rattle.frame_checks.specs.Header.{HasRoom, is_clear, channel_of}
 use Rattle.frame_checks.specs.OpeningFrames.{association_checks, index_in}

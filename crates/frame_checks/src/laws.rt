@@ -1,14 +1,13 @@
 //! Laws of the checks.
-
 ghost use Rattle.std.specs.Prelude.{◌≡◌, ℕ, List};
 ghost use Rattle.unit_plan.specs.PlanLines.{PlanLines};
 ghost use Rattle.unit_state.specs.declared.state.State.{State};
 ghost use Rattle.unit_state.specs.Restart.{still};
-ghost use Rattle.frame_checks.specs.declared.open_reply.OpenReply.{OpenReply};
+ghost use Rattle.frame_checks.specs.declared.opening_frames.OpenReply.{OpenReply};
 ghost use Rattle.frame_checks.specs.Accepting.{MayBeAccepted, OnAccepted};
 ghost use Rattle.frame_checks.specs.OpeningFrames.{IsOpenReply};
 ghost use Rattle.frame_checks.specs.ProtectingFrames.{protect_check};
-ghost use Rattle.frame_checks.specs.declared.trying.Opener.{Opener};
+ghost use Rattle.frame_checks.specs.declared.opening_frames.Opener.{Opener};
 ghost use Rattle.frame_checks.specs.Trying.{IsOpener};
 
 use unit_state::serve_alike;

@@ -12,13 +12,9 @@
 
 mod header;
 mod laws;
-mod open_reply;
 mod opening_frames;
 mod protecting_frames;
-mod trying;
 
 pub use laws::{accepted_may_be, binding_stays, opener_stays};
-pub use open_reply::OpenReply;
-pub use opening_frames::open_frame;
+pub use opening_frames::{OpenReply, Opener, open_frame, open_tried, opener_of, try_frame};
 pub use protecting_frames::{ChannelBinding, binding, channel};
-pub use trying::{Opener, open_tried, opener_of, try_frame};

@@ -14,8 +14,8 @@ use Rattle.aes_block.specs.Aes.{encrypted, cipher}
 use Rattle.cmac.specs.Cmac.{mac}
 use Rattle.gcm.specs.Gcm.{tag_of, gctr}
 use Rattle.std.specs.Int.{w64, to_be_bytes}
-use Rattle.sdls_header.specs.declared.pieces.Vector.{Vector}
-use Rattle.sdls_header.specs.declared.pieces.Vector.TheVariants.{Sequence, Wide}
+use Rattle.sdls_header.specs.declared.header.Vector.{Vector}
+use Rattle.sdls_header.specs.declared.header.Vector.TheVariants.{Sequence, Wide}
 use Rattle.frame_shield.specs.Secured.{sealed}
 use Rattle.tc_frame.specs.TcFrame as tc_frames
 use Rattle.tm_frame.specs.TmFrame as tm_frames

@@ -2,8 +2,8 @@
 use Rattle.std.proofs.Common.{◌≡◌, ℕ, List, ◌++◌, sym, ap, ◌∙◌, subst}
 use Rattle.std.specs.Prelude.{Some, None, ◌↔◌}
 use Rattle.gcm.specs.Gcm.{gcm_open, gcm_seal}
-use Rattle.sdls_header.specs.declared.pieces.Vector.{Vector}
-use Rattle.sdls_header.specs.declared.pieces.Vector.TheVariants.{Sequence, Wide}
+use Rattle.sdls_header.specs.declared.header.Vector.{Vector}
+use Rattle.sdls_header.specs.declared.header.Vector.TheVariants.{Sequence, Wide}
 use Rattle.sdls_header.specs.SecurityHeader.{Pieces}
 use Rattle.sdls_header.proofs.Splits.{one_split}
 use Rattle.std.specs.Int.{w64, to_be_bytes}

@@ -12,7 +12,7 @@ use Rattle.sdls_base.specs.Fields.{packed}
 use Rattle.sdls_base.specs.ErrorControl.{with_error_control}
 use Rattle.sdls_base.proofs.Endings.{length-with_error_control}
 use Rattle.sdls_base.proofs.FieldLemmas.{cells_five}
-use Rattle.sdls_header.specs.declared.pieces.Vector.{Vector}
+use Rattle.sdls_header.specs.declared.header.Vector.{Vector}
 use Rattle.sdls_header.specs.SecurityHeader.{Pieces, IsVectorOf, header_octets}
 use Rattle.tc_frame.specs.TcFrame as tc_frames
 use Rattle.tm_frame.specs.TmFrame as tm_frames

@@ -4,7 +4,7 @@ use Rattle.tm_frame.specs.TmFrame as tm_frames
 use Rattle.aos_frame.specs.AosFrame as aos_frames
 use Rattle.sdls_base.specs.declared.link.AnyLayout.{AnyLayout}
 use Rattle.sdls_base.specs.declared.link.AnyLayout.TheVariants.{Tc, Tm, Aos}
-use Rattle.frame_shield.specs.declared.body.Body.{Body}
+use Rattle.frame_shield.specs.declared.protecting_frames.Body.{Body}
 use Rattle.frame_shield.specs.AnyFrame.{AnyParts, tc, tm, aos, IsFrame, prefix_of, room_of}
 
 -- a layout has room for the primary header and the fields behind the room

@@ -4,9 +4,9 @@ use Rattle.cmac.specs.Cmac.{mac}
 use Rattle.gcm.specs.Gcm.{gcm_seal}
 use Rattle.sdls_base.specs.declared.states.Suite.{Suite}
 use Rattle.sdls_base.specs.declared.states.Suite.TheVariants.{Cmac, Gcm}
-use Rattle.sdls_header.specs.declared.pieces.Vector.{Vector}
-use Rattle.sdls_header.specs.declared.pieces.Vector.TheVariants.{Sequence, Wide}
-use Rattle.sdls_header.specs.declared.pieces.SecurityHeader.{SecurityHeader}
+use Rattle.sdls_header.specs.declared.header.Vector.{Vector}
+use Rattle.sdls_header.specs.declared.header.Vector.TheVariants.{Sequence, Wide}
+use Rattle.sdls_header.specs.declared.header.SecurityHeader.{SecurityHeader}
 use Rattle.sdls_header.specs.SecurityHeader.{Pieces, SplitsInto, header_octets, vector_octets}
 use Rattle.sdls_header.specs.Authenticated.{authenticated}
 use Rattle.frame_shield.specs.declared.binding.Binding.{Binding}

@@ -1,7 +1,7 @@
 -- How a protected frame is put together, for the private calls.
 use Rattle.std.specs.Prelude.{ℕ, List, ◌++◌}
 use Rattle.tc_frame.specs.Header.{with_length_field}
-use Rattle.sdls_header.specs.declared.pieces.Vector.{Vector}
+use Rattle.sdls_header.specs.declared.header.Vector.{Vector}
 use Rattle.sdls_header.specs.SecurityHeader.{header_octets}
 use Rattle.frame_shield.specs.declared.binding.Binding.{Binding}
 use Rattle.sdls_base.specs.declared.link.AnyLayout.{AnyLayout}

@@ -6,16 +6,10 @@
 #![tactic(auto)]
 
 mod binding;
-mod body;
-mod covered;
-mod laws;
 mod opening_frames;
 mod protecting_frames;
-mod sealing;
 
-pub use binding::Binding;
-pub use body::{Body, body_of, fault_of};
-pub use laws::{opens_once, protected_once, protected_opens};
+pub use binding::{Binding, opens_once, protected_once, protected_opens};
 pub use opening_frames::{Opened, unshield};
-pub use protecting_frames::{FRAME_ROOM, ShieldFault, fits, shield};
+pub use protecting_frames::{Body, FRAME_ROOM, ShieldFault, body_of, fault_of, fits, shield};
 pub use sdls_base::{AnyLayout, Link, Mask};

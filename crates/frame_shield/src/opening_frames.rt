@@ -4,9 +4,7 @@ ghost use Rattle.frame_shield.specs.Found.{IsFound};
 ghost use Rattle.frame_shield.specs.Opens.{CarriesIndex, Opens, OpensInPlace, OnField};
 
 use crate::binding::Binding;
-use crate::body::body_of;
-use crate::covered::Covered;
-use crate::sealing::{number_of, open};
+use crate::protecting_frames::{Covered, body_of, number_of, open};
 use sdls_header::{Vector, split};
 use std::simd::u8x16;
 

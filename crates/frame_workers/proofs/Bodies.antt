@@ -9,7 +9,7 @@ use Rattle.shared_unit.specs.declared.permit.Permit.{Permit}
 use Rattle.shared_unit.specs.declared.permit.Protected.{Protected}
 use Rattle.shared_unit.specs.declared.permit.Protected.TheVariants as answers
 use Rattle.shared_unit.specs.Protecting.{IsProtectStep}
-use Rattle.frame_workers.specs.declared.handling.TheConstants.{MOST_GAIN}
+use Rattle.frame_workers.specs.declared.lane.TheConstants.{MOST_GAIN}
 use Rattle.frame_workers.specs.Bodies.{FitsIn}
 
 pub fits : (told : Bool) (plan : PlanLines) (link : ℕ) (clear out : List ℕ) (kept : Option Permit) (answer : Protected)

@@ -22,12 +22,12 @@ use Rattle.unit_state.specs.contracts.state.State as State
 use Rattle.unit_state.proofs.state.State.TheSendSync as state
 use Rattle.disk_journal.specs.contracts.journal.Journal as Journal
 use Rattle.disk_journal.proofs.journal.Journal.TheSendSync as journal
-use Rattle.counter_table.proofs.counters.Counters.TheSendSync as counters
-use Rattle.unit_book.specs.contracts.log.Log as Log
+use Rattle.counter_table.proofs.turns.Counters.TheSendSync as counters
+use Rattle.unit_book.specs.contracts.opening_image.Log as Log
 use Rattle.unit_book.specs.contracts.book.Book as Book
 use Rattle.unit_book.specs.contracts.book.Book.TheInside as BookFields
-use Rattle.record_io.specs.contracts.records.Record as Record
-use Rattle.record_io.proofs.records.Record.TheSendSync as row
+use Rattle.record_io.specs.contracts.item_cursor.Record as Record
+use Rattle.record_io.proofs.item_cursor.Record.TheSendSync as row
 use Rattle.shared_unit.specs.contracts.shared_book.SharedBook as SharedBook
 use Rattle.shared_unit.specs.contracts.shared_book.SharedBook.TheInside as SharedBookFields
 use Rattle.shared_unit.specs.contracts.shared_book.SharedBookCounted.TheImpl as counted

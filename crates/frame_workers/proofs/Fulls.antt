@@ -5,8 +5,8 @@ use Rattle.sdls_base.specs.declared.entry.Logged.{Logged}
 use Rattle.counter_table.specs.declared.view.Opening.{Opening}
 use Rattle.counter_table.specs.declared.view.View.{View}
 use Rattle.sdls_outside.specs.Faults.{Rose}
-use Rattle.record_io.specs.declared.records.Record.{Record}
-use Rattle.run_promise.specs.declared.limits.TheConstants.{MOST_ENTRIES}
+use Rattle.record_io.specs.declared.item_cursor.Record.{Record}
+use Rattle.run_promise.specs.declared.end.TheConstants.{MOST_ENTRIES}
 use Rattle.run_promise.specs.Call.{Begin}
 use Rattle.law_workers.specs.Counts.{is_of_record, count_at}
 use Rattle.law_workers.specs.Views.{KnowsMore, keeping, starting, meeting, Meets, log_of, entries_in}

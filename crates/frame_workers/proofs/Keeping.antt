@@ -12,7 +12,7 @@ use Rattle.shared_unit.specs.Protecting.{IsTrueIfKept}
 use Rattle.shared_unit.specs.Turn.{KnowsMoreOfBook}
 use Rattle.shared_unit.proofs.Opening.{open_stays}
 use Rattle.shared_unit.proofs.Trust.{permit_stays}
-use Rattle.frame_workers.specs.declared.permits.Permits.{Permits}
+use Rattle.frame_workers.specs.declared.lane.Permits.{Permits}
 use Rattle.frame_workers.specs.Permits.{AreTrueFor}
 use Rattle.run_promise.specs.Call.{Begin}
 use Rattle.law_workers.specs.Began.{BeganWith}

@@ -13,8 +13,8 @@ use Rattle.frame_checks.specs.Trying.{IsOpener}
 use Rattle.counter_table.specs.declared.view.Opening.{Opening}
 use Rattle.counter_table.specs.declared.view.Turn.{Turn}
 use Rattle.counter_table.specs.declared.view.View.{View}
-use Rattle.record_io.specs.declared.kinds.RecordKind.TheVariants.{Command}
-use Rattle.record_io.specs.declared.records.Record.{Record}
+use Rattle.record_io.specs.declared.reader.RecordKind.TheVariants.{Command}
+use Rattle.record_io.specs.declared.item_cursor.Record.{Record}
 use Rattle.run_promise.specs.Log.{entries_of}
 use Rattle.shared_unit.specs.declared.permit.OpenPermit.{OpenPermit}
 use Rattle.shared_unit.specs.declared.permit.Permit.{Permit}
@@ -26,8 +26,8 @@ use Rattle.shared_unit.proofs.Epochs.{state_at_stays, epochs_longer}
 use Rattle.law_workers.specs.Lanes.{Part, MeetAll, meeting_all}
 use Rattle.law_workers.specs.Views.{KnowsMore, Meets, meeting, starting}
 use Rattle.law_workers.proofs.Joining.{grows_further, grows_itself, known_after, top_both}
-use Rattle.frame_workers.specs.declared.kept_permits.KeptPermits.{KeptPermits}
-use Rattle.frame_workers.specs.declared.permits.Permits.{Permits}
+use Rattle.frame_workers.specs.declared.lane.KeptPermits.{KeptPermits}
+use Rattle.frame_workers.specs.declared.lane.Permits.{Permits}
 use Rattle.frame_workers.specs.Permits.{AreKept, AreTrueFor, is_commanded, KeepsNone}
 
 -- what is true for a worker is true for one that knows more

@@ -10,7 +10,7 @@ use Rattle.std.proofs.lemmas.Bool.Decides.{nat_tests}
 use Rattle.std.proofs.lemmas.List.{length-take}
 use Rattle.std.proofs.lemmas.List.Elements.{All-push, All-head, All-tail}
 use Rattle.std.proofs.Math.Seq.{take-suc, drop-cons}
-use Rattle.record_io.specs.declared.records.Record.{Record}
+use Rattle.record_io.specs.declared.item_cursor.Record.{Record}
 use Rattle.record_io.specs.declared.answers.Answer.{Answer}
 use Rattle.run_promise.specs.Deed.{Deed, deed_of}
 use Rattle.law_workers.specs.Deeds.{deeds_of}

@@ -9,13 +9,13 @@ use Rattle.std.proofs.lemmas.List.{take_all, drop_all, length-take, get_or_defau
 use Rattle.std.proofs.lemmas.List.Elements.{All-contains}
 use Rattle.sdls_base.specs.declared.TheConstants.{MOST_KEYS}
 use Rattle.sdls_base.specs.declared.entry.Logged.{Logged}
-use Rattle.counter_table.specs.declared.counters.Worker.{Worker}
+use Rattle.counter_table.specs.declared.turns.Worker.{Worker}
 use Rattle.counter_table.specs.declared.view.View.{View}
 use Rattle.counter_table.specs.Worker.{view}
 use Rattle.counter_table.specs.Numbers.{amount}
-use Rattle.record_io.specs.declared.records.Record.{Record}
+use Rattle.record_io.specs.declared.item_cursor.Record.{Record}
 use Rattle.record_io.specs.declared.answers.Answer.{Answer}
-use Rattle.record_io.specs.declared.kinds.TheConstants.{LANES}
+use Rattle.record_io.specs.declared.reader.TheConstants.{LANES}
 use Rattle.run_promise.specs.Call.{Begin}
 use Rattle.law_workers.specs.Counts.{is_of_record, count_at}
 use Rattle.law_workers.specs.Views.{KnowsMore, keeping, starting, meeting, Meets, log_of}

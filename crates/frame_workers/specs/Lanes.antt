@@ -4,13 +4,13 @@ use Rattle.std.specs.Prelude.{if◌then◌else◌, length, take, slice_get, Some
 use Rattle.std.specs.List.{All, Contains, list_any, slice_index_or}
 use Rattle.std.specs.Vec.Iter.{into_iter_items}
 use Rattle.std.specs.declared.vec.IntoIter.{IntoIter}
-use Rattle.counter_table.specs.declared.counters.Worker.{Worker}
+use Rattle.counter_table.specs.declared.turns.Worker.{Worker}
 use Rattle.counter_table.specs.declared.view.Turn.{Turn}
 use Rattle.counter_table.specs.declared.view.View.{View}
 use Rattle.counter_table.specs.Worker.{view}
-use Rattle.record_io.specs.declared.records.Record.{Record}
+use Rattle.record_io.specs.declared.item_cursor.Record.{Record}
 use Rattle.record_io.specs.declared.answers.Answer.{Answer}
-use Rattle.record_io.specs.declared.kinds.TheConstants.{LANES}
+use Rattle.record_io.specs.declared.reader.TheConstants.{LANES}
 use Rattle.run_promise.specs.Call.{Begin}
 use Rattle.law_workers.specs.Views.{starting}
 use Rattle.run_promise.specs.Deed.{Deed}

@@ -2,12 +2,12 @@
 use Rattle.std.specs.Prelude.{◌≡◌, Bool, true, false, []}
 use Rattle.std.specs.List.{All}
 use Rattle.counter_table.specs.declared.view.Turn.{Turn}
-use Rattle.record_io.specs.declared.kinds.RecordKind.{RecordKind}
-use Rattle.record_io.specs.declared.kinds.RecordKind.TheVariants.{Protect, Open, Command, Monitor}
+use Rattle.record_io.specs.declared.reader.RecordKind.{RecordKind}
+use Rattle.record_io.specs.declared.reader.RecordKind.TheVariants.{Protect, Open, Command, Monitor}
 use Rattle.shared_unit.specs.Opening.{IsOpenTrueIfKept}
 use Rattle.shared_unit.specs.Protecting.{IsTrueIfKept}
-use Rattle.frame_workers.specs.declared.kept_permits.KeptPermits.{KeptPermits}
-use Rattle.frame_workers.specs.declared.permits.Permits.{Permits}
+use Rattle.frame_workers.specs.declared.lane.KeptPermits.{KeptPermits}
+use Rattle.frame_workers.specs.declared.lane.Permits.{Permits}
 
 -- each permit that is kept is true for a worker that knows this
 pub record AreTrueFor (permits : Permits) (v : Turn) : Type 0 where

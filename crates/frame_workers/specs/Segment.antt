@@ -3,14 +3,14 @@ use Rattle.std.specs.Prelude.{◌≡◌, ℕ, ◌<◌, ◌≤◌, Bool, true, Li
 use Rattle.std.specs.List.{All, AllPairs, list_any}
 use Rattle.std.specs.declared.vec.IntoIter.{IntoIter}
 use Rattle.sdls_base.specs.declared.TheConstants.{MOST_KEYS}
-use Rattle.counter_table.specs.declared.counters.Worker.{Worker}
+use Rattle.counter_table.specs.declared.turns.Worker.{Worker}
 use Rattle.counter_table.specs.declared.view.View.{View}
 use Rattle.counter_table.specs.Worker.{view}
 use Rattle.counter_table.specs.Whole.{IsWhole}
 use Rattle.counter_table.specs.Numbers.{ALL_SHARES}
-use Rattle.record_io.specs.declared.records.Record.{Record}
+use Rattle.record_io.specs.declared.item_cursor.Record.{Record}
 use Rattle.record_io.specs.declared.answers.Answer.{Answer}
-use Rattle.record_io.specs.declared.kinds.TheConstants.{LANES}
+use Rattle.record_io.specs.declared.reader.TheConstants.{LANES}
 use Rattle.run_promise.specs.Call.{Begin}
 use Rattle.run_promise.specs.OneLane.{OneLane}
 use Rattle.law_workers.specs.Deeds.{deeds_of}

@@ -1,19 +1,28 @@
 // The answers to records, by what the calls on the unit answered.
+// The answers of the lanes, placed in the order of the input.
 ghost use Rattle.std.specs.Prelude.{◌≡◌, ◌<◌, ◌≤◌, ◌^◌, ◌++◌, [], length, vec_capacity, slice_range, take, unwrap_or};
+ghost use Rattle.std.specs.Prelude.{ℕ, List, All, Contains, true, false};
 ghost use Rattle.std.specs.Int.{w64, to_be_bytes};
 ghost use Rattle.frame_checks.specs.Accepting.{field_in};
 ghost use Rattle.record_io.specs.declared.code.TheConstants.{PROTECTED};
-ghost use Rattle.run_promise.specs.Answers as told;
-ghost use Rattle.law_calls.specs.Answering as answering;
+ghost use Rattle.record_io.specs.declared.answers.Answer.{Answer};
+ghost use Rattle.record_io.specs.declared.item_cursor.Record.{Record};
+ghost use Rattle.record_io.specs.declared.reader.TheConstants.{LANES};
+ghost use Rattle.run_promise.specs.{Answers as told};
+ghost use Rattle.run_promise.specs.Deed.{Deed};
+ghost use Rattle.law_workers.specs.Deeds.{deeds_of};
+ghost use Rattle.law_calls.specs.{Answering as answering};
 ghost use Rattle.frame_workers.specs.Bodies.{FitsIn};
+ghost use Rattle.frame_workers.specs.Lanes.{AreAmong, left_at, StopsAt};
 
 use ep_core::Reply;
 use frame_checks::OpenReply;
 use frame_shield::ShieldFault;
-use record_io::{Answer, ShortOctets, code};
+use record_io::{Answer, Record, ShortOctets, code};
 use sdls_base::KeyId;
 use shared_unit::{Done, Protected};
 use std::alloc::Global;
+use std::vec::IntoIter;
 use unit_book::BookFault;
 
 /// Memory ran out.
@@ -241,4 +250,32 @@ pub(crate) fn protected_answer(
         )),
         Protected::Fault(fault, position) => answer_fault(alloc, fault, position),
     }
+}
+
+/// Places the answers of the lanes in the order of the records, up to a record that has none, and says whether there is
+/// one.
+pub(crate) fn place_answers(
+    records: &[Record],
+    parts: &mut [IntoIter<Answer, Global>],
+    answers: &mut Vec<Answer>,
+) -> bool
+    requires many { length parts.old ≡ LANES }
+    requires lanes { All (λ (task : Record). task.lane < LANES) records.now }
+    requires room { (answers.old.items ≡ []) × (length records.now ≤ vec_capacity answers.old) }
+    ensures placed { (deeds : List Deed) (segment : ℕ)
+        → ((number : ℕ) → AreAmong deeds segment number records.now (left_at number parts.old))
+        → All (Contains deeds) (deeds_of segment records.now answers.new.items) }
+    ensures in_turn { (lane : ℕ) → All (λ (task : Record). task.lane ≡ lane) records.now
+        → (rest : List Answer) × (answers.new.items ++ rest ≡ left_at lane parts.old) }
+    ensures all { result ≡ false → length answers.new.items ≡ length records.now }
+    ensures stops { result ≡ true → StopsAt records.now (λ number. left_at number parts.old)
+        (length answers.new.items) }
+{
+    for task in records {
+        match parts[usize::from(task.lane)].next() {
+            Some(answer) => answers.push_reserved(answer),
+            None => return true,
+        }
+    }
+    false
 }

@@ -1,21 +1,19 @@
 // Lanes that are run by threads which last for the run.
+ghost use mathlib.Core.List.{IsPrefix};
 ghost use Rattle.std.specs.Prelude.{◌≡◌, ◌≢◌, ◌<◌, ℕ, All, Contains, IfOk, IfErr, IsOk, OnErr, Some, length};
 ghost use Rattle.std.specs.Prelude.{slice_get, vec_capacity};
-ghost use Rattle.record_io.specs.declared.kinds.TheConstants.{LANES};
-ghost use Rattle.counter_table.specs.Worker.{view};
-ghost use Rattle.frame_workers.specs.Segment.{HandlesSegment};
 ghost use Rattle.std.specs.Arc.{arc_value};
-ghost use mathlib.Core.List.{IsPrefix};
-ghost use Rattle.record_io.specs.declared.kinds.RecordKind.TheVariants.{Command, Monitor};
-ghost use Rattle.record_io.specs.declared.records.Record.{Record};
-ghost use Rattle.shared_unit.specs.Turn.{IsReady};
+ghost use Rattle.record_io.specs.declared.reader.TheConstants.{LANES};
+ghost use Rattle.record_io.specs.declared.reader.RecordKind.TheVariants.{Command, Monitor};
+ghost use Rattle.record_io.specs.declared.item_cursor.Record.{Record};
+ghost use Rattle.counter_table.specs.Worker.{view};
 ghost use Rattle.law_workers.specs.Deeds.{Ascend};
+ghost use Rattle.shared_unit.specs.Turn.{IsReady};
+ghost use Rattle.frame_workers.specs.Segment.{HandlesSegment};
 ghost use Rattle.frame_workers.specs.Lanes.{CanRun, HasRun, HaveRun};
 ghost use Rattle.frame_workers.specs.Permits.{AreKept, KeepsNone};
 
-use crate::gate::Gate;
-use crate::kept_permits::KeptPermits;
-use crate::lane::{Lane, run_lane};
+use crate::lane::{Gate, KeptPermits, Lane, run_lane};
 use crate::segment::{Segment, begin_segment, end_segment};
 use kept_threads::{Fresh, Helper, Jobs, Named, Work};
 use record_io::{Record, Spare};

@@ -7,16 +7,9 @@
 
 mod answering;
 mod crew;
-mod gate;
-mod handling;
-mod joining;
-mod kept_permits;
 mod lane;
-mod permits;
-mod placing;
 mod segment;
 
 pub use crew::{Crew, LaneTask, LaneWork, Team, run_segment_by};
-pub use gate::{Gate, OpenGate};
-pub use kept_permits::KeptPermits;
+pub use lane::{Gate, KeptPermits, OpenGate};
 pub use segment::{Segment, run_segment};

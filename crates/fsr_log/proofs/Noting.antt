@@ -8,8 +8,8 @@ use Rattle.std.proofs.lemmas.List.Elements.{filter-append}
 use Rattle.std.proofs.lemmas.List.Folds.{list_any-append}
 use Rattle.circular_buffer.specs.Buffer.{Buffer, buffer, keep_last, last_item}
 use Rattle.circular_buffer.proofs.Places.{slice_get-append_right}
-use Rattle.fsr_log.specs.declared.events.Event.{Event}
-use Rattle.fsr_log.specs.declared.events.TheConstants.{MOST_EVENTS}
+use Rattle.fsr_log.specs.declared.kinds.Event.{Event}
+use Rattle.fsr_log.specs.declared.kinds.TheConstants.{MOST_EVENTS}
 use Rattle.fsr_log.specs.Kinds.{is_event, is_alarm}
 use Rattle.fsr_log.specs.Noted.{Noted, is_erase, is_reset, is_open, is_seen, event_of}
 use Rattle.fsr_log.specs.Report.{Report, behind_last, last_where, events_of, alarm_of, last_open_of, last_seen_of}

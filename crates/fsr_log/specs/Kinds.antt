@@ -1,8 +1,8 @@
 -- What an answer is to the log, by its code (profile).
 use Rattle.std.specs.Prelude.{ℕ, Bool, true, false}
 use Rattle.std.specs.Option.{option_map_or}
-use Rattle.record_io.specs.declared.codes.AnswerCode.{AnswerCode}
-use Rattle.record_io.specs.declared.codes.AnswerCode.TheVariants as codes
+use Rattle.record_io.specs.declared.code.AnswerCode.{AnswerCode}
+use Rattle.record_io.specs.declared.code.AnswerCode.TheVariants as codes
 use Rattle.record_io.specs.Codes.{code_at}
 use Rattle.fsr_log.specs.declared.kinds.AnswerKind.{AnswerKind}
 use Rattle.fsr_log.specs.declared.kinds.AnswerKind.TheVariants.{Service, Refusal, Association, Mac, Number}

@@ -1,13 +1,13 @@
 -- The answers of a run, as its log takes them (profile).
 use Rattle.std.specs.Prelude.{ℕ, ◌+◌, ◌==◌, ◌&&◌, ◌||◌, Bool, true, false, List, [], ◌∷◌}
 use Rattle.record_io.specs.declared.answers.Answer.{Answer}
-use Rattle.record_io.specs.declared.kinds.RecordKind.{RecordKind}
-use Rattle.record_io.specs.declared.kinds.RecordKind.TheVariants.{Protect, Open, Command, Monitor}
+use Rattle.record_io.specs.declared.reader.RecordKind.{RecordKind}
+use Rattle.record_io.specs.declared.reader.RecordKind.TheVariants.{Protect, Open, Command, Monitor}
 use Rattle.record_io.specs.declared.code.TheConstants.{ACCEPTED, NUMBER}
-use Rattle.fsr_log.specs.declared.events.Event.{Event}
+use Rattle.fsr_log.specs.declared.kinds.Event.{Event}
 use Rattle.fsr_log.specs.declared.messages.TheConstants.{ERASE_LOG, ALARM_RESET}
 use Rattle.record_io.specs.declared.code.TheConstants.{MONITORED}
-use Rattle.fsr_log.specs.declared.replies.TheConstants.{REPLY}
+use Rattle.fsr_log.specs.declared.messages.TheConstants.{REPLY}
 
 -- an answer, with the number and the kind of its record
 pub record Noted : Type 0 where

@@ -6,13 +6,13 @@ use Rattle.std.specs.Int.{w16, w64, to_be_bytes}
 use Rattle.aes_block.specs.Aes.{encrypted}
 use Rattle.cmac.specs.Cmac.{mac}
 use Rattle.ep_codec.specs.Command.{message}
-use Rattle.fsr_log.specs.declared.events.Event.{Event}
-use Rattle.fsr_log.specs.declared.events.TheConstants.{MOST_EVENTS}
+use Rattle.fsr_log.specs.declared.kinds.Event.{Event}
+use Rattle.fsr_log.specs.declared.kinds.TheConstants.{MOST_EVENTS}
 use Rattle.fsr_log.specs.declared.messages.Monitoring.{Monitoring}
 use Rattle.fsr_log.specs.declared.messages.Monitoring.TheVariants.{Ping, LogStatus, DumpLog, EraseLog, SelfTest}
 use Rattle.fsr_log.specs.declared.messages.Monitoring.TheVariants.{AlarmReset}
 use Rattle.fsr_log.specs.declared.messages.TheConstants.{PING, LOG_STATUS, DUMP_LOG, ERASE_LOG, SELF_TEST, ALARM_RESET}
-use Rattle.fsr_log.specs.declared.replies.TheConstants.{REPLY, REPORT_WORD, SELF_TEST_KEY}
+use Rattle.fsr_log.specs.declared.messages.TheConstants.{REPLY, REPORT_WORD, SELF_TEST_KEY}
 use Rattle.fsr_log.specs.Kinds.{kind_at, kind_bit}
 use Rattle.fsr_log.specs.Message.{IsMonitoring, monitor_fault}
 use Rattle.fsr_log.specs.Report.{Report}

@@ -3,8 +3,8 @@ use Rattle.std.specs.Prelude.{ℕ, Bool, if◌then◌else◌, List, [], ◌∷�
 use Rattle.std.specs.Option.{option_map_or}
 use Rattle.std.specs.List.{list_any, filter}
 use Rattle.circular_buffer.specs.Buffer.{keep_last, last_item}
-use Rattle.fsr_log.specs.declared.events.Event.{Event}
-use Rattle.fsr_log.specs.declared.events.TheConstants.{MOST_EVENTS}
+use Rattle.fsr_log.specs.declared.kinds.Event.{Event}
+use Rattle.fsr_log.specs.declared.kinds.TheConstants.{MOST_EVENTS}
 use Rattle.fsr_log.specs.Kinds.{is_event, is_alarm}
 use Rattle.fsr_log.specs.Noted.{Noted, is_seen, is_open, is_erase, is_reset, event_of}
 

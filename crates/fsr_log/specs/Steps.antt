@@ -2,9 +2,9 @@
 use Rattle.std.specs.Prelude.{ℕ, ◌+◌, ◌||◌, Bool, false, if◌then◌else◌, [], ◌∷◌, ◌++◌}
 use Rattle.circular_buffer.specs.Buffer.{Buffer, buffer, keep_last}
 use Rattle.record_io.specs.declared.answers.Answer.{Answer}
-use Rattle.fsr_log.specs.declared.events.Event.{Event}
+use Rattle.fsr_log.specs.declared.kinds.Event.{Event}
 use Rattle.fsr_log.specs.declared.messages.TheConstants.{ERASE_LOG, ALARM_RESET}
-use Rattle.fsr_log.specs.declared.replies.TheConstants.{REPLY}
+use Rattle.fsr_log.specs.declared.messages.TheConstants.{REPLY}
 use Rattle.fsr_log.specs.Kinds.{is_event, is_alarm}
 use Rattle.fsr_log.specs.Noted.{is_reply}
 

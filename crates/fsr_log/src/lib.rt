@@ -5,20 +5,13 @@
 //! Read `specs/Report.antt` first, then `specs/Reply.antt`.
 #![tactic(auto)]
 
-mod events;
 mod kinds;
-mod laws;
 mod log;
 mod messages;
-mod notes;
-mod replies;
 
-pub use events::{Event, MOST_EVENTS};
-pub use kinds::is_event;
-pub use laws::{events_fit, message_without_fault, one_message};
-pub use log::Log;
+pub use kinds::{Event, MOST_EVENTS, is_event};
+pub use log::{Log, events_fit, message_without_fault, one_message};
 pub use messages::{
-    ALARM_RESET, BLOCK, DUMP_LOG, ERASE_LOG, LOG_STATUS, Monitoring, PING, SELF_TEST,
-    read_monitoring, write_monitoring,
+    ALARM_RESET, BLOCK, DUMP_LOG, ERASE_LOG, LOG_STATUS, Monitoring, PING, REPLY, REPORT_WORD,
+    SELF_TEST, SELF_TEST_KEY, read_monitoring, write_monitoring,
 };
-pub use replies::{REPLY, REPORT_WORD, SELF_TEST_KEY};

@@ -1,19 +1,23 @@
 //! The log.
-ghost use Rattle.std.specs.Prelude.{◌≡◌, ◌*◌, ◌^◌, ◌<◌, ◌≤◌, List, [], ◌∷◌, ◌++◌, length, IfOk};
-ghost use Rattle.fsr_log.specs.declared.events.TheConstants.{EVENT, MOST_EVENTS};
-ghost use Rattle.fsr_log.specs.Noted.{Noted};
-ghost use Rattle.fsr_log.specs.Report.{report_of};
+//! What one more answer changes.
+//! What follows from the definitions.
+ghost use Rattle.std.specs.Prelude.{◌≡◌, ◌*◌, ◌^◌, ◌<◌, ◌≤◌, List, [], ◌∷◌, ◌++◌, length, IfOk, if◌then◌else◌, ◌↔◌};
+ghost use Rattle.std.specs.Prelude.{ℕ, None, slice_index};
+ghost use Rattle.fsr_log.specs.declared.kinds.TheConstants.{EVENT, MOST_EVENTS};
+ghost use Rattle.fsr_log.specs.Noted.{Noted, is_open, is_reply, is_seen};
+ghost use Rattle.fsr_log.specs.Report.{report_of, events_of};
 ghost use Rattle.fsr_log.specs.Reply.{Answers, dump, first_of_word, reply_of, report_word};
+ghost use Rattle.fsr_log.specs.Steps.{alarm_behind, ring_behind};
+ghost use Rattle.fsr_log.specs.declared.messages.Monitoring.{Monitoring};
+ghost use Rattle.fsr_log.specs.Message.{IsMonitoring, monitor_fault};
 
-use crate::events::{EVENT, Event, MOST_EVENTS, put_events};
-use crate::kinds::AnswerKind;
+use crate::kinds::{AnswerKind, EVENT, Event, MOST_EVENTS, is_event, put_events};
 use crate::messages::{
-    ALARM_RESET, DUMP_LOG, ERASE_LOG, LOG_STATUS, Monitoring, PING, SELF_TEST, read_monitoring,
+    ALARM_RESET, DUMP_LOG, ERASE_LOG, LOG_STATUS, Monitoring, PING, REPLY, REPORT_WORD, SELF_TEST,
+    counts, read_monitoring, reply_octets, tested,
 };
-use crate::notes::{alarm, last_open, last_seen, note_event};
-use crate::replies::{REPORT_WORD, counts, reply_octets, tested};
 use circular_buffer::HeapCircularBuffer;
-use record_io::{Answer, RecordKind, ShortOctets};
+use record_io::{Answer, RecordKind, ShortOctets, code};
 use sdls_base::NoMemory;
 use std::alloc::Global;
 use std::marker::Model;
@@ -29,7 +33,7 @@ pub struct Log {
 
 impl Model for Log {
     ghost use Rattle.std.specs.Prelude.{◌≡◌};
-    ghost use Rattle.fsr_log.specs.declared.events.TheConstants.{MOST_EVENTS};
+    ghost use Rattle.fsr_log.specs.declared.kinds.TheConstants.{MOST_EVENTS};
     ghost use Rattle.fsr_log.specs.Report.{Report};
 
     ghost Value = { Report };
@@ -129,3 +133,73 @@ impl Log {
         }
     }
 }
+
+/// If the answer is the reply to a monitoring message with this tag.
+fn is_reply(answer: &Answer, tag: u8) -> bool
+    ensures { result ≡ is_reply tag answer.now }
+{
+    match answer.body.as_slice() {
+        [first, ..] => answer.code == code::MONITORED && *first == tag,
+        [] => false,
+    }
+}
+
+/// Keeps the event of a refusal, and none behind an erased log.
+pub(crate) fn note_event(events: &mut HeapCircularBuffer<Event>, index: u64, answer: &Answer)
+    ensures { events.new ≡ ring_behind events.old index answer.now }
+{
+    if is_reply(answer, REPLY + ERASE_LOG) {
+        events.clear();
+    } else if is_event(answer.code) {
+        events.push_back(Event {
+            index,
+            code: answer.code,
+            detail: answer.detail,
+            number: answer.number,
+        });
+    }
+}
+
+/// If there is an alarm behind an answer.
+pub(crate) fn alarm(before: bool, answer: &Answer) -> bool
+    ensures { result ≡ alarm_behind before answer.now }
+{
+    !is_reply(answer, REPLY + ALARM_RESET) && (before || AnswerKind::at(answer.code).raises_alarm())
+}
+
+/// The code of the last answer to an Open record.
+pub(crate) fn last_open(before: u8, kind: RecordKind, code: u8) -> u8
+    ensures { result ≡ (if is_open kind then code else before) }
+{
+    match kind {
+        RecordKind::Open => code,
+        _ => before,
+    }
+}
+
+/// The key and the number that were seen last.
+pub(crate) fn last_seen(before: (u16, u64), answer: &Answer) -> (u16, u64)
+    ensures { result ≡ (if is_seen answer.now.code then (answer.now.key, answer.now.number) else before) }
+{
+    match answer.code {
+        code::ACCEPTED | code::NUMBER => (answer.key, answer.number),
+        _ => before,
+    }
+}
+
+/// Law: octets have no fault exactly if they are a monitoring message.
+pub fn message_without_fault()
+    ensures { (octets : List ℕ) → ((i : ℕ) → slice_index octets i < 256)
+        → (monitor_fault octets ≡ None) ↔ ((message : Monitoring) × IsMonitoring message octets) }
+{}
+
+/// Law: no two monitoring messages share a spelling.
+pub fn one_message()
+    ensures { (one other : Monitoring) (octets : List ℕ) → IsMonitoring one octets → IsMonitoring other octets
+        → one ≡ other }
+{}
+
+/// Law: whatever was answered, no more than 256 events are reported; so those that fit are the difference.
+pub fn events_fit()
+    ensures { (notes : List Noted) → length (events_of notes) ≤ MOST_EVENTS }
+{}

@@ -18,7 +18,7 @@ use Rattle.aes_block.proofs.OctetFacts.{value_at}
 use Rattle.aes_block.proofs.RoundFacts.{at_mapped}
 use Rattle.gcm.specs.Field.{by_x, times_low}
 use Rattle.gcm.specs.Rows.{by_powers, octet_at, pair, xor_sum, IsRow}
-use Rattle.gcm.specs.declared.rows.TheConstants.{WITHOUT_1, WITHOUT_X, WITHOUT_X2, WITHOUT_X3}
+use Rattle.gcm.specs.declared.table.TheConstants.{WITHOUT_1, WITHOUT_X, WITHOUT_X2, WITHOUT_X3}
 use Rattle.gcm.proofs.SumFacts.{octet_in_vector, number_fits, number_is_sum, xor_sum_same}
 use Rattle.gcm.proofs.TableFacts.{octet_is}
 

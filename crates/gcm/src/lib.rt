@@ -6,11 +6,8 @@
 #![tactic(auto)]
 
 mod counter;
-mod field;
 mod hash;
-mod rows;
 mod seal;
-mod sum;
 mod table;
 
 pub use seal::{BadTag, open_in_place, opens_what_was_sealed, seal_in_place};

@@ -2,7 +2,7 @@
 use Rattle.std.proofs.Common.{ℕ, ◌≤◌, ◌∷◌, ◌++◌, length, arith, IsTrue, length-append}
 use Rattle.std.specs.Int.{w64, to_be_bytes, is_in_range}
 use Rattle.std.proofs.lemmas.Bool.Decides.{nat_tests}
-use Rattle.record_io.specs.declared.kinds.TheConstants.{MOST_RECORD_OCTETS}
+use Rattle.record_io.specs.declared.reader.TheConstants.{MOST_RECORD_OCTETS}
 use Rattle.ep_codec.specs.Command.{IsInBounds, HasTypes, command_octets}
 use Rattle.ep_codec.specs.declared.command.Command.{Command}
 use Rattle.ep_codec.specs.declared.command.Command.TheVariants.{Rekeying, Activate, Deactivate, Verify, Destroy}

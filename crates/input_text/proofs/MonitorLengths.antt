@@ -1,6 +1,6 @@
 -- A monitoring message fits into a record.
 use Rattle.std.proofs.Common.{◌≤◌, length, arith}
-use Rattle.record_io.specs.declared.kinds.TheConstants.{MOST_RECORD_OCTETS}
+use Rattle.record_io.specs.declared.reader.TheConstants.{MOST_RECORD_OCTETS}
 use Rattle.fsr_log.specs.declared.messages.Monitoring.{Monitoring}
 use Rattle.fsr_log.specs.declared.messages.Monitoring.TheVariants.{Ping, LogStatus, DumpLog, EraseLog, SelfTest}
 use Rattle.fsr_log.specs.declared.messages.Monitoring.TheVariants.{AlarmReset}

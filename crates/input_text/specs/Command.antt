@@ -1,7 +1,7 @@
 -- The words of the commands (profile).
 use Rattle.std.specs.Prelude.{⊤, ℕ, ◌==◌, if◌then◌else◌, codes, decimal, map, List, [], ◌∷◌, ◌++◌}
 use Rattle.hex.specs.Hex.{encode_lower, IsBytes}
-use Rattle.sdls_base.specs.declared.change.NewSa.{NewSa}
+use Rattle.sdls_base.specs.declared.entry.NewSa.{NewSa}
 use Rattle.replay_window.specs.WindowField.{back_of, width_of}
 use Rattle.ep_codec.specs.Command.{IsInBounds, HasTypes}
 use Rattle.ep_codec.specs.declared.procedure.Procedure.{Procedure}

@@ -1,6 +1,6 @@
 -- What taking words from a line answers (profile).
 use Rattle.std.specs.Prelude.{◌≡◌, ⊤, ℕ, ◌≤◌, List, length, Result, Ok, Err}
-use Rattle.record_io.specs.declared.kinds.TheConstants.{MOST_RECORD_OCTETS}
+use Rattle.record_io.specs.declared.reader.TheConstants.{MOST_RECORD_OCTETS}
 use Rattle.hex.specs.Hex.{IsBytes}
 use Rattle.input_text.specs.declared.fault.LineError.{LineError}
 use Rattle.input_text.specs.declared.fault.LineError.TheVariants.{Fault, NoMemory}

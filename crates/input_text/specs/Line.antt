@@ -2,9 +2,9 @@
 use Rattle.std.specs.Prelude.{◌≡◌, ⊤, ℕ, ◌^◌, ◌<◌, ◌==◌, ◌&&◌, false, if◌then◌else◌}
 use Rattle.std.specs.Prelude.{decimal, codes, List, [], ◌∷◌, ◌++◌}
 use Rattle.record_io.specs.Input.{Item}
-use Rattle.record_io.specs.declared.kinds.ItemKind.TheVariants as items
-use Rattle.record_io.specs.declared.kinds.RecordKind.TheVariants as records
-use Rattle.record_io.specs.declared.kinds.TheConstants.{LANES}
+use Rattle.record_io.specs.declared.reader.ItemKind.TheVariants as items
+use Rattle.record_io.specs.declared.reader.RecordKind.TheVariants as records
+use Rattle.record_io.specs.declared.reader.TheConstants.{LANES}
 use Rattle.ep_codec.specs.Command.{command_octets}
 use Rattle.input_text.specs.declared.line.Line.{Line}
 use Rattle.input_text.specs.declared.line.Line.TheVariants.{Fence, Protect, Open, Command, Message}

@@ -6,9 +6,9 @@ use Rattle.fsr_log.specs.declared.messages.Monitoring.{Monitoring}
 use Rattle.fsr_log.specs.declared.messages.Monitoring.TheVariants.{Ping, LogStatus, DumpLog, EraseLog, SelfTest}
 use Rattle.fsr_log.specs.declared.messages.Monitoring.TheVariants.{AlarmReset}
 use Rattle.fsr_log.specs.Message.{HasBlock, monitoring_octets}
-use Rattle.record_io.specs.declared.kinds.ItemKind.TheVariants.{Recorded}
-use Rattle.record_io.specs.declared.kinds.RecordKind.TheVariants as records
-use Rattle.record_io.specs.declared.kinds.TheConstants.{LEAST_MONITOR_OCTETS, MOST_RECORD_OCTETS}
+use Rattle.record_io.specs.declared.reader.ItemKind.TheVariants.{Recorded}
+use Rattle.record_io.specs.declared.reader.RecordKind.TheVariants as records
+use Rattle.record_io.specs.declared.reader.TheConstants.{LEAST_MONITOR_OCTETS, MOST_RECORD_OCTETS}
 use Rattle.text_words.specs.declared.names.MessageName.{MessageName}
 use Rattle.text_words.specs.declared.names.MessageName.TheVariants as names
 use Rattle.text_words.specs.Names.{item_word, message_named, message_word}

@@ -5,7 +5,7 @@ ghost use Rattle.std.specs.Prelude.{◌≡◌, ◌≤◌, ◌∷◌, ◌++◌, l
 ghost use Rattle.std.specs.Int.{w16, to_be_bytes};
 ghost use Rattle.ep_codec.specs.Command.{IsInBounds, HasTypes, command_octets};
 ghost use Rattle.record_io.specs.Input.{item_octets};
-ghost use Rattle.record_io.specs.declared.kinds.TheConstants.{MOST_RECORD_OCTETS};
+ghost use Rattle.record_io.specs.declared.reader.TheConstants.{MOST_RECORD_OCTETS};
 ghost use Rattle.fsr_log.specs.Message.{HasBlock, monitoring_octets};
 ghost use Rattle.input_text.specs.Monitor.{IsAsked, asked_octets};
 ghost use Rattle.input_text.specs.Line.{IsLine, line_item};

@@ -5,8 +5,8 @@ ghost use Rattle.std.specs.Prelude.{◌≡◌, ◌≤◌, ◌<◌, ◌^◌, ℕ,
 ghost use Rattle.std.specs.Prelude.{MatchOption, IsTrue};
 ghost use Rattle.ep_codec.specs.declared.command.Command.{Command};
 ghost use Rattle.input_text.specs.declared.line.Line.TheVariants as lines;
-ghost use Rattle.record_io.specs.declared.kinds.ItemKind.TheVariants.{Recorded};
-ghost use Rattle.record_io.specs.declared.kinds.RecordKind.TheVariants as records;
+ghost use Rattle.record_io.specs.declared.reader.ItemKind.TheVariants.{Recorded};
+ghost use Rattle.record_io.specs.declared.reader.RecordKind.TheVariants as records;
 ghost use Rattle.text_words.specs.Names.{item_word};
 ghost use Rattle.text_words.specs.Words.{octets_word};
 ghost use Rattle.input_text.specs.Fields.{AnswersField, AreRecorded};

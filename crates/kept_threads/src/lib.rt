@@ -8,7 +8,6 @@
 
 mod helper;
 mod jobs;
-mod log;
 
 pub use helper::Helper;
 pub use jobs::{Asking, Done, Fresh, Jobs, Named, Work};

@@ -3,7 +3,7 @@ use Rattle.std.proofs.Common.{◌≡◌, ℕ, ◌+◌, ◌<◌, List, length, ge
 use Rattle.std.proofs.lemmas.Bool.{cases_eq}
 use Rattle.std.proofs.lemmas.List.{length-take, get_or-take, get_or-set_same, get_or-set_other}
 use Rattle.sha2.specs.Sha256.{sha256}
-use Rattle.sdls_base.specs.declared.key_item.KeyItem.{KeyItem}
+use Rattle.sdls_base.specs.declared.key_id.KeyItem.{KeyItem}
 use Rattle.key_book.specs.Digests.{Knows}
 
 -- they are those of the first keys too

@@ -11,7 +11,7 @@ use Rattle.std.proofs.lemmas.Bool.Decides.{nat_tests}
 use Rattle.std.proofs.lemmas.Cmp.{ranked}
 use Rattle.std.proofs.lemmas.List.Edits.{length-insert, get_or-insert_below, get_or-insert_at, get_or-insert_above}
 use Rattle.std.proofs.lemmas.List.Sorted.{IsNonDecreasingBy-from_default}
-use Rattle.key_book.specs.declared.index.Entry.{Entry}
+use Rattle.key_book.specs.declared.table.Entry.{Entry}
 use Rattle.key_book.specs.Index.{place_in, place_noted, number_at, IsAscending, IsAt, IsGapFor}
 
 abbrev pub none_at : Entry

@@ -7,9 +7,9 @@ use Rattle.std.specs.Str.{bytes_eq}
 use Rattle.std.proofs.lemmas.List.Folds.{find-append}
 use Rattle.sha2.specs.Sha256.{sha256}
 use Rattle.sdls_base.specs.FirstFailing.{fails_if}
-use Rattle.sdls_base.specs.declared.key_item.KeyItem.{KeyItem}
+use Rattle.sdls_base.specs.declared.key_id.KeyItem.{KeyItem}
 use Rattle.key_book.specs.declared.key_row.KeyRow.{KeyRow}
-use Rattle.key_book.specs.declared.key_refusal.KeyRefusal.TheVariants.{AlreadyLoaded, DuplicateKey}
+use Rattle.key_book.specs.declared.refusals.KeyRefusal.TheVariants.{AlreadyLoaded, DuplicateKey}
 use Rattle.key_book.specs.KeyRow.{new_row}
 use Rattle.key_book.specs.KeyBook.{row_of, place_of}
 use Rattle.key_book.specs.KeyRefusal.{row_with, place_with, key_refusal}

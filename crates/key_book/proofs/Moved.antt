@@ -13,8 +13,8 @@ use Rattle.sdls_base.specs.declared.TheConstants.{MOST_KEYS}
 use Rattle.sdls_base.specs.declared.states.KeyState.{KeyState}
 use Rattle.sdls_base.specs.declared.states.KeyState.TheVariants.{PreActive, Active, Deactivated, Destroyed}
 use Rattle.key_book.specs.declared.key_row.KeyRow.{KeyRow}
-use Rattle.key_book.specs.declared.key_refusal.KeyRefusal.{KeyRefusal}
-use Rattle.key_book.specs.declared.key_refusal.KeyRefusal.TheVariants.{WrongState, UnknownKey}
+use Rattle.key_book.specs.declared.refusals.KeyRefusal.{KeyRefusal}
+use Rattle.key_book.specs.declared.refusals.KeyRefusal.TheVariants.{WrongState, UnknownKey}
 use Rattle.key_book.specs.KeyRow.{HasBytes, IsKeyRow, in_state, bytes_in}
 use Rattle.key_book.specs.KeyBook.{AreKeyRows, IsKeyBook, row_of, place_of}
 use Rattle.sdls_base.specs.FirstFailing.{fails_if}

@@ -2,7 +2,7 @@
 use Rattle.std.proofs.Common.{◌≡◌, ℕ, ◌≤◌, List, ◌++◌, length, replicate, take, drop, sym, ap, ◌∙◌}
 use Rattle.std.proofs.Math.Seq.{take-append_seam}
 use Rattle.std.proofs.lemmas.List.{drop-replicate}
-use Rattle.key_book.specs.declared.key_octets.TheConstants.{MOST_OCTETS}
+use Rattle.key_book.specs.declared.key_row.TheConstants.{MOST_OCTETS}
 use Rattle.key_book.specs.KeyOctets.{padded, IsPadded}
 
 -- octets that were written over the front of a room of zeros

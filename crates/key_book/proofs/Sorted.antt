@@ -9,8 +9,8 @@ use Rattle.std.proofs.lemmas.List.Quantifiers.{position-Some}
 use Rattle.std.proofs.lemmas.List.Sorted.{All-permutation, Contains-permutation}
 use Rattle.sdls_base.specs.declared.states.KeyState.TheVariants.{PreActive}
 use Rattle.sdls_base.proofs.Searches.{find_none, find_nowhere}
-use Rattle.key_book.specs.declared.index.Entry.{Entry}
-use Rattle.key_book.specs.declared.index.Index.{Index}
+use Rattle.key_book.specs.declared.table.Entry.{Entry}
+use Rattle.key_book.specs.declared.table.Index.{Index}
 use Rattle.key_book.specs.declared.key_row.KeyRow.{KeyRow}
 use Rattle.key_book.specs.Index.{place_in, number_at, IsAscending, IsAt}
 use Rattle.key_book.specs.Table.{front, AreNumbersOf, IsIndex, IsIndexApart}

@@ -6,7 +6,7 @@ use Rattle.std.specs.Str.{bytes_eq}
 use Rattle.std.proofs.lemmas.Bool.{false≢true}
 use Rattle.std.proofs.lemmas.Bool.Decides.{nat_tests}
 use Rattle.std.proofs.lemmas.Slice.Eq.{bytes_eq-Decides}
-use Rattle.key_book.specs.declared.index.Entry.{Entry}
+use Rattle.key_book.specs.declared.table.Entry.{Entry}
 use Rattle.key_book.specs.declared.key_row.KeyRow.{KeyRow}
 use Rattle.sdls_base.specs.declared.states.KeyState.{KeyState}
 use Rattle.key_book.specs.KeyRow.{in_state}

@@ -1,7 +1,7 @@
 -- The digests of keys that are to be loaded (FIPS 180-4).
 use Rattle.std.specs.Prelude.{◌≡◌, ℕ, ◌<◌, List, length, slice_index_or}
 use Rattle.sha2.specs.Sha256.{sha256}
-use Rattle.sdls_base.specs.declared.key_item.KeyItem.{KeyItem}
+use Rattle.sdls_base.specs.declared.key_id.KeyItem.{KeyItem}
 
 -- as far as both go, these are the digests of the keys
 abbrev pub Knows : List (List ℕ) → List KeyItem → Type 0

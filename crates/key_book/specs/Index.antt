@@ -2,7 +2,7 @@
 use Rattle.std.specs.Prelude.{◌≡◌, ℕ, ◌<◌, ◌≤◌, ◌==◌, if◌then◌else◌, List, length, slice_index_or, Option, Some, None}
 use Rattle.std.specs.List.{find}
 use Rattle.std.specs.Option.{option_map, option_or}
-use Rattle.key_book.specs.declared.index.Entry.{Entry}
+use Rattle.key_book.specs.declared.table.Entry.{Entry}
 
 -- the place that an index has for a number
 abbrev pub place_in : List Entry → ℕ → Option ℕ

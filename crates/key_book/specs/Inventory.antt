@@ -2,8 +2,8 @@
 use Rattle.std.specs.Prelude.{◌≡◌, ℕ, ◌&&◌, nat_le, List, length, map, filter, take, IsPermutation}
 use Rattle.std.specs.List.Sorted.{IsNonDecreasingBy}
 use Rattle.sdls_base.specs.declared.states.KeyState.{KeyState}
-use Rattle.key_book.specs.declared.inventory.Inventory.{Inventory}
-use Rattle.key_book.specs.declared.inventory.TheConstants.{MOST_LISTED}
+use Rattle.key_book.specs.declared.key_book.Inventory.{Inventory}
+use Rattle.key_book.specs.declared.key_book.TheConstants.{MOST_LISTED}
 use Rattle.key_book.specs.declared.key_row.KeyRow.{KeyRow}
 
 -- the keys from one identifier to another, with their states

@@ -1,6 +1,6 @@
 -- How the octets of a key lie in their room.
 use Rattle.std.specs.Prelude.{◌≡◌, ℕ, ◌-◌, ◌≤◌, List, ◌++◌, length, replicate, take}
-use Rattle.key_book.specs.declared.key_octets.TheConstants.{MOST_OCTETS}
+use Rattle.key_book.specs.declared.key_row.TheConstants.{MOST_OCTETS}
 
 -- octets at the front of the room, and zeros behind them
 abbrev pub padded : List ℕ → List ℕ

@@ -7,10 +7,10 @@ use Rattle.std.specs.Str.{bytes_eq}
 use Rattle.sha2.specs.Sha256.{sha256}
 use Rattle.sdls_base.specs.FirstFailing.{fails_if}
 use Rattle.sdls_base.specs.declared.TheConstants.{MOST_KEYS}
-use Rattle.sdls_base.specs.declared.key_item.KeyItem.{KeyItem}
+use Rattle.sdls_base.specs.declared.key_id.KeyItem.{KeyItem}
 use Rattle.key_book.specs.declared.key_row.KeyRow.{KeyRow}
-use Rattle.key_book.specs.declared.key_refusal.KeyRefusal.{KeyRefusal}
-use Rattle.key_book.specs.declared.key_refusal.KeyRefusal.TheVariants.{AlreadyLoaded, DuplicateKey, BookFull, NoMemory}
+use Rattle.key_book.specs.declared.refusals.KeyRefusal.{KeyRefusal}
+use Rattle.key_book.specs.declared.refusals.KeyRefusal.TheVariants.{AlreadyLoaded, DuplicateKey, BookFull, NoMemory}
 use Rattle.key_book.specs.KeyRow.{new_row}
 use Rattle.key_book.specs.KeyBook.{row_of}
 

@@ -3,7 +3,7 @@ use Rattle.std.specs.Prelude.{◌≡◌, ℕ, ◌<◌, ◌≤◌, List, [], leng
 use Rattle.sha2.specs.Sha256.{sha256}
 use Rattle.sdls_base.specs.Bounds.{IsKeyLength}
 use Rattle.sdls_base.specs.KeyId.{end_of}
-use Rattle.sdls_base.specs.declared.key_item.KeyItem.{KeyItem}
+use Rattle.sdls_base.specs.declared.key_id.KeyItem.{KeyItem}
 use Rattle.sdls_base.specs.declared.states.KeyState.{KeyState}
 use Rattle.sdls_base.specs.declared.states.KeyState.TheVariants.{PreActive, Active, Deactivated, Destroyed}
 use Rattle.key_book.specs.declared.key_row.KeyRow.{KeyRow}

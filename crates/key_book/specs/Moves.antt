@@ -7,8 +7,8 @@ use Rattle.sdls_base.specs.FirstFailing.{fails_if}
 use Rattle.sdls_base.specs.declared.states.KeyState.{KeyState}
 use Rattle.sdls_base.specs.declared.states.KeyState.TheVariants.{PreActive, Active, Deactivated, Destroyed}
 use Rattle.key_book.specs.declared.key_row.KeyRow.{KeyRow}
-use Rattle.key_book.specs.declared.key_refusal.KeyRefusal.{KeyRefusal}
-use Rattle.key_book.specs.declared.key_refusal.KeyRefusal.TheVariants.{WrongState, KeyInUse, UnknownKey}
+use Rattle.key_book.specs.declared.refusals.KeyRefusal.{KeyRefusal}
+use Rattle.key_book.specs.declared.refusals.KeyRefusal.TheVariants.{WrongState, KeyInUse, UnknownKey}
 use Rattle.key_book.specs.KeyRow.{in_state}
 use Rattle.key_book.specs.KeyBook.{row_of}
 

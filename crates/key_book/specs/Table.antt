@@ -2,7 +2,7 @@
 use Rattle.std.specs.Prelude.{◌≡◌, ◌≢◌, ℕ, ◌+◌, ◌<◌, ◌≤◌, ◌==◌, List, [], ◌∷◌, length, slice_index, slice_index_or}
 use Rattle.std.specs.Prelude.{position, AllPairs, vec_capacity, vec_len}
 use Rattle.std.specs.Int.{from_be_bytes, w32}
-use Rattle.key_book.specs.declared.index.Entry.{Entry}
+use Rattle.key_book.specs.declared.table.Entry.{Entry}
 use Rattle.key_book.specs.declared.key_row.KeyRow.{KeyRow}
 use Rattle.key_book.specs.declared.table.Table.{Table}
 use Rattle.key_book.specs.Index.{place_in, IsAscending}

@@ -1,25 +1,27 @@
-ghost use Rattle.std.specs.Prelude.{◌≡◌, ◌+◌, ◌<◌, ◌≤◌, max, ℕ, List, [], ◌∷◌, ◌++◌, length, map, take, slice_index_or};
-ghost use Rattle.std.specs.Prelude.{All, IfOk, IfErr, OnOk, OnErr, IfSome, IsSome, None, Some, MatchOption, vec_len};
+//! Books made of rows that were read.
+ghost use Rattle.std.specs.Prelude.{◌≡◌, ◌+◌, ◌<◌, ◌≤◌, max, ℕ, List, [], ◌∷◌, ◌++◌, length, map, take};
+ghost use Rattle.std.specs.Prelude.{slice_index_or, All, IfOk, IfErr, OnOk, OnErr, IfSome, IsSome, None, Some};
+ghost use Rattle.std.specs.Prelude.{MatchOption, vec_len, ◌≢◌, ◌↔◌, IsTrue};
 ghost use Rattle.std.specs.List.{slice_get};
 ghost use Rattle.std.specs.Option.{option_map};
 ghost use Rattle.std.specs.Result.{result_err};
 ghost use Rattle.sdls_base.specs.Bounds.{IsKeyLength};
 ghost use Rattle.sdls_base.specs.KeyId.{end_of};
+ghost use Rattle.sdls_base.specs.declared.TheConstants.{MOST_KEYS};
 ghost use Rattle.key_book.specs.declared.key_row.KeyRow.{KeyRow};
 ghost use Rattle.key_book.specs.KeyRow.{IsKeyRow, new_row};
 ghost use Rattle.key_book.specs.KeyBook.{IsKeyBook, MayFollow, row_of, place_of, changed};
 ghost use Rattle.key_book.specs.KeyRefusal.{IsKeyRefusal, load_refusal};
 ghost use Rattle.key_book.specs.Moves.{moved, moves_refusal};
-ghost use Rattle.key_book.specs.Inventory.{IsInventory};
+ghost use Rattle.key_book.specs.Inventory.{IsInventory, listed};
 ghost use Rattle.key_book.specs.Table.{IsIndexed};
 
-use crate::inventory::Inventory;
-use crate::key_refusal::KeyRefusal;
 use crate::key_row::KeyRow;
-use crate::moves;
-use crate::table::Table;
-use sdls_base::{KeyId, KeyItem, KeyList, KeyState, NoMemory, Spi};
-use std::alloc::Global;
+use crate::refusals;
+use crate::refusals::KeyRefusal;
+use crate::table::{Table, indexes_of};
+use sdls_base::{KeyId, KeyItem, KeyList, KeyRows, KeyState, NoMemory, Spi};
+use std::alloc::{AllocError, Global};
 use std::fmt;
 use std::marker::Model;
 
@@ -100,8 +102,8 @@ impl KeyBook {
         ensures refused { result_err result ≡ moves_refusal self.old ids.now to in_use.now }
         ensures kept { OnErr result (self.new ≡ self.old) }
     {
-        moves::judge(&self.table, ids.as_slice(), to, in_use)?;
-        moves::move_rows(&mut self.table.rows, ids.as_slice(), to);
+        refusals::judge(&self.table, ids.as_slice(), to, in_use)?;
+        refusals::move_rows(&mut self.table.rows, ids.as_slice(), to);
         Ok(())
     }
 
@@ -214,3 +216,113 @@ pub fn rows_may_follow()
     ensures { (rows : List KeyRow) (i : ℕ) (d : KeyRow) → IsKeyBook rows → i < length rows
         → MayFollow (take i rows) (slice_index_or rows i d) }
 {}
+
+/// Whether no row is that of this key.
+fn lacks(book: &KeyBook, id: KeyId) -> bool
+    ensures { IsTrue result ↔ All (λ other. other.id ≢ id) book.now }
+{
+    book.find(id).is_none()
+}
+
+/// Whether no row has this digest.
+fn lacks_digest(book: &KeyBook, digest: &[u8; 32]) -> bool
+    ensures { IsTrue result ↔ All (λ other. other.digest ≢ digest.now) book.now }
+{
+    book.twin(digest).is_none()
+}
+
+/// Whether no row of the book has the identifier or the digest of this one.
+fn is_apart(book: &KeyBook, row: &KeyRow) -> bool
+    ensures { IsTrue result ↔ (All (λ other. other.id ≢ row.now.id) book.now
+        × All (λ other. other.digest ≢ row.now.digest) book.now) }
+{
+    lacks(book, row.id) && lacks_digest(book, &row.digest)
+}
+
+/// The book of these rows, each of which is judged by those before it.
+fn one_by_one(alloc: Global, rows: Vec<KeyRow>) -> Result<Option<KeyBook>, NoMemory>
+    requires most { length rows.items ≤ MOST_KEYS }
+    requires each { All IsKeyRow rows.items }
+    ensures { IfOk result (λ found. MatchOption found (¬ IsKeyBook rows.items) (λ book. book ≡ rows.items)) }
+{
+    rows_may_follow();
+    let mut book = KeyBook::new(alloc);
+    for row in rows {
+        if !is_apart(&book, &row) {
+            return Ok(None);
+        }
+        book.add_row(row)?;
+    }
+    Ok(Some(book))
+}
+
+impl KeyBook {
+    /// The book of these rows, in their order, or `None` if two have one identifier or one digest. Takes memory for the
+    /// indexes. They are sorted at once, or filled row by row where two digests have one front.
+    pub fn of_rows(alloc: Global, rows: Vec<KeyRow>) -> Result<Option<KeyBook>, NoMemory>
+        requires most { length rows.items ≤ MOST_KEYS }
+        requires each { All IsKeyRow rows.items }
+        ensures { IfOk result (λ found. MatchOption found (¬ IsKeyBook rows.items) (λ book. book ≡ rows.items)) }
+    {
+        match indexes_of(alloc, &rows)? {
+            Some((by_id, by_front)) => Ok(Some(KeyBook {
+                table: Table {
+                    rows,
+                    by_id,
+                    by_front,
+                },
+            })),
+            None => one_by_one(alloc, rows),
+        }
+    }
+}
+
+/// The most keys that an inventory lists (profile).
+pub const MOST_LISTED: usize = 256;
+
+/// The keys of a range of identifiers.
+#[derive(Debug, Drop)]
+pub struct Inventory {
+    /// How many keys of the book lie in the range.
+    pub total: u16,
+    /// The first of them, at most [`MOST_LISTED`], ascending by identifier.
+    pub rows: KeyRows,
+}
+
+/// The keys with identifiers from `first` to `last`, in the order of the rows.
+fn listed(
+    alloc: Global,
+    rows: &[KeyRow],
+    first: u16,
+    last: u16,
+) -> Result<Vec<(KeyId, KeyState)>, AllocError>
+    ensures { IfOk result (λ keys. keys.items ≡ listed rows.now first last) }
+{
+    rows.iter()
+        .filter(|row| first <= row.id.get() && row.id.get() <= last)
+        .map(|row| (row.id, row.state))
+        .collect(alloc)
+}
+
+impl Inventory {
+    ghost use Rattle.key_book.specs.Inventory.{IsInventory};
+
+    pub(crate) fn of(
+        alloc: Global,
+        rows: &[KeyRow],
+        first: u16,
+        last: u16,
+    ) -> Result<Inventory, NoMemory>
+        requires { length rows.now ≤ MOST_KEYS }
+        ensures { IfOk result (IsInventory rows.now first last) }
+    {
+        let mut keys = listed(alloc, rows, first, last)?;
+        let total = keys.len() as u16;
+        keys.sort_by_key(|key| key.0)?;
+        keys.truncate(MOST_LISTED);
+        Ok(Inventory {
+            total,
+            rows: KeyRows::new(keys),
+        })
+    }
+}

@@ -6,20 +6,11 @@
 //! change anything; read their clauses first. What is stored of the book, and where, is the caller's.
 #![tactic(auto)]
 
-mod digests;
-mod index;
-mod inventory;
 mod key_book;
-mod key_octets;
-mod key_refusal;
 mod key_row;
-mod making;
-mod moves;
 mod refusals;
 mod table;
 
-pub use inventory::{Inventory, MOST_LISTED};
-pub use key_book::{KeyBook, rows_may_follow};
-pub use key_octets::{KeyOctets, MOST_OCTETS};
-pub use key_refusal::KeyRefusal;
-pub use key_row::{KeyRow, digest};
+pub use key_book::{Inventory, KeyBook, MOST_LISTED, rows_may_follow};
+pub use key_row::{KeyOctets, KeyRow, MOST_OCTETS, digest};
+pub use refusals::KeyRefusal;

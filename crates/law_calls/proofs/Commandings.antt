@@ -5,20 +5,20 @@ use Rattle.std.proofs.Common.{false, eqb, eq-eqb, true, ◌-◌}
 use Rattle.std.specs.Option.{option_map_or}
 use Rattle.sdls_base.specs.KeyId.{end_of}
 use Rattle.sdls_base.specs.Numbers.{tally}
-use Rattle.sdls_base.specs.declared.change.Change.{Change}
+use Rattle.sdls_base.specs.declared.entry.Change.{Change}
 use Rattle.sdls_base.specs.declared.entry.Entry.{Entry}
 use Rattle.sdls_base.specs.declared.entry.Seen.{Seen}
 use Rattle.sdls_base.specs.declared.entry.Seen.TheVariants as sights
-use Rattle.ep_core.specs.declared.need.Need.{Need}
-use Rattle.ep_core.specs.declared.need.Need.TheVariants as needs
-use Rattle.ep_core.specs.declared.reply.Reply.{Reply}
-use Rattle.ep_core.specs.declared.reply.Reply.TheVariants as replies
+use Rattle.ep_core.specs.declared.judging.Need.{Need}
+use Rattle.ep_core.specs.declared.judging.Need.TheVariants as needs
+use Rattle.ep_core.specs.declared.refusal.Reply.{Reply}
+use Rattle.ep_core.specs.declared.refusal.Reply.TheVariants as replies
 use Rattle.ep_core.specs.Seen.{MeetsNeed}
 use Rattle.key_book.specs.declared.key_row.KeyRow.{KeyRow}
 use Rattle.key_book.specs.KeyBook.{place_of}
-use Rattle.record_io.specs.declared.kinds.RecordKind.{RecordKind}
-use Rattle.record_io.specs.declared.kinds.RecordKind.TheVariants.{Protect, Command, Monitor}
-use Rattle.record_io.specs.declared.records.Record.{Record}
+use Rattle.record_io.specs.declared.reader.RecordKind.{RecordKind}
+use Rattle.record_io.specs.declared.reader.RecordKind.TheVariants.{Protect, Command, Monitor}
+use Rattle.record_io.specs.declared.item_cursor.Record.{Record}
 use Rattle.record_io.specs.declared.code.TheConstants.{SITE_FAULT}
 use Rattle.unit_state.specs.declared.state.State.{State}
 use Rattle.unit_state.specs.State.{key_row}

@@ -4,7 +4,7 @@ use Rattle.std.proofs.Common.{sym, ◌∙◌, ap, subst, arith, inl, inr, append
 use Rattle.std.proofs.lemmas.Bool.{cases_eq}
 use Rattle.std.proofs.lemmas.Bool.Decides.{nat_tests}
 use Rattle.sdls_base.specs.Numbers.{one_if, tally}
-use Rattle.record_io.specs.declared.records.Record.{Record}
+use Rattle.record_io.specs.declared.item_cursor.Record.{Record}
 use Rattle.counter_table.specs.declared.view.Numbers.{Numbers}
 use Rattle.counter_table.specs.declared.view.View.{View}
 use Rattle.counter_table.specs.Numbers.{count_of, top, arming, raising}

@@ -12,9 +12,9 @@ use Rattle.sdls_base.specs.declared.entry.Logged.TheVariants as lines
 use Rattle.record_io.specs.declared.answers.Answer.{Answer}
 use Rattle.record_io.specs.declared.code.TheConstants.{SITE_FAULT, STOPPED, NO_MEMORY, CLEAR, DONE, REFUSED, LAYOUT}
 use Rattle.record_io.specs.declared.code.TheConstants.{STATE}
-use Rattle.record_io.specs.declared.kinds.RecordKind.{RecordKind}
-use Rattle.record_io.specs.declared.kinds.RecordKind.TheVariants.{Protect, Open, Command, Monitor}
-use Rattle.record_io.specs.declared.records.Record.{Record}
+use Rattle.record_io.specs.declared.reader.RecordKind.{RecordKind}
+use Rattle.record_io.specs.declared.reader.RecordKind.TheVariants.{Protect, Open, Command, Monitor}
+use Rattle.record_io.specs.declared.item_cursor.Record.{Record}
 use Rattle.counter_table.specs.declared.view.View.{View}
 use Rattle.counter_table.specs.Turn.{places, stands}
 use Rattle.run_promise.specs.History.{draws}

@@ -7,7 +7,7 @@ use Rattle.sdls_base.specs.Numbers.{tally}
 use Rattle.counter_table.specs.declared.view.Numbers.{Numbers}
 use Rattle.counter_table.specs.declared.view.View.{View}
 use Rattle.counter_table.specs.Numbers.{amount, top, raising}
-use Rattle.record_io.specs.declared.records.Record.{Record}
+use Rattle.record_io.specs.declared.item_cursor.Record.{Record}
 use Rattle.shared_unit.specs.Numbers.{Draws}
 use Rattle.shared_unit.proofs.Tops.{top-append}
 use Rattle.run_promise.specs.Call.{Begin}

@@ -10,7 +10,7 @@ use Rattle.unit_state.specs.Applied.{applied}
 use Rattle.unit_state.specs.History.{after_all}
 use Rattle.unit_state.specs.Restart.{still}
 use Rattle.unit_state.proofs.StateLaws.{light_still}
-use Rattle.record_io.specs.declared.kinds.RecordKind.TheVariants.{Monitor}
+use Rattle.record_io.specs.declared.reader.RecordKind.TheVariants.{Monitor}
 use Rattle.run_promise.specs.History.{drawers, IsLegal}
 use Rattle.run_promise.specs.Fits.{MayAppend, IsUnmarked, state_after}
 use Rattle.run_promise.specs.Log.{entries_of}

@@ -13,9 +13,9 @@ use Rattle.sdls_outside.specs.Faults.{Rose}
 use Rattle.record_io.specs.declared.answers.Answer.{Answer}
 use Rattle.record_io.specs.declared.code.TheConstants.{MONITOR_FAULT, SITE_FAULT, STOPPED, NO_MEMORY, PROTECTED}
 use Rattle.record_io.specs.declared.code.TheConstants.{ACCEPTED, DONE, NUMBER, EXHAUSTED}
-use Rattle.record_io.specs.declared.kinds.RecordKind.{RecordKind}
-use Rattle.record_io.specs.declared.kinds.RecordKind.TheVariants.{Protect, Open, Command, Monitor}
-use Rattle.record_io.specs.declared.records.Record.{Record}
+use Rattle.record_io.specs.declared.reader.RecordKind.{RecordKind}
+use Rattle.record_io.specs.declared.reader.RecordKind.TheVariants.{Protect, Open, Command, Monitor}
+use Rattle.record_io.specs.declared.item_cursor.Record.{Record}
 use Rattle.unit_state.specs.declared.state.State.{State}
 use Rattle.unit_state.specs.History.{after_all, after_first, epoch_after}
 use Rattle.unit_state.proofs.Histories.{epochs_more}
@@ -32,7 +32,7 @@ use Rattle.run_promise.specs.Fits.{Course, Fits, MayAppend, state_after}
 use Rattle.run_promise.specs.Log.{entries_of, IsStored}
 use Rattle.unit_book.specs.declared.fault.BookFault.{BookFault}
 use Rattle.unit_book.specs.declared.fault.BookFault.TheVariants as refusals
-use Rattle.run_promise.specs.declared.limits.TheConstants.{MOST_ENTRIES}
+use Rattle.run_promise.specs.declared.end.TheConstants.{MOST_ENTRIES}
 use Rattle.unit_book.specs.Book.{BookView, CanEnter, Enters, IsBarred, IsUnstored}
 use Rattle.shared_unit.specs.Told.{known_of_book, entry_count}
 use Rattle.shared_unit.specs.Turn.{Visits}

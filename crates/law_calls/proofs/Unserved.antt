@@ -1,6 +1,6 @@
 -- A record for whose answer memory ran out before its call.
 use Rattle.std.proofs.Common.{ℕ, [], Some, refl, sym, append-nil, arith}
-use Rattle.record_io.specs.declared.records.Record.{Record}
+use Rattle.record_io.specs.declared.item_cursor.Record.{Record}
 use Rattle.record_io.specs.declared.code.TheConstants.{NO_MEMORY}
 use Rattle.counter_table.specs.declared.view.View.{View}
 use Rattle.run_promise.specs.Call.{Begin}

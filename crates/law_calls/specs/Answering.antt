@@ -1,12 +1,12 @@
 -- The answers to records, by what the calls on the unit answered (profile).
 use Rattle.std.specs.Prelude.{◌≡◌, ◌≢◌, ℕ, Bool, List, [], ◌∷◌, take, Option, Some, None, Result, Ok, Err, MatchResult}
-use Rattle.frame_checks.specs.declared.open_reply.OpenReply.{OpenReply}
+use Rattle.frame_checks.specs.declared.opening_frames.OpenReply.{OpenReply}
 use Rattle.frame_checks.specs.Accepting.{LeavesOctets, field_in}
-use Rattle.ep_core.specs.declared.reply.Reply.{Reply}
+use Rattle.ep_core.specs.declared.refusal.Reply.{Reply}
 use Rattle.record_io.specs.declared.answers.Answer.{Answer}
 use Rattle.record_io.specs.declared.code.TheConstants.{PROTECTED, CLEAR, EXHAUSTED, SITE_FAULT, STOPPED, NO_MEMORY}
-use Rattle.record_io.specs.declared.kinds.RecordKind.TheVariants.{Command}
-use Rattle.record_io.specs.declared.records.Record.{Record}
+use Rattle.record_io.specs.declared.reader.RecordKind.TheVariants.{Command}
+use Rattle.record_io.specs.declared.item_cursor.Record.{Record}
 use Rattle.counter_table.specs.declared.view.View.{View}
 use Rattle.run_promise.specs.Answers.{Told, counting, plain, numbered, opened_told, replied_told, fault_told}
 use Rattle.unit_book.specs.declared.fault.BookFault.{BookFault}

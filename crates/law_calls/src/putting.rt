@@ -1,17 +1,17 @@
 //! Laws of calls that take the turn once, draw no number and make no entry.
 ghost use Rattle.std.specs.Prelude.{◌≡◌, ℕ, List, Result, length};
 ghost use Rattle.sdls_base.specs.declared.TheConstants.{MOST_KEYS};
-ghost use Rattle.record_io.specs.declared.records.Record.{Record};
-ghost use Rattle.counter_table.specs.declared.view.View.{View};
-ghost use Rattle.counter_table.specs.Play.{IsCovered};
+ghost use Rattle.run_promise.specs.Call.{Begin};
 ghost use Rattle.unit_book.specs.declared.fault.BookFault.{BookFault};
 ghost use Rattle.unit_book.specs.Book.{BookView};
-ghost use Rattle.shared_unit.specs.Calls.{IsPut};
-ghost use Rattle.shared_unit.specs.Told.{known_of_book};
-ghost use Rattle.run_promise.specs.Call.{Begin};
+ghost use Rattle.counter_table.specs.declared.view.View.{View};
+ghost use Rattle.counter_table.specs.Play.{IsCovered};
 ghost use Rattle.law_workers.specs.Work.{Worked};
 ghost use Rattle.law_workers.specs.Settles.{SettlesAt};
+ghost use Rattle.shared_unit.specs.Calls.{IsPut};
+ghost use Rattle.shared_unit.specs.Told.{known_of_book};
 ghost use Rattle.law_calls.specs.Visiting.{Visited};
+ghost use Rattle.record_io.specs.declared.item_cursor.Record.{Record};
 
 use sdls_outside::Site;
 

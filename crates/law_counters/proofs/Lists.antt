@@ -6,7 +6,7 @@ use Rattle.counter_table.specs.declared.view.Known.{Known}
 use Rattle.counter_table.specs.declared.view.View.{View}
 use Rattle.counter_table.specs.Known.{known_mark}
 use Rattle.counter_table.specs.Rule.{next_at, limit_at}
-use Rattle.sdls_world.specs.declared.key.Key.{Key}
+use Rattle.sdls_world.specs.declared.world.Key.{Key}
 use Rattle.sdls_world.specs.Core.{Doer, find_place, further}
 use Rattle.sdls_world.proofs.Places.{some_same}
 use Rattle.law_counters.specs.Scene.{doer, doers, key_at, keys_from}

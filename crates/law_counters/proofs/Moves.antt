@@ -13,9 +13,9 @@ use Rattle.counter_table.specs.Turn as turning
 use Rattle.counter_table.specs.Rule.{epoch_at, next_at, limit_at}
 use Rattle.sdls_base.specs.KeyId.{end_of}
 use Rattle.sdls_base.specs.Numbers.{one_if, total}
-use Rattle.sdls_world.specs.declared.key.Key.{Key}
-use Rattle.sdls_world.specs.declared.step.Step.TheVariants.{Arm, Draw, Peek, Spend, See, Take, Give, Write, Sync, Lift}
-use Rattle.sdls_world.specs.declared.step.Step.TheVariants.{RaiseNext, Turn}
+use Rattle.sdls_world.specs.declared.world.Key.{Key}
+use Rattle.sdls_world.specs.declared.world.Step.TheVariants.{Arm, Draw, Peek, Spend, See, Take, Give, Write, Sync, Lift}
+use Rattle.sdls_world.specs.declared.world.Step.TheVariants.{RaiseNext, Turn}
 use Rattle.sdls_world.specs.Core as core
 use Rattle.sdls_world.specs.Core.{Doer, Core, world_after, world_after_all, on_found, key_of, doer_of, holds_turn}
 use Rattle.sdls_world.proofs.Places.{place_below}

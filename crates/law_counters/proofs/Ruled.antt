@@ -8,7 +8,7 @@ use Rattle.counter_table.specs.Known.{known_mark}
 use Rattle.counter_table.specs.Numbers as numbers
 use Rattle.counter_table.specs.Rule.{RowFits, SeatFits, IsSane}
 use Rattle.sdls_base.specs.Numbers.{tally, total, once_below}
-use Rattle.sdls_world.specs.declared.key.Key.{Key}
+use Rattle.sdls_world.specs.declared.world.Key.{Key}
 use Rattle.sdls_world.specs.Core.{Doer}
 use Rattle.sdls_world.specs.Kept.{KeyKept, DoerKept, is_last}
 use Rattle.sdls_world.proofs.Places.{place_below}

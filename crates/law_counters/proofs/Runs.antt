@@ -1,7 +1,7 @@
 -- A run of the counters is a list of steps of the core.
 use Rattle.std.proofs.Common.{◌≡◌, ℕ, List, [], ◌∷◌, ◌++◌, refl, sym, ap, ◌∙◌}
 use Rattle.counter_table.specs.declared.view.Known.{Known}
-use Rattle.sdls_world.specs.declared.step.Step.{Step}
+use Rattle.sdls_world.specs.declared.world.Step.{Step}
 use Rattle.sdls_world.specs.Core.{Core, world_after, world_after_all}
 use Rattle.law_counters.specs.Scene.{Scene, IsRuled, world_of}
 use Rattle.law_counters.specs.Run.{Event, steps, stores, scene_after, core_steps, all_core_steps, MayHappen, RunsTie}

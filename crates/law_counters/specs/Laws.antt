@@ -8,7 +8,7 @@ use Rattle.counter_table.specs.Numbers.{keeper, newcomer, joined}
 use Rattle.counter_table.specs.Turn.{beginner, merged}
 use Rattle.counter_table.specs.Play.{no_view}
 use Rattle.sdls_base.specs.KeyId.{end_of}
-use Rattle.sdls_world.specs.declared.step.Step.TheVariants.{Write, Sync}
+use Rattle.sdls_world.specs.declared.world.Step.TheVariants.{Write, Sync}
 use Rattle.sdls_world.specs.Core.{idle, world_after_all}
 use Rattle.sdls_world.specs.Kept.{IsWorldKept}
 use Rattle.law_counters.specs.Scene.{Scene, AreSpent, IsRuled, doer, doers, world_of}

@@ -10,9 +10,9 @@ use Rattle.counter_table.specs.Turn.{seeing, taking, giving, learning, turning}
 use Rattle.counter_table.specs.Rule.{epoch_at, next_at, limit_at}
 use Rattle.counter_table.specs.Play as plays
 use Rattle.sdls_base.specs.KeyId.{end_of}
-use Rattle.sdls_world.specs.declared.step.Step.{Step}
-use Rattle.sdls_world.specs.declared.step.Step.TheVariants.{Arm, Draw, Peek, Spend, See, Take, Give, Lift, RaiseNext}
-use Rattle.sdls_world.specs.declared.step.Step.TheVariants.{Turn}
+use Rattle.sdls_world.specs.declared.world.Step.{Step}
+use Rattle.sdls_world.specs.declared.world.Step.TheVariants.{Arm, Draw, Peek, Spend, See, Take, Give, Lift, RaiseNext}
+use Rattle.sdls_world.specs.declared.world.Step.TheVariants.{Turn}
 use Rattle.law_counters.specs.Scene.{Scene, next_of, limit_of, turn_of, epoch_of}
 
 -- one step of the counters: the row, the identifier of its key, and what the call is given

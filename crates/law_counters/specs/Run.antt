@@ -3,8 +3,8 @@ use Rattle.std.specs.Prelude.{◌≡◌, ℕ, ◌≤◌, true, ⊤, List, [], �
 use Rattle.counter_table.specs.declared.view.Known.{Known}
 use Rattle.counter_table.specs.declared.view.View.{View}
 use Rattle.sdls_base.specs.KeyId.{end_of}
-use Rattle.sdls_world.specs.declared.step.Step.{Step}
-use Rattle.sdls_world.specs.declared.step.Step.TheVariants.{Write, Sync}
+use Rattle.sdls_world.specs.declared.world.Step.{Step}
+use Rattle.sdls_world.specs.declared.world.Step.TheVariants.{Write, Sync}
 use Rattle.sdls_world.specs.Core.{world_after_all}
 use Rattle.law_counters.specs.Scene.{Scene, IsRuled, world_of}
 use Rattle.law_counters.specs.Move.{Move, moved, MayMove, steps_of}

@@ -9,7 +9,7 @@ use Rattle.counter_table.specs.Known.{known_mark, LowersNoMark}
 use Rattle.counter_table.specs.Rule.{epoch_at, next_at, limit_at}
 use Rattle.counter_table.specs.Rule as rules
 use Rattle.sdls_base.specs.Numbers.{tally, total}
-use Rattle.sdls_world.specs.declared.key.Key.{Key}
+use Rattle.sdls_world.specs.declared.world.Key.{Key}
 use Rattle.sdls_world.specs.Core.{Doer, Core}
 
 -- the words, what each worker knows, the book at home or held, the identifiers of its keys by row, and the pairs that

@@ -11,8 +11,8 @@ use Rattle.std.proofs.lemmas.List.{get_or_default}
 use Rattle.std.proofs.lemmas.List.Elements.{All-map}
 use Rattle.std.proofs.lemmas.List.Quantifiers.{position-Some}
 use Rattle.sdls_base.specs.KeyId.{end_of}
-use Rattle.sdls_base.specs.declared.change.Change.{Change}
-use Rattle.sdls_base.specs.declared.change.Change.TheVariants.{Accepted}
+use Rattle.sdls_base.specs.declared.entry.Change.{Change}
+use Rattle.sdls_base.specs.declared.entry.Change.TheVariants.{Accepted}
 use Rattle.sdls_base.specs.declared.entry.Entry.{Entry}
 use Rattle.sdls_base.specs.declared.states.Direction.{Direction}
 use Rattle.sdls_base.specs.declared.states.Direction.TheVariants.{Receive}
@@ -24,7 +24,7 @@ use Rattle.replay_window.specs.Window.{accepted, IsAhead, IsLate, IsFresh}
 use Rattle.replay_window.specs.Past.{IsPast}
 use Rattle.replay_window.proofs.Past.{past_taken, past_accepting, past_lowered, past_refused}
 use Rattle.replay_window.proofs.Lowered.{lowered_high}
-use Rattle.sa_book.specs.declared.sa_row.SaRow.{SaRow}
+use Rattle.sa_book.specs.declared.sa_book.SaRow.{SaRow}
 use Rattle.sa_book.specs.SaRow.{IsSaRow, MayAccept}
 use Rattle.sa_book.specs.SaRefusal.{receives_with, receiver_with}
 use Rattle.sa_book.proofs.Rows.{within_place}
@@ -41,10 +41,10 @@ use Rattle.unit_state.proofs.Found.{found, found_passes}
 use Rattle.unit_state.proofs.Held.{row_of_changed}
 use Rattle.unit_state.proofs.KeyRules.{number_test, stands}
 use Rattle.unit_state.proofs.RulesKept.{there}
-use Rattle.frame_checks.specs.declared.open_reply.OpenReply.TheVariants as opens
+use Rattle.frame_checks.specs.declared.opening_frames.OpenReply.TheVariants as opens
 use Rattle.frame_checks.specs.OpeningFrames.{IsOpenReply}
 use Rattle.frame_checks.proofs.Replies.{any_reply_may}
-use Rattle.record_io.specs.declared.records.Record.{Record}
+use Rattle.record_io.specs.declared.item_cursor.Record.{Record}
 use Rattle.run_promise.specs.Numbers.{floor_of, released_floor, kept_floor}
 use Rattle.run_promise.specs.History.{IsLegal, IsRelease}
 use Rattle.law_history.specs.Entries.{IsEntry}

@@ -4,7 +4,7 @@ use Rattle.std.proofs.Common.{refl, sym, ap, subst, arith}
 use Rattle.std.specs.List.{slice_get}
 use Rattle.std.proofs.lemmas.Bool.{cases_lt}
 use Rattle.std.proofs.lemmas.Option.{none-some, same_Some, slice_get_within}
-use Rattle.sdls_base.specs.declared.change.Change.TheVariants.{Marks}
+use Rattle.sdls_base.specs.declared.entry.Change.TheVariants.{Marks}
 use Rattle.sdls_base.specs.declared.entry.Entry.{Entry}
 use Rattle.replay_window.specs.declared.TheConstants.{MOST_BACK}
 use Rattle.unit_plan.specs.PlanLines.{PlanLines}
@@ -16,7 +16,7 @@ use Rattle.unit_state.specs.Allows.{Allows}
 use Rattle.unit_state.specs.History.{after_first}
 use Rattle.unit_state.specs.Restart.{restarted}
 use Rattle.unit_state.proofs.RulesKept.{rules_kept}
-use Rattle.record_io.specs.declared.records.Record.{Record}
+use Rattle.record_io.specs.declared.item_cursor.Record.{Record}
 use Rattle.record_io.specs.Places.{Place, records_of}
 use Rattle.run_promise.specs.Numbers.{mark_of, floor_of, released_floor, kept_floor}
 use Rattle.run_promise.specs.History.{IsLegal, IsRelease, AcceptsAt, NearWord, TurnIn, LegalRun, IsLegalHistory}

@@ -5,12 +5,12 @@ use Rattle.std.proofs.lemmas.Bool.{false≢true}
 use Rattle.std.proofs.lemmas.Option.{none-some, same_Some}
 use Rattle.sdls_base.specs.declared.entry.Entry.{Entry}
 use Rattle.unit_state.specs.declared.state.State.{State}
-use Rattle.ep_core.specs.declared.reply.Reply.{Reply}
-use Rattle.ep_core.specs.declared.reply.Reply.TheVariants as replies
+use Rattle.ep_core.specs.declared.refusal.Reply.{Reply}
+use Rattle.ep_core.specs.declared.refusal.Reply.TheVariants as replies
 use Rattle.record_io.specs.declared.answers.Answer.{Answer}
-use Rattle.record_io.specs.declared.kinds.RecordKind.{RecordKind}
-use Rattle.record_io.specs.declared.kinds.RecordKind.TheVariants.{Open, Command}
-use Rattle.record_io.specs.declared.records.Record.{Record}
+use Rattle.record_io.specs.declared.reader.RecordKind.{RecordKind}
+use Rattle.record_io.specs.declared.reader.RecordKind.TheVariants.{Open, Command}
+use Rattle.record_io.specs.declared.item_cursor.Record.{Record}
 use Rattle.record_io.specs.Places.{Place, records_of}
 use Rattle.run_promise.specs.History.{record_entry, SeesFor, NearWord, IsLegalHistory}
 use Rattle.run_promise.specs.Numbers.{mark_of}

@@ -2,15 +2,15 @@
 use Rattle.std.proofs.Common.{◌≡◌, ◌≢◌, ℕ, Bool, ◌&&◌, nat_le, List, inl, inr, refl, sym, ap, subst}
 use Rattle.std.specs.Prelude.{IsTrue}
 use Rattle.std.proofs.lemmas.Bool.{false≢true}
-use Rattle.frame_checks.specs.declared.open_reply.OpenReply.{OpenReply}
-use Rattle.frame_checks.specs.declared.open_reply.OpenReply.TheVariants as opens
-use Rattle.ep_core.specs.declared.reply.Reply.{Reply}
-use Rattle.ep_core.specs.declared.reply.Reply.TheVariants as replies
+use Rattle.frame_checks.specs.declared.opening_frames.OpenReply.{OpenReply}
+use Rattle.frame_checks.specs.declared.opening_frames.OpenReply.TheVariants as opens
+use Rattle.ep_core.specs.declared.refusal.Reply.{Reply}
+use Rattle.ep_core.specs.declared.refusal.Reply.TheVariants as replies
 use Rattle.record_io.specs.declared.answers.Answer.{Answer}
 use Rattle.record_io.specs.declared.code.TheConstants.{ACCEPTED, NUMBER, SITE_FAULT}
-use Rattle.record_io.specs.declared.kinds.RecordKind.{RecordKind}
-use Rattle.record_io.specs.declared.kinds.RecordKind.TheVariants.{Protect, Open, Command, Monitor}
-use Rattle.record_io.specs.declared.records.Record.{Record}
+use Rattle.record_io.specs.declared.reader.RecordKind.{RecordKind}
+use Rattle.record_io.specs.declared.reader.RecordKind.TheVariants.{Protect, Open, Command, Monitor}
+use Rattle.record_io.specs.declared.item_cursor.Record.{Record}
 use Rattle.run_promise.specs.Answers.{Told, told_by, opened_told, replied_told, IsUnmade}
 use Rattle.run_promise.specs.Deed.{is_entered}
 use Rattle.run_promise.specs.Fits.{Course, FitsAny, FitsKind}

@@ -7,15 +7,15 @@ use Rattle.std.proofs.lemmas.Bool.{cases_eq, cases_lt, false≢true}
 use Rattle.std.proofs.lemmas.Option.{none-some, same_Some}
 use Rattle.sdls_base.specs.declared.entry.Entry.{Entry}
 use Rattle.frame_shield.specs.declared.protecting_frames.ShieldFault.TheVariants as faults
-use Rattle.frame_checks.specs.declared.open_reply.OpenReply.{OpenReply}
-use Rattle.frame_checks.specs.declared.open_reply.OpenReply.TheVariants as opens
+use Rattle.frame_checks.specs.declared.opening_frames.OpenReply.{OpenReply}
+use Rattle.frame_checks.specs.declared.opening_frames.OpenReply.TheVariants as opens
 use Rattle.frame_checks.specs.ProtectingFrames as protecting
-use Rattle.ep_core.specs.declared.reply.Reply.{Reply}
-use Rattle.ep_core.specs.declared.reply.Reply.TheVariants as replies
+use Rattle.ep_core.specs.declared.refusal.Reply.{Reply}
+use Rattle.ep_core.specs.declared.refusal.Reply.TheVariants as replies
 use Rattle.record_io.specs.declared.answers.Answer.{Answer}
-use Rattle.record_io.specs.declared.kinds.RecordKind.{RecordKind}
-use Rattle.record_io.specs.declared.kinds.RecordKind.TheVariants.{Protect, Open, Command, Monitor}
-use Rattle.record_io.specs.declared.records.Record.{Record}
+use Rattle.record_io.specs.declared.reader.RecordKind.{RecordKind}
+use Rattle.record_io.specs.declared.reader.RecordKind.TheVariants.{Protect, Open, Command, Monitor}
+use Rattle.record_io.specs.declared.item_cursor.Record.{Record}
 use Rattle.record_io.specs.Places.{Place, records_of}
 use Rattle.run_promise.specs.History.{frame_entry, raised_floor, AcceptsAt, TurnIn, IsLegalHistory}
 use Rattle.run_promise.specs.Fits.{protect_reply, Course, state_in, state_before, IsOpenAnswer, FitsAny, FitsKind, Fits}

@@ -10,7 +10,7 @@ use Rattle.unit_plan.specs.PlanLines.{PlanLines}
 use Rattle.unit_state.specs.declared.state.State.{State}
 use Rattle.unit_state.specs.Applied.{applied}
 use Rattle.unit_state.specs.History.{after_all, after_first}
-use Rattle.record_io.specs.declared.records.Record.{Record}
+use Rattle.record_io.specs.declared.item_cursor.Record.{Record}
 use Rattle.run_promise.specs.History.{IsLegal, IsRelease, drawers, reserves_of, NearWord, LegalRun}
 use Rattle.law_history.proofs.Legal.{legal_wider, release_wider}
 use Rattle.law_history.proofs.Marks.{release_entry}

@@ -13,14 +13,14 @@ use Rattle.unit_plan.specs.PlanLines.{PlanLines}
 use Rattle.unit_state.specs.declared.state.State.{State}
 use Rattle.unit_state.specs.History.{after_all, after_first, at_epoch, epoch_after}
 use Rattle.unit_state.proofs.Histories.{epochs_more, at_epoch_more}
-use Rattle.frame_checks.specs.declared.open_reply.OpenReply.TheVariants.{Accepted}
+use Rattle.frame_checks.specs.declared.opening_frames.OpenReply.TheVariants.{Accepted}
 use Rattle.frame_checks.specs.OpeningFrames.{IsOpenReply}
-use Rattle.ep_core.specs.declared.need.Need.TheVariants.{Number}
+use Rattle.ep_core.specs.declared.judging.Need.TheVariants.{Number}
 use Rattle.record_io.specs.declared.answers.Answer.{Answer}
 use Rattle.record_io.specs.declared.code.TheConstants.{SITE_FAULT, STOPPED}
-use Rattle.record_io.specs.declared.kinds.RecordKind.{RecordKind}
-use Rattle.record_io.specs.declared.kinds.RecordKind.TheVariants.{Protect, Open, Command, Monitor}
-use Rattle.record_io.specs.declared.records.Record.{Record}
+use Rattle.record_io.specs.declared.reader.RecordKind.{RecordKind}
+use Rattle.record_io.specs.declared.reader.RecordKind.TheVariants.{Protect, Open, Command, Monitor}
+use Rattle.record_io.specs.declared.item_cursor.Record.{Record}
 use Rattle.run_promise.specs.Numbers.{floor_of}
 use Rattle.run_promise.specs.History.{IsNeedOf, IsStepOf, frame_entry, record_entry, KeyOf, SeesFor, AsksFor, IsLegal}
 use Rattle.run_promise.specs.History.{drawers, IsAskedFor, NearWord}

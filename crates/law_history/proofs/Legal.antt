@@ -1,8 +1,8 @@
 -- A legal entry, and a release, change what the state allows.
 use Rattle.std.proofs.Common.{◌≡◌, ℕ, ◌≤◌, List, Option, Some, None, IsSome, IsSomeAnd, inl, inr, refl, sym, subst}
 use Rattle.std.specs.Prelude.{MatchOption}
-use Rattle.sdls_base.specs.declared.change.Change.{Change}
-use Rattle.sdls_base.specs.declared.change.Change.TheVariants as changes
+use Rattle.sdls_base.specs.declared.entry.Change.{Change}
+use Rattle.sdls_base.specs.declared.entry.Change.TheVariants as changes
 use Rattle.sdls_base.specs.declared.entry.Entry.{Entry}
 use Rattle.sdls_base.specs.declared.entry.Seen.{Seen}
 use Rattle.sdls_base.specs.declared.entry.Seen.TheVariants as seens
@@ -14,8 +14,8 @@ use Rattle.unit_state.specs.State.{KeepsRules}
 use Rattle.unit_state.specs.Allows.{Allows}
 use Rattle.unit_state.specs.Laws.{IsNoMarks}
 use Rattle.unit_state.proofs.Found.{held_rules}
-use Rattle.frame_checks.specs.declared.open_reply.OpenReply.{OpenReply}
-use Rattle.frame_checks.specs.declared.open_reply.OpenReply.TheVariants as opens
+use Rattle.frame_checks.specs.declared.opening_frames.OpenReply.{OpenReply}
+use Rattle.frame_checks.specs.declared.opening_frames.OpenReply.TheVariants as opens
 use Rattle.frame_checks.specs.Accepting.{MayBeAccepted, OnAccepted}
 use Rattle.frame_checks.proofs.Replies.{any_reply_may}
 use Rattle.ep_codec.specs.declared.command.Command.{Command}
@@ -24,12 +24,12 @@ use Rattle.ep_codec.specs.declared.command.Command.TheVariants.{Inventory, Compo
 use Rattle.ep_codec.specs.declared.command.Command.TheVariants.{SetWindow, Rekey, Expire, SetNumber, Start, Stop}
 use Rattle.ep_codec.specs.declared.command.Command.TheVariants.{Status}
 use Rattle.ep_core.specs.declared.refusal.Refusal.{Refusal}
-use Rattle.ep_core.specs.declared.reply.Reply.{Reply}
+use Rattle.ep_core.specs.declared.refusal.Reply.{Reply}
 use Rattle.ep_core.specs.Need.{need_of}
 use Rattle.ep_core.specs.Refusals.{refusal_of}
 use Rattle.ep_core.specs.Step.{IsDone, refused}
 use Rattle.ep_core.proofs.Allowed.{change_allowed}
-use Rattle.record_io.specs.declared.records.Record.{Record}
+use Rattle.record_io.specs.declared.item_cursor.Record.{Record}
 use Rattle.run_promise.specs.History.{frame_change, IsStepOf, SeesFor, SeenNear, IsLegal, IsRelease}
 use Rattle.law_history.specs.Entries.{anywhere}
 use Rattle.law_history.specs.Laws.{IsOfCommand}

@@ -6,7 +6,7 @@ use Rattle.std.specs.Option.{option_map_or}
 use Rattle.std.proofs.lemmas.Bool.{cases_lt}
 use Rattle.std.proofs.lemmas.Option.{none-some, same_Some}
 use Rattle.sdls_base.specs.KeyId.{end_of}
-use Rattle.sdls_base.specs.declared.change.Change.TheVariants.{Marks}
+use Rattle.sdls_base.specs.declared.entry.Change.TheVariants.{Marks}
 use Rattle.sdls_base.specs.declared.entry.Entry.{Entry}
 use Rattle.sdls_base.specs.declared.entry.Seen.TheVariants.{Word}
 use Rattle.key_book.specs.declared.key_row.KeyRow.{KeyRow}
@@ -18,7 +18,7 @@ use Rattle.unit_state.specs.Laws.{RowRises, Rises, FallsOnlyTo}
 use Rattle.unit_state.proofs.Found.{found_passes, held_rules}
 use Rattle.unit_state.proofs.KeyRules.{equal_number}
 use Rattle.unit_state.proofs.StateLaws.{rises, fall_only_to}
-use Rattle.record_io.specs.declared.records.Record.{Record}
+use Rattle.record_io.specs.declared.item_cursor.Record.{Record}
 use Rattle.run_promise.specs.Numbers.{mark_of, floor_of, reserve_of, released_floor, is_released, release_of}
 use Rattle.run_promise.specs.History.{frame_change, IsLegal, IsRelease}
 use Rattle.law_history.specs.Laws.{NumbersRise}

@@ -13,8 +13,8 @@ use Rattle.std.proofs.lemmas.List.Sorted.{All-permutation, IsPermutation-map, su
 use Rattle.std.proofs.lemmas.Option.{slice_get-get_or}
 use Rattle.sdls_base.specs.declared.states.KeyState.{KeyState}
 use Rattle.sdls_base.specs.declared.states.KeyState.TheVariants.{Active}
-use Rattle.key_book.specs.declared.inventory.Inventory.{Inventory}
-use Rattle.key_book.specs.declared.inventory.TheConstants.{MOST_LISTED}
+use Rattle.key_book.specs.declared.key_book.Inventory.{Inventory}
+use Rattle.key_book.specs.declared.key_book.TheConstants.{MOST_LISTED}
 use Rattle.key_book.specs.declared.key_row.KeyRow.{KeyRow}
 use Rattle.key_book.specs.KeyBook.{AreKeyRows, row_of}
 use Rattle.key_book.specs.Inventory.{listed, IsInventory}

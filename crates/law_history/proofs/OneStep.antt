@@ -2,7 +2,7 @@
 use Rattle.std.proofs.Common.{◌≡◌, ℕ, List, Option, Some, None, IsSomeAnd, inl, inr, sym, ap, ◌∙◌, subst}
 use Rattle.std.specs.Prelude.{MatchOption}
 use Rattle.std.proofs.lemmas.Option.{none-some, same_Some}
-use Rattle.sdls_base.specs.declared.change.Change.{Change}
+use Rattle.sdls_base.specs.declared.entry.Change.{Change}
 use Rattle.sdls_base.specs.declared.entry.Seen.{Seen}
 use Rattle.sdls_base.specs.declared.states.KeyState.{KeyState}
 use Rattle.unit_state.specs.declared.state.State.{State}
@@ -16,7 +16,7 @@ use Rattle.ep_codec.specs.declared.reply_pdu.ReplyPdu.TheVariants as replies
 use Rattle.ep_codec.proofs.CommandReadings.{message_has_none, one_value}
 use Rattle.ep_core.specs.declared.refusal.Refusal.{Refusal}
 use Rattle.ep_core.specs.declared.refusal.Refusal.TheVariants.{PduFault}
-use Rattle.ep_core.specs.declared.reply.Reply.{Reply}
+use Rattle.ep_core.specs.declared.refusal.Reply.{Reply}
 use Rattle.ep_core.specs.Refusals.{refusal_of}
 use Rattle.ep_core.specs.Step.{IsStep, IsDone, telling, refused}
 use Rattle.run_promise.specs.History.{IsStepOf}

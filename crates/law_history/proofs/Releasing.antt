@@ -4,7 +4,7 @@ use Rattle.std.proofs.Common.{◌∷◌, ◌++◌, length, map, Option, Some, No
 use Rattle.std.specs.List.{slice_get}
 use Rattle.std.specs.Option.{option_map, option_map_or, option_and_then}
 use Rattle.std.proofs.lemmas.Option.{none-some, same_Some, slice_get-map, slice_get_within, get_or_from_slice_get}
-use Rattle.sdls_base.specs.declared.change.Change.{Change}
+use Rattle.sdls_base.specs.declared.entry.Change.{Change}
 use Rattle.sdls_base.specs.declared.entry.Entry.{Entry}
 use Rattle.key_book.specs.declared.key_row.KeyRow.{KeyRow}
 use Rattle.key_book.specs.KeyBook.{AreKeyRows, row_of, changed}

@@ -5,7 +5,7 @@ use Rattle.std.proofs.Common.{IsSomeAnd, inl, inr, refl, sym, ap, ◌∙◌, sub
 use Rattle.std.specs.Prelude.{MatchOption}
 use Rattle.std.specs.List.{flat_map}
 use Rattle.sdls_base.specs.FirstFailing.{first_told}
-use Rattle.sdls_base.specs.declared.change.Change.{Change}
+use Rattle.sdls_base.specs.declared.entry.Change.{Change}
 use Rattle.sdls_base.specs.declared.entry.Entry.{Entry}
 use Rattle.sdls_base.specs.declared.entry.Seen.{Seen}
 use Rattle.sdls_base.specs.declared.entry.Seen.TheVariants as seens
@@ -21,10 +21,10 @@ use Rattle.ep_codec.specs.declared.command.Command.TheVariants.{Inventory, Compo
 use Rattle.ep_codec.specs.declared.command.Command.TheVariants.{SetWindow, Rekey, Expire, SetNumber, Start, Stop}
 use Rattle.ep_codec.specs.declared.command.Command.TheVariants.{Status}
 use Rattle.ep_codec.specs.declared.reply_pdu.ReplyPdu.{ReplyPdu}
-use Rattle.ep_core.specs.declared.need.Need.TheVariants as needs
+use Rattle.ep_core.specs.declared.judging.Need.TheVariants as needs
 use Rattle.ep_core.specs.declared.refusal.Refusal.{Refusal}
-use Rattle.ep_core.specs.declared.reply.Reply.{Reply}
-use Rattle.ep_core.specs.declared.reply.Reply.TheVariants as replies
+use Rattle.ep_core.specs.declared.refusal.Reply.{Reply}
+use Rattle.ep_core.specs.declared.refusal.Reply.TheVariants as replies
 use Rattle.ep_core.specs.Need.{need_of}
 use Rattle.ep_core.specs.Refusals.{refusal_of, unless_known, by_state, unless_usable, if_exhausted, master_checks}
 use Rattle.ep_core.specs.Refusals.{session_checks, verify_checks, compose_checks}

@@ -7,7 +7,7 @@ use Rattle.unit_plan.specs.PlanLines.{PlanLines}
 use Rattle.key_book.specs.declared.key_row.KeyRow.{KeyRow}
 use Rattle.unit_state.specs.declared.state.State.{State}
 use Rattle.unit_state.specs.History.{after_all}
-use Rattle.record_io.specs.declared.records.Record.{Record}
+use Rattle.record_io.specs.declared.item_cursor.Record.{Record}
 use Rattle.record_io.specs.Places.{Place, records_of}
 use Rattle.run_promise.specs.Log.{entries_of}
 use Rattle.run_promise.specs.History.{IsLegal, IsRelease}

@@ -1,14 +1,14 @@
 -- What the laws of histories say.
 use Rattle.std.specs.Prelude.{◌≡◌, ⊤, ℕ, ◌<◌, ◌≤◌, List, length, take, slice_get, Some}
-use Rattle.sdls_base.specs.declared.change.Change.{Change}
-use Rattle.sdls_base.specs.declared.change.Change.TheVariants.{Marks, Load, KeyStates, Create, Rekey, SaTo, SetNumber}
-use Rattle.sdls_base.specs.declared.change.Change.TheVariants.{SetWindow, Accepted, Nothing}
+use Rattle.sdls_base.specs.declared.entry.Change.{Change}
+use Rattle.sdls_base.specs.declared.entry.Change.TheVariants.{Marks, Load, KeyStates, Create, Rekey, SaTo, SetNumber}
+use Rattle.sdls_base.specs.declared.entry.Change.TheVariants.{SetWindow, Accepted, Nothing}
 use Rattle.sdls_base.specs.declared.entry.Entry.{Entry}
 use Rattle.sdls_base.specs.declared.entry.Seen.TheVariants.{Word}
 use Rattle.unit_state.specs.declared.state.State.{State}
 use Rattle.unit_state.specs.History.{after_first, at_epoch, epoch_after}
-use Rattle.frame_checks.specs.declared.open_reply.OpenReply.{OpenReply}
-use Rattle.frame_checks.specs.declared.open_reply.OpenReply.TheVariants as opens
+use Rattle.frame_checks.specs.declared.opening_frames.OpenReply.{OpenReply}
+use Rattle.frame_checks.specs.declared.opening_frames.OpenReply.TheVariants as opens
 use Rattle.run_promise.specs.Numbers.{mark_of, floor_of}
 
 -- a change that a command makes: it neither sets marks nor accepts a number

@@ -6,7 +6,5 @@
 #![tactic(auto)]
 
 mod one;
-mod runs;
 
-pub use one::{messages_have_one_step, messages_need_one, openings_tell_one};
-pub use runs::rules_stay_along;
+pub use one::{messages_have_one_step, messages_need_one, openings_tell_one, rules_stay_along};

@@ -1,17 +1,20 @@
 //! Laws of what a state decides: one answer to a frame, one need and one step of a message.
-
-ghost use Rattle.std.specs.Prelude.{◌≡◌, ℕ, List};
-ghost use Rattle.sdls_base.specs.declared.change.Change.{Change};
+//! Laws of the legal history of a run.
+ghost use Rattle.std.specs.Prelude.{◌≡◌, ℕ, List, ◌≤◌, length};
+ghost use Rattle.sdls_base.specs.declared.entry.Change.{Change};
 ghost use Rattle.sdls_base.specs.declared.entry.Seen.{Seen};
+ghost use Rattle.sdls_base.specs.declared.entry.Entry.{Entry};
 ghost use Rattle.unit_plan.specs.PlanLines.{PlanLines};
 ghost use Rattle.unit_state.specs.declared.state.State.{State};
 ghost use Rattle.unit_state.specs.State.{KeepsRules};
-ghost use Rattle.frame_checks.specs.declared.open_reply.OpenReply.{OpenReply};
+ghost use Rattle.unit_state.specs.History.{after_first};
+ghost use Rattle.frame_checks.specs.declared.opening_frames.OpenReply.{OpenReply};
 ghost use Rattle.frame_checks.specs.OpeningFrames.{IsOpenReply};
-ghost use Rattle.ep_core.specs.declared.need.Need.{Need};
-ghost use Rattle.ep_core.specs.declared.reply.Reply.{Reply};
-ghost use Rattle.run_promise.specs.History.{frame_change, IsNeedOf, IsStepOf};
+ghost use Rattle.record_io.specs.Places.{Place};
+ghost use Rattle.run_promise.specs.History.{frame_change, IsNeedOf, IsStepOf, IsLegalHistory};
 ghost use Rattle.run_promise.specs.Answers.{opened_told};
+ghost use Rattle.ep_core.specs.declared.judging.Need.{Need};
+ghost use Rattle.ep_core.specs.declared.refusal.Reply.{Reply};
 
 use frame_shield::opens_once;
 
@@ -37,4 +40,11 @@ pub fn messages_need_one()
 pub fn messages_have_one_step()
     ensures { (state : State) (octets : List ℕ) (seen : Seen) (step other : Change × Reply) → KeepsRules state
         → IsStepOf state octets seen step → IsStepOf state octets seen other → step ≡ other }
+{}
+
+/// Law: each state of a legal history keeps the rules.
+pub fn rules_stay_along()
+    ensures { (plan : PlanLines) (start : State) (places : List Place) (entries : List Entry)
+        → IsLegalHistory plan start places entries
+        → (p : ℕ) → p ≤ length entries → KeepsRules (after_first start entries p) }
 {}

@@ -9,9 +9,9 @@ use Rattle.unit_state.proofs.Starts.{initial_rules}
 use Rattle.unit_state.proofs.StateLaws.{restarted_twice}
 use Rattle.unit_plan.proofs.BareRoom.{bare_plan_is_short, bare_plan_reads}
 use Rattle.unit_plan.specs.Bare.{bare_of, without_rows}
-use Rattle.image_content.specs.Content.{content_of}
-use Rattle.image_content.specs.Reading.{HasRows, IsContent}
-use Rattle.image_content.proofs.Contents.{content_sized}
+use Rattle.unit_image.specs.Content.{content_of}
+use Rattle.unit_image.specs.ContentReading.{HasRows, IsContent}
+use Rattle.unit_image.proofs.Contents.{content_sized}
 use Rattle.disk_journal.specs.declared.layout.HeaderForm.TheVariants.{New}
 use Rattle.disk_journal.specs.Image.{IsAtRest}
 use Rattle.disk_journal.specs.Forms.{Holds}

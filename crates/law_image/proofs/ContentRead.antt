@@ -10,21 +10,21 @@ use Rattle.sdls_base.specs.declared.version.Version.{Version}
 use Rattle.key_book.specs.declared.key_row.KeyRow.{KeyRow}
 use Rattle.replay_window.specs.Window.{new_window}
 use Rattle.replay_window.proofs.Fields.{field_of-new_window}
-use Rattle.sa_book.specs.declared.sa_row.SaRow.{SaRow}
+use Rattle.sa_book.specs.declared.sa_book.SaRow.{SaRow}
 use Rattle.unit_state.specs.declared.state.State.{State}
 use Rattle.unit_state.specs.Restart.{restarted, restarted_high, restarted_row}
 use Rattle.unit_state.proofs.StateLaws.{restarted_twice}
-use Rattle.book_record.specs.declared.sa_parts.SaParts.{SaParts}
+use Rattle.book_record.specs.declared.sa_rows.SaParts.{SaParts}
 use Rattle.book_record.specs.KeyParts.{key_row_octets}
 use Rattle.book_record.specs.RowReading.{key_row_at, sa_row_at}
 use Rattle.book_record.specs.SaParts.{AreSaRowOctets, sa_parts}
 use Rattle.book_record.proofs.Rows.{key_row_says, sa_row_says}
-use Rattle.image_content.specs.Content.{key_room_of, key_rows}
-use Rattle.image_content.specs.Reading.{IsContent, IsRestartedRow, IsTypedKey, associations_in, key_count, keys_in}
-use Rattle.image_content.specs.Reading.{sa_count}
-use Rattle.image_content.specs.Rows.{state_of}
-use Rattle.image_content.proofs.Contents.{ContentParts, content_parts, content_says, keys_sized, sas_are}
-use Rattle.image_content.proofs.RowsRead.{key_sized, sa_octets, sa_sized, same_sa}
+use Rattle.unit_image.specs.Content.{key_room_of, key_rows}
+use Rattle.unit_image.specs.ContentReading.{IsContent, IsRestartedRow, IsTypedKey, associations_in, key_count, keys_in}
+use Rattle.unit_image.specs.ContentReading.{sa_count}
+use Rattle.unit_image.specs.Rows.{state_of}
+use Rattle.unit_image.proofs.Contents.{ContentParts, content_parts, content_says, keys_sized, sas_are}
+use Rattle.unit_image.proofs.RowsRead.{key_sized, sa_octets, sa_sized, same_sa}
 
 -- ---- the state that stands at the places of a content
 

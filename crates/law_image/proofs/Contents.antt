@@ -11,7 +11,7 @@ use Rattle.key_book.specs.declared.key_row.KeyRow.{KeyRow}
 use Rattle.key_book.specs.KeyRow as key_rules
 use Rattle.replay_window.specs.Window.{field_of}
 use Rattle.replay_window.proofs.Fields.{field_small, IsWindowField-field}
-use Rattle.sa_book.specs.declared.sa_row.SaRow.{SaRow}
+use Rattle.sa_book.specs.declared.sa_book.SaRow.{SaRow}
 use Rattle.sa_book.specs.SaRow as sa_rules
 use Rattle.unit_state.specs.declared.state.State.{State}
 use Rattle.unit_state.specs.State.{KeepsRules}
@@ -21,9 +21,9 @@ use Rattle.sdls_base.specs.Version.{most_associations_of}
 use Rattle.sdls_base.specs.declared.version.Version.{Version}
 use Rattle.sdls_base.specs.declared.version.Version.TheVariants.{Two}
 use Rattle.book_record.specs.KeyParts.{IsRowKeyLength}
-use Rattle.image_content.specs.Content.{content_of}
-use Rattle.image_content.specs.Reading.{HasRows, IsContent, IsTypedKey, IsTypedSa}
-use Rattle.image_content.proofs.Contents.{restart_leaves_content}
+use Rattle.unit_image.specs.Content.{content_of}
+use Rattle.unit_image.specs.ContentReading.{HasRows, IsContent, IsTypedKey, IsTypedSa}
+use Rattle.unit_image.proofs.Contents.{restart_leaves_content}
 use Rattle.unit_image.proofs.Restarted.{restarted_rules}
 use Rattle.law_image.proofs.StateIds.{IsNamed, IsNamedKey, IsNamedSa}
 

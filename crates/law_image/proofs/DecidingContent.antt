@@ -4,8 +4,8 @@ use Rattle.sdls_base.specs.Version.{most_associations_of, most_keys_of}
 use Rattle.sdls_base.specs.declared.version.Version.{Version}
 use Rattle.unit_plan.specs.PlanLines.{PlanLines}
 use Rattle.unit_state.specs.declared.state.State.{State}
-use Rattle.image_content.specs.Content.{content_of}
-use Rattle.image_content.specs.Reading.{FitsVersion, HasRows, IsContent, IsTypedKey, IsTypedSa}
+use Rattle.unit_image.specs.Content.{content_of}
+use Rattle.unit_image.specs.ContentReading.{FitsVersion, HasRows, IsContent, IsTypedKey, IsTypedSa}
 use Rattle.unit_image.specs.Shows.{IsContentUnder}
 use Rattle.law_image.proofs.Deciding.{Decided, decided_all, decided_and, decided_as, decided_le, decided_three}
 use Rattle.law_image.proofs.ContentRead.{read_beside, read_left, state_at, state_back}

@@ -15,7 +15,7 @@ use Rattle.sdls_base.specs.declared.states.SaState.TheVariants.{Unkeyed, Keyed, 
 use Rattle.key_book.specs.declared.key_row.KeyRow.{KeyRow}
 use Rattle.key_book.specs.KeyRow.{HasBytes, IsKeyRow}
 use Rattle.key_book.specs.KeyBook.{IsKeyBook, row_of}
-use Rattle.sa_book.specs.declared.sa_row.SaRow.{SaRow}
+use Rattle.sa_book.specs.declared.sa_book.SaRow.{SaRow}
 use Rattle.replay_window.specs.declared.TheConstants.{MOST_BACK}
 use Rattle.replay_window.specs.Window.{field_of}
 use Rattle.sa_book.specs.SaRow.{HasHigh, IsSaRow}
@@ -25,7 +25,7 @@ use Rattle.unit_state.specs.State.{HasKey, KeepsRules, MayHold}
 use Rattle.book_record.specs.KeyParts.{HasKeyTypes}
 use Rattle.book_record.specs.Record.{IsKey}
 use Rattle.book_record.specs.SaParts.{HasSaTypes, sa_parts}
-use Rattle.image_content.specs.Reading.{IsTypedKey, IsTypedSa}
+use Rattle.unit_image.specs.ContentReading.{IsTypedKey, IsTypedSa}
 use Rattle.law_image.proofs.Deciding.{Decided, decided_all, decided_and, decided_as, decided_channels, decided_eq}
 use Rattle.law_image.proofs.Deciding.{decided_four, decided_key_length, decided_le, decided_lt, decided_not, decided_or}
 use Rattle.law_image.proofs.Deciding.{decided_some_and, decided_three, decided_width}

@@ -7,10 +7,10 @@ use Rattle.std.specs.List.{All, AllByRecursion, insert}
 use Rattle.std.proofs.lemmas.List.Elements.{All-append, All-cons, All-drop, All-filter, All-map, All-nil, All-take}
 use Rattle.std.proofs.lemmas.List.Elements.{recursion_from_All}
 use Rattle.sha2.proofs.Facts256.{length-sha256}
-use Rattle.sdls_base.specs.declared.change.Change.{Change}
-use Rattle.sdls_base.specs.declared.change.Change.TheVariants.{Marks, Load, KeyStates, Create, Rekey, SaTo, SetNumber}
-use Rattle.sdls_base.specs.declared.change.Change.TheVariants.{SetWindow, Accepted, Nothing}
-use Rattle.sdls_base.specs.declared.key_item.KeyItem.{KeyItem}
+use Rattle.sdls_base.specs.declared.entry.Change.{Change}
+use Rattle.sdls_base.specs.declared.entry.Change.TheVariants.{Marks, Load, KeyStates, Create, Rekey, SaTo, SetNumber}
+use Rattle.sdls_base.specs.declared.entry.Change.TheVariants.{SetWindow, Accepted, Nothing}
+use Rattle.sdls_base.specs.declared.key_id.KeyItem.{KeyItem}
 use Rattle.sdls_base.specs.declared.states.Direction.{Direction}
 use Rattle.sdls_base.specs.declared.states.Direction.TheVariants.{Send, Receive}
 use Rattle.sdls_base.specs.declared.states.KeyState.{KeyState}
@@ -21,7 +21,7 @@ use Rattle.key_book.specs.declared.key_row.KeyRow.{KeyRow}
 use Rattle.key_book.specs.KeyRow as keys
 use Rattle.key_book.specs.KeyRefusal.{load_refusal}
 use Rattle.key_book.specs.Moves.{moves_refusal}
-use Rattle.sa_book.specs.declared.sa_row.SaRow.{SaRow}
+use Rattle.sa_book.specs.declared.sa_book.SaRow.{SaRow}
 use Rattle.sa_book.specs.SaRefusal.{create_refusal, start_refusal}
 use Rattle.sa_book.specs.SaRow.{new_row}
 use Rattle.unit_plan.specs.declared.plan.PlanKey.{PlanKey}

@@ -7,8 +7,8 @@ use Rattle.sdls_base.specs.declared.link.AnyLayout.{AnyLayout}
 use Rattle.sdls_base.specs.declared.states.Suite.{Suite}
 use Rattle.sdls_header.specs.Authenticated.{authenticated, masked_octets}
 use Rattle.sdls_header.specs.SecurityHeader.{Pieces, SplitsInto, header_octets}
-use Rattle.sdls_header.specs.declared.pieces.Vector.{Vector}
-use Rattle.sdls_header.specs.declared.pieces.Vector.TheVariants.{Sequence, Wide}
+use Rattle.sdls_header.specs.declared.header.Vector.{Vector}
+use Rattle.sdls_header.specs.declared.header.Vector.TheVariants.{Sequence, Wide}
 use Rattle.sdls_header.proofs.Splits.{one_split}
 use Rattle.frame_shield.specs.declared.binding.Binding.{Binding}
 use Rattle.frame_shield.specs.AnyFrame.{AnyParts, IsFrame, prefix_of, room_of, with_room}

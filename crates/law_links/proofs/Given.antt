@@ -9,14 +9,14 @@ use Rattle.sdls_base.specs.FirstFailing.{first_failing}
 use Rattle.sdls_base.specs.declared.states.SaState.{SaState}
 use Rattle.sdls_base.specs.declared.layout.FrameFault.{FrameFault}
 use Rattle.sdls_base.specs.declared.link.Link.{Link}
-use Rattle.sa_book.specs.declared.sa_row.SaRow.{SaRow}
+use Rattle.sa_book.specs.declared.sa_book.SaRow.{SaRow}
 use Rattle.frame_shield.specs.declared.binding.Binding.{Binding}
 use Rattle.frame_shield.specs.declared.protecting_frames.ShieldFault.TheVariants as faults
 use Rattle.frame_shield.specs.AnyFrame.{first_fault}
 use Rattle.frame_shield.specs.Opens.{Opens}
 use Rattle.frame_shield.specs.Protects.{Protects}
-use Rattle.frame_checks.specs.declared.open_reply.OpenReply.{OpenReply}
-use Rattle.frame_checks.specs.declared.open_reply.OpenReply.TheVariants as opens
+use Rattle.frame_checks.specs.declared.opening_frames.OpenReply.{OpenReply}
+use Rattle.frame_checks.specs.declared.opening_frames.OpenReply.TheVariants as opens
 use Rattle.frame_checks.specs.Binding.{binding_of}
 use Rattle.frame_checks.specs.Header.{HasRoom}
 use Rattle.frame_checks.specs.OpeningFrames.{IsOpenReply, IsReplyOn, IsReplyUnder, IsOpenedUnder, IsJudged, IsToldOr}
@@ -27,9 +27,9 @@ use Rattle.frame_checks.proofs.Rows.{named_keeps, key_octets}
 use Rattle.key_book.specs.declared.key_row.KeyRow.{KeyRow}
 use Rattle.sdls_base.specs.Bounds.{IsKeyLength}
 use Rattle.record_io.specs.declared.answers.Answer.{Answer}
-use Rattle.record_io.specs.declared.kinds.RecordKind.{RecordKind}
-use Rattle.record_io.specs.declared.kinds.RecordKind.TheVariants.{Protect, Open, Command, Monitor}
-use Rattle.record_io.specs.declared.records.Record.{Record}
+use Rattle.record_io.specs.declared.reader.RecordKind.{RecordKind}
+use Rattle.record_io.specs.declared.reader.RecordKind.TheVariants.{Protect, Open, Command, Monitor}
+use Rattle.record_io.specs.declared.item_cursor.Record.{Record}
 use Rattle.unit_plan.specs.PlanLines.{PlanLines, link_of}
 use Rattle.unit_state.specs.declared.state.State.{State}
 use Rattle.unit_state.specs.State.{KeepsRules, key_row}

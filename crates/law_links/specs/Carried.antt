@@ -3,7 +3,7 @@ use Rattle.std.specs.Prelude.{◌≡◌, ℕ, List, Ok, Some}
 use Rattle.std.specs.List.{Contains}
 use Rattle.sdls_base.specs.Link.{mask_octets}
 use Rattle.sdls_base.specs.declared.link.Link.{Link}
-use Rattle.sa_book.specs.declared.sa_row.SaRow.{SaRow}
+use Rattle.sa_book.specs.declared.sa_book.SaRow.{SaRow}
 use Rattle.frame_shield.specs.declared.binding.Binding.{Binding}
 use Rattle.sdls_header.specs.Authenticated.{masked_octets}
 use Rattle.frame_shield.specs.AnyFrame.{AnyParts, IsFrame, prefix_of, room_of}

@@ -1,7 +1,7 @@
 -- In which order the numbers of a key are accepted (CCSDS 355.0-B-2, ProcessSecurity; profile).
 use Rattle.std.specs.Prelude.{◌≡◌, ⊤, ℕ, ◌+◌, ◌<◌, List, [], ◌∷◌, length, Some}
 use Rattle.std.specs.List.{All}
-use Rattle.sa_book.specs.declared.sa_row.SaRow.{SaRow}
+use Rattle.sa_book.specs.declared.sa_book.SaRow.{SaRow}
 use Rattle.sa_book.specs.SaRow.{MayAccept}
 use Rattle.unit_state.specs.declared.state.State.{State}
 use Rattle.unit_state.specs.State.{association_row}

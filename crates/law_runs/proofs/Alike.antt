@@ -15,8 +15,8 @@ use Rattle.sdls_outside.specs.Faults.{Rose}
 use Rattle.record_io.specs.declared.answers.Answer.{Answer}
 use Rattle.record_io.specs.declared.code.TheConstants.{NO_MEMORY, SITE_FAULT, STOPPED}
 use Rattle.record_io.specs.declared.status.TheConstants as status
-use Rattle.record_io.specs.declared.kinds.RecordKind.{RecordKind}
-use Rattle.record_io.specs.declared.kinds.RecordKind.TheVariants.{Protect, Open, Command, Monitor}
+use Rattle.record_io.specs.declared.reader.RecordKind.{RecordKind}
+use Rattle.record_io.specs.declared.reader.RecordKind.TheVariants.{Protect, Open, Command, Monitor}
 use Rattle.record_io.specs.Answers.{answer_octets, answers_octets}
 use Rattle.record_io.specs.Places.{Place, records_of}
 use Rattle.unit_plan.specs.PlanLines.{PlanLines}
@@ -28,7 +28,7 @@ use Rattle.run_promise.specs.Fits.{Course, Fits}
 use Rattle.run_promise.specs.Numbers.{releases, mark_at}
 use Rattle.run_promise.specs.History.{IsLegalHistory, NearWord}
 use Rattle.law_history.proofs.Codes.{fits_code}
-use Rattle.run_promise.specs.declared.limits.TheConstants.{MOST_ENTRIES}
+use Rattle.run_promise.specs.declared.end.TheConstants.{MOST_ENTRIES}
 use Rattle.run_promise.specs.Call.{Begin, CallSeen}
 use Rattle.run_promise.specs.Deed.{Deed}
 use Rattle.run_promise.specs.Words.{Move, Runs, adds_all}

@@ -2,7 +2,7 @@
 use Rattle.std.proofs.Common.{ℕ, ◌≤◌, List, [], ◌∷◌, take, zero, suc, arith}
 use Rattle.std.specs.List.{All}
 use Rattle.sdls_base.specs.declared.entry.Entry.{Entry}
-use Rattle.record_io.specs.declared.records.Record.{Record}
+use Rattle.record_io.specs.declared.item_cursor.Record.{Record}
 use Rattle.unit_state.specs.History.{epoch_after}
 use Rattle.run_promise.specs.Answers.{Uses}
 use Rattle.run_promise.specs.Fits.{Course}

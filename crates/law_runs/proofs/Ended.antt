@@ -19,7 +19,7 @@ use Rattle.counter_table.specs.declared.view.View.{View}
 use Rattle.run_promise.specs.Log.{entries_of, pieces_of}
 use Rattle.unit_book.specs.declared.fault.BookFault.{BookFault}
 use Rattle.unit_book.specs.declared.fault.BookFault.TheVariants.{SessionFull}
-use Rattle.run_promise.specs.declared.limits.TheConstants.{MOST_ENTRIES}
+use Rattle.run_promise.specs.declared.end.TheConstants.{MOST_ENTRIES}
 use Rattle.unit_book.specs.Book.{BookView, Serves}
 use Rattle.unit_book.specs.Log.{sunk_between}
 use Rattle.law_workers.proofs.Histories.{entries_both}

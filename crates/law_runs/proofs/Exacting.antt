@@ -23,8 +23,8 @@ use Rattle.sdls_base.specs.Numbers.{tally}
 use Rattle.counter_table.specs.Whole.{IsWhole, RowStands}
 use Rattle.record_io.specs.declared.answers.Answer.{Answer}
 use Rattle.std.proofs.Common.{◌≢◌}
-use Rattle.record_io.specs.declared.kinds.RecordKind.TheVariants.{Monitor}
-use Rattle.record_io.specs.declared.records.Record.{Record}
+use Rattle.record_io.specs.declared.reader.RecordKind.TheVariants.{Monitor}
+use Rattle.record_io.specs.declared.item_cursor.Record.{Record}
 use Rattle.record_io.specs.Places.{Place, records_of}
 use Rattle.law_workers.specs.Counts.{count_at, is_of_none}
 use Rattle.run_promise.specs.History.{is_none_index}

@@ -14,8 +14,8 @@ use Rattle.unit_image.specs.OpeningImage.{LeftByOpening}
 use Rattle.law_image.specs.Keeping.{IsShown, KeepsForms}
 use Rattle.law_image.proofs.Images.{shown_before, shows_next, stays_opened}
 use Rattle.key_book.specs.declared.key_row.KeyRow.{KeyRow}
-use Rattle.record_io.specs.declared.kinds.RecordKind.{RecordKind}
-use Rattle.record_io.specs.declared.kinds.RecordKind.TheVariants.{Protect, Open, Command, Monitor}
+use Rattle.record_io.specs.declared.reader.RecordKind.{RecordKind}
+use Rattle.record_io.specs.declared.reader.RecordKind.TheVariants.{Protect, Open, Command, Monitor}
 use Rattle.record_io.specs.declared.answers.Answer.{Answer}
 use Rattle.record_io.specs.Answers.{answer_octets}
 use Rattle.record_io.specs.Places.{records_of}
@@ -44,7 +44,7 @@ use Rattle.std.proofs.lemmas.List.{length-take, take-take}
 use Rattle.std.proofs.lemmas.Option.{none-some, same_Some}
 use Rattle.sdls_base.specs.FirstFailing.{first_failing}
 use Rattle.sdls_base.specs.declared.link.Link.{Link}
-use Rattle.sdls_base.specs.declared.change.Change.TheVariants as changes
+use Rattle.sdls_base.specs.declared.entry.Change.TheVariants as changes
 use Rattle.sdls_base.specs.declared.entry.Seen.TheVariants as seens
 use Rattle.frame_shield.specs.declared.binding.Binding.{Binding}
 use Rattle.frame_shield.specs.declared.protecting_frames.ShieldFault.TheVariants as faults

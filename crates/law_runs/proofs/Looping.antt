@@ -13,11 +13,11 @@ use Rattle.std.proofs.lemmas.Option.{slice_get_within, same_Some}
 use Rattle.counter_table.specs.declared.view.View.{View}
 use Rattle.counter_table.specs.Whole.{IsWhole}
 use Rattle.record_io.specs.declared.answers.Answer.{Answer}
-use Rattle.record_io.specs.declared.kinds.TheConstants.{LANES}
-use Rattle.record_io.specs.declared.records.Record.{Record}
+use Rattle.record_io.specs.declared.reader.TheConstants.{LANES}
+use Rattle.record_io.specs.declared.item_cursor.Record.{Record}
 use Rattle.record_io.specs.Answers.{IsAnswer, answer_octets, answers_octets}
-use Rattle.record_io.specs.declared.kinds.ItemKind.{ItemKind}
-use Rattle.record_io.specs.declared.kinds.RecordKind.TheVariants.{Monitor}
+use Rattle.record_io.specs.declared.reader.ItemKind.{ItemKind}
+use Rattle.record_io.specs.declared.reader.RecordKind.TheVariants.{Monitor}
 use Rattle.sdls_base.specs.declared.entry.Entry.{Entry}
 use Rattle.sdls_base.specs.declared.entry.Logged.{Logged}
 use Rattle.sdls_base.specs.declared.entry.Logged.TheVariants as lines
@@ -33,7 +33,7 @@ use Rattle.run_promise.specs.History.{HasNoEntry}
 use Rattle.run_promise.specs.Deed.{Deed, is_entered}
 use Rattle.run_promise.specs.Sound.{AreReported, noted_of}
 use Rattle.run_promise.specs.Fits.{MayAppend}
-use Rattle.run_promise.specs.declared.limits.TheConstants.{MOST_ENTRIES}
+use Rattle.run_promise.specs.declared.end.TheConstants.{MOST_ENTRIES}
 use Rattle.run_promise.specs.Call.{Begin}
 use Rattle.law_workers.specs.Views.{IsBetween, entries_in, log_of}
 use Rattle.law_workers.specs.Deeds.{Ascend, course_in, deeds_of}

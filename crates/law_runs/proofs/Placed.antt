@@ -5,9 +5,9 @@ use Rattle.std.specs.List.{All, AllPairs, slice_index_or}
 use Rattle.std.proofs.lemmas.Bool.Decides.{nat_tests}
 use Rattle.std.proofs.lemmas.List.Kept.{AllPairs-cons}
 use Rattle.record_io.specs.declared.answers.Answer.{Answer}
-use Rattle.record_io.specs.declared.kinds.ItemKind.{ItemKind}
-use Rattle.record_io.specs.declared.kinds.ItemKind.TheVariants.{Fence, Recorded}
-use Rattle.record_io.specs.declared.records.Record.{Record}
+use Rattle.record_io.specs.declared.reader.ItemKind.{ItemKind}
+use Rattle.record_io.specs.declared.reader.ItemKind.TheVariants.{Fence, Recorded}
+use Rattle.record_io.specs.declared.item_cursor.Record.{Record}
 use Rattle.record_io.specs.Input.{Item}
 use Rattle.record_io.specs.Places.{Place, Count, behind, places_at, places_from, records_of}
 use Rattle.law_workers.specs.Work.{indexed}

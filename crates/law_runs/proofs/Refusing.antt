@@ -33,8 +33,8 @@ use Rattle.unit_state.specs.declared.state.State.{State}
 use Rattle.unit_state.specs.Applied.{applied}
 use Rattle.unit_state.specs.Restart.{restarted}
 use Rattle.unit_state.specs.State.{KeepsRules}
-use Rattle.unit_image.specs.declared.fault.OpenFault.{OpenFault}
-use Rattle.unit_image.specs.declared.fault.OpenFault.TheVariants as openings
+use Rattle.unit_image.specs.declared.opening_image.OpenFault.{OpenFault}
+use Rattle.unit_image.specs.declared.opening_image.OpenFault.TheVariants as openings
 use Rattle.unit_image.specs.OpeningImage.{IsOpenCause}
 use Rattle.unit_image.specs.Shows.{Shows, ShowsNone}
 use Rattle.unit_image.proofs.OpenFaults.{same_image}

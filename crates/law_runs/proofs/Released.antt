@@ -6,14 +6,14 @@ use Rattle.std.proofs.lemmas.Bool.{cases_lt}
 use Rattle.std.proofs.lemmas.List.{take-append-le, take_all}
 use Rattle.std.proofs.lemmas.Option.{none-some, same_Some}
 use Rattle.sdls_base.specs.declared.TheConstants.{MOST_KEYS}
-use Rattle.sdls_base.specs.declared.change.Change.TheVariants.{Marks}
+use Rattle.sdls_base.specs.declared.entry.Change.TheVariants.{Marks}
 use Rattle.sdls_base.specs.declared.entry.Entry.{Entry}
 use Rattle.sdls_base.specs.declared.entry.Seen.TheVariants as seens
 use Rattle.sdls_outside.specs.Faults.{Rose}
 use Rattle.counter_table.specs.declared.view.View.{View}
 use Rattle.counter_table.specs.Turn.{stands}
 use Rattle.counter_table.specs.Whole.{RowStands, IsWhole}
-use Rattle.record_io.specs.declared.records.Record.{Record}
+use Rattle.record_io.specs.declared.item_cursor.Record.{Record}
 use Rattle.key_book.specs.declared.key_row.KeyRow.{KeyRow}
 use Rattle.key_book.specs.KeyBook.{place_of}
 use Rattle.unit_state.specs.declared.state.State.{State}

@@ -31,7 +31,7 @@ use Rattle.law_runs.specs.Release.{AreReleases}
 use Rattle.law_workers.proofs.Rows.{row_placed}
 use Rattle.unit_book.specs.declared.fault.BookFault.{BookFault}
 use Rattle.unit_book.specs.declared.fault.BookFault.TheVariants.{SiteFault, Stopped, SessionFull, NoMemory}
-use Rattle.run_promise.specs.declared.limits.TheConstants.{MOST_ENTRIES}
+use Rattle.run_promise.specs.declared.end.TheConstants.{MOST_ENTRIES}
 use Rattle.unit_book.specs.Book.{BookView, IsBarred, IsUnstored, Refuses}
 use Rattle.unit_book.specs.LeavesBook.{TellsRise}
 use Rattle.unit_book.specs.Numbers.{EnteredInTurn, EndsReleases, Releases}

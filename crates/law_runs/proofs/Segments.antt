@@ -4,11 +4,11 @@ use Rattle.std.proofs.Common.{false, refl, sym, ◌∙◌, ap, subst, inl, inr, 
 use Rattle.std.specs.List.{All}
 use Rattle.std.proofs.lemmas.Bool.Decides.{nat_tests}
 use Rattle.std.proofs.lemmas.List.Elements.{All-append}
-use Rattle.record_io.specs.declared.kinds.ItemKind.{ItemKind}
-use Rattle.record_io.specs.declared.kinds.ItemKind.TheVariants.{Fence, Recorded}
-use Rattle.record_io.specs.declared.kinds.RecordKind.{RecordKind}
-use Rattle.record_io.specs.declared.kinds.RecordKind.TheVariants.{Protect, Open, Command, Monitor}
-use Rattle.record_io.specs.declared.kinds.TheConstants.{LANES}
+use Rattle.record_io.specs.declared.reader.ItemKind.{ItemKind}
+use Rattle.record_io.specs.declared.reader.ItemKind.TheVariants.{Fence, Recorded}
+use Rattle.record_io.specs.declared.reader.RecordKind.{RecordKind}
+use Rattle.record_io.specs.declared.reader.RecordKind.TheVariants.{Protect, Open, Command, Monitor}
+use Rattle.record_io.specs.declared.reader.TheConstants.{LANES}
 use Rattle.record_io.specs.Input.{Item, IsItem, lanes_of}
 use Rattle.record_io.specs.Places.{Place, Count, behind, behind_record, counted, places_at, places_from, segment_of}
 use Rattle.record_io.specs.declared.reader.TheConstants.{SEGMENT_RECORDS}

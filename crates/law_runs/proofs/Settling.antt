@@ -7,7 +7,7 @@ use Rattle.sdls_base.specs.Numbers.{tally}
 use Rattle.sdls_base.specs.declared.entry.Entry.{Entry}
 use Rattle.sdls_base.specs.declared.entry.Logged.{Logged}
 use Rattle.counter_table.specs.declared.view.View.{View}
-use Rattle.record_io.specs.declared.records.Record.{Record}
+use Rattle.record_io.specs.declared.item_cursor.Record.{Record}
 use Rattle.record_io.specs.Answers.{answer_octets}
 use Rattle.unit_state.specs.History.{after_all, after_first, epoch_after}
 use Rattle.run_promise.specs.Log.{entries_of, pieces_of}

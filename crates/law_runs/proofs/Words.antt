@@ -9,7 +9,7 @@ use Rattle.counter_table.specs.declared.view.View.{View}
 use Rattle.counter_table.specs.Numbers.{amount}
 use Rattle.counter_table.specs.Whole.{RowStands, IsWhole}
 use Rattle.record_io.specs.declared.answers.Answer.{Answer}
-use Rattle.record_io.specs.declared.records.Record.{Record}
+use Rattle.record_io.specs.declared.item_cursor.Record.{Record}
 use Rattle.record_io.specs.Places.{Place, records_of}
 use Rattle.run_promise.specs.Call.{Begin, CallSeen}
 use Rattle.run_promise.specs.Words.{LiesBetween, Move, Drew, Tells, CountsEntry, MovedWords}

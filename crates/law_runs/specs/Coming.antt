@@ -10,7 +10,7 @@ use Rattle.record_io.specs.Answers.{IsAnswer, answers_octets}
 use Rattle.record_io.specs.Input.{Item, IsInput, Whole, MalformedAt}
 use Rattle.record_io.specs.Places.{Place, places_of, records_of}
 use Rattle.record_io.specs.Reading.{SourceSeen, Standing, IsReading, HasTaken}
-use Rattle.run_promise.specs.declared.limits.TheConstants.{MOST_ENTRIES}
+use Rattle.run_promise.specs.declared.end.TheConstants.{MOST_ENTRIES}
 use Rattle.run_promise.specs.History.{HasNoEntry}
 use Rattle.fsr_log.specs.Noted.{Noted}
 use Rattle.run_promise.specs.Deed.{is_entered}

@@ -7,8 +7,8 @@ use Rattle.sdls_outside.specs.Moments.{EachMoment}
 use Rattle.sdls_outside.specs.Site as sites
 use Rattle.record_io.specs.declared.status.TheConstants.{SITE_FAULT}
 use Rattle.record_io.specs.Answers.{IsAnswer, answer_octets}
-use Rattle.unit_image.specs.declared.fault.OpenFault.{OpenFault}
-use Rattle.unit_image.specs.declared.fault.OpenFault.TheVariants as faults
+use Rattle.unit_image.specs.declared.opening_image.OpenFault.{OpenFault}
+use Rattle.unit_image.specs.declared.opening_image.OpenFault.TheVariants as faults
 use Rattle.unit_image.specs.OpeningImage.{IsOpenCause, LeavesShown, Opening}
 use Rattle.unit_image.specs.Shows.{ShowsNone}
 use Rattle.run_promise.specs.Call.{SiteSeen}

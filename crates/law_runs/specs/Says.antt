@@ -7,7 +7,7 @@ use Rattle.record_io.specs.Input.{IsInput, Whole}
 use Rattle.record_io.specs.Places.{places_of}
 use Rattle.unit_plan.specs.PlanLines.{PlanLines}
 use Rattle.unit_state.specs.declared.state.State.{State}
-use Rattle.run_promise.specs.declared.limits.TheConstants.{MOST_ENTRIES}
+use Rattle.run_promise.specs.declared.end.TheConstants.{MOST_ENTRIES}
 use Rattle.run_promise.specs.declared.end.RunEnd.TheVariants.{Ended, Malformed, SourceFault, SessionFull}
 use Rattle.run_promise.specs.Call.{CallSeen, ShowsAtEntry, image_at_entry}
 use Rattle.run_promise.specs.Answers.{SaysSiteFailed, IsUnmade}

@@ -6,9 +6,9 @@ use Rattle.sdls_outside.specs.Moments.{Between}
 use Rattle.counter_table.specs.declared.view.View.{View}
 use Rattle.counter_table.specs.Whole.{IsWhole}
 use Rattle.record_io.specs.declared.answers.Answer.{Answer}
-use Rattle.record_io.specs.declared.records.Record.{Record}
+use Rattle.record_io.specs.declared.item_cursor.Record.{Record}
 use Rattle.record_io.specs.Answers.{IsAnswer, answers_octets}
-use Rattle.run_promise.specs.declared.limits.TheConstants.{MOST_ENTRIES}
+use Rattle.run_promise.specs.declared.end.TheConstants.{MOST_ENTRIES}
 use Rattle.law_workers.specs.Counts.{is_of_record, count_at}
 use Rattle.run_promise.specs.Deed.{is_entered}
 use Rattle.run_promise.specs.Fits.{MayAppend}

@@ -8,20 +8,12 @@
 #![tactic(auto)]
 
 mod life;
-mod repeated;
-mod status;
-mod whole;
 
 pub use life::{
-    covered_before_a_life, covered_in_a_life, life_may_begin, sound_call_keeps_lives,
-    sound_reading_keeps_lives, used_once_in_a_life,
-};
-pub use repeated::{
+    covered_before_a_life, covered_in_a_life, due_is_put, faults_are_told, full_is_told,
+    goes_to_its_end, life_may_begin, no_entry_behind_a_fault, no_records_are_sound,
     one_input_is_handled_alike, one_lane_answers_alike, one_lane_fronts_alike, one_lane_runs_alike,
+    reading_keeps_lives, refused_run_ends, refused_stays, run_ends_well, sound_call_keeps_lives,
+    sound_reading_keeps_lives, status_five_has_a_fault, status_tells_what_came,
+    unhindered_run_completes, used_once_in_a_life, zero_says_all,
 };
-pub use status::{
-    due_is_put, faults_are_told, full_is_told, goes_to_its_end, no_entry_behind_a_fault,
-    refused_stays, status_five_has_a_fault, status_tells_what_came, unhindered_run_completes,
-    zero_says_all,
-};
-pub use whole::{no_records_are_sound, reading_keeps_lives, refused_run_ends, run_ends_well};

@@ -14,7 +14,7 @@ use Rattle.counter_table.specs.declared.view.View.{View}
 use Rattle.counter_table.specs.Known.{pieces}
 use Rattle.counter_table.specs.Turn.{stands, places}
 use Rattle.counter_table.specs.Whole.{IsWhole}
-use Rattle.record_io.specs.declared.records.Record.{Record}
+use Rattle.record_io.specs.declared.item_cursor.Record.{Record}
 use Rattle.run_promise.specs.Log.{entries_of, pieces_of}
 use Rattle.law_workers.specs.Counts.{count_at, is_of_record, is_of_none, is_index}
 use Rattle.run_promise.specs.History.{reserves_of, drawers}

@@ -14,7 +14,7 @@ use Rattle.counter_table.specs.Known.{Earlier, entries, IsSparing, pieces, later
 use Rattle.sdls_outside.specs.Faults.{Rose}
 use Rattle.counter_table.specs.Numbers.{top}
 use Rattle.counter_table.specs.Turn.{stands, epoch_seen}
-use Rattle.record_io.specs.declared.records.Record.{Record}
+use Rattle.record_io.specs.declared.item_cursor.Record.{Record}
 use Rattle.run_promise.specs.Log.{entries_of}
 use Rattle.run_promise.specs.Answers.{Uses}
 use Rattle.run_promise.specs.Fits.{Fits}
@@ -28,8 +28,8 @@ use Rattle.law_workers.proofs.Logs.{stands_both, times_both, piece_count_both, l
 use Rattle.law_workers.proofs.Faults.{fault_rose, fault_tells}
 use Rattle.law_workers.proofs.Working.{widen_works, widen_answers, merge_works, merge_answers, merge_unmade}
 use Rattle.law_workers.proofs.Working.{widen_unmade, row_later, told_later, closed}
-use Rattle.record_io.specs.declared.kinds.RecordKind.{RecordKind}
-use Rattle.record_io.specs.declared.kinds.RecordKind.TheVariants.{Protect, Open, Command, Monitor}
+use Rattle.record_io.specs.declared.reader.RecordKind.{RecordKind}
+use Rattle.record_io.specs.declared.reader.RecordKind.TheVariants.{Protect, Open, Command, Monitor}
 use Rattle.record_io.specs.declared.code.TheConstants.{EXHAUSTED, SITE_FAULT}
 use Rattle.frame_checks.specs.ProtectingFrames.{has_channel}
 use Rattle.unit_state.specs.History.{epoch_after}

@@ -13,9 +13,9 @@ use Rattle.sdls_base.specs.declared.entry.Logged.TheVariants as lines
 use Rattle.counter_table.specs.Known.{pieces}
 use Rattle.counter_table.specs.Turn.{stands}
 use Rattle.counter_table.specs.Numbers.{count_of}
-use Rattle.record_io.specs.declared.records.Record.{Record}
-use Rattle.record_io.specs.declared.kinds.RecordKind.{RecordKind}
-use Rattle.record_io.specs.declared.kinds.RecordKind.TheVariants.{Protect, Open, Command, Monitor}
+use Rattle.record_io.specs.declared.item_cursor.Record.{Record}
+use Rattle.record_io.specs.declared.reader.RecordKind.{RecordKind}
+use Rattle.record_io.specs.declared.reader.RecordKind.TheVariants.{Protect, Open, Command, Monitor}
 use Rattle.unit_plan.specs.PlanLines.{PlanLines}
 use Rattle.unit_state.specs.declared.state.State.{State}
 use Rattle.unit_state.specs.History.{after_all, epoch_after}

@@ -11,9 +11,9 @@ use Rattle.sdls_base.specs.declared.entry.Logged.{Logged}
 use Rattle.sdls_base.specs.declared.entry.Seen.{Seen}
 use Rattle.sdls_base.specs.declared.entry.Seen.TheVariants as seens
 use Rattle.key_book.specs.KeyBook.{place_of}
-use Rattle.record_io.specs.declared.kinds.RecordKind.{RecordKind}
-use Rattle.record_io.specs.declared.kinds.RecordKind.TheVariants.{Protect, Open, Command, Monitor}
-use Rattle.record_io.specs.declared.records.Record.{Record}
+use Rattle.record_io.specs.declared.reader.RecordKind.{RecordKind}
+use Rattle.record_io.specs.declared.reader.RecordKind.TheVariants.{Protect, Open, Command, Monitor}
+use Rattle.record_io.specs.declared.item_cursor.Record.{Record}
 use Rattle.unit_state.specs.declared.state.State.{State}
 use Rattle.unit_state.specs.Applied.{applied}
 use Rattle.unit_state.specs.History.{after_all, after_first}
@@ -21,8 +21,8 @@ use Rattle.counter_table.specs.declared.view.View.{View}
 use Rattle.counter_table.specs.Numbers.{amount, top}
 use Rattle.counter_table.specs.Turn.{stands}
 use Rattle.counter_table.specs.Whole.{IsWhole}
-use Rattle.ep_core.specs.declared.need.Need.{Need}
-use Rattle.ep_core.specs.declared.need.Need.TheVariants as needs
+use Rattle.ep_core.specs.declared.judging.Need.{Need}
+use Rattle.ep_core.specs.declared.judging.Need.TheVariants as needs
 use Rattle.run_promise.specs.Call.{Begin}
 use Rattle.law_workers.specs.Views.{KnowsMore, log_of, entries_in}
 use Rattle.run_promise.specs.Deed.{Deed}

@@ -4,7 +4,7 @@ use Rattle.std.proofs.Common.{arith}
 use Rattle.std.specs.List.{slice_get}
 use Rattle.sdls_base.specs.declared.entry.Logged.{Logged}
 use Rattle.counter_table.specs.Turn.{stands}
-use Rattle.record_io.specs.declared.records.Record.{Record}
+use Rattle.record_io.specs.declared.item_cursor.Record.{Record}
 use Rattle.law_workers.specs.Counts.{is_of_record, count_at}
 use Rattle.law_workers.specs.Work.{indexed}
 use Rattle.law_workers.specs.Order.{is_piece, is_line, Lined, ComeBefore, AreAside}

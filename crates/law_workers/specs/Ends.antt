@@ -1,14 +1,14 @@
 -- How the records of a segment, or of a lane, are answered (profile).
 use Rattle.std.specs.Prelude.{◌≡◌, ℕ, Bool, true, false, List, ◌++◌, length, slice_get, Some, ◌≢◌, ◌⊎◌, ◌≤◌}
 use Rattle.counter_table.specs.declared.view.View.{View}
-use Rattle.record_io.specs.declared.records.Record.{Record}
+use Rattle.record_io.specs.declared.item_cursor.Record.{Record}
 use Rattle.record_io.specs.declared.answers.Answer.{Answer}
 use Rattle.run_promise.specs.Call.{Begin}
-use Rattle.record_io.specs.declared.kinds.RecordKind.TheVariants.{Protect}
+use Rattle.record_io.specs.declared.reader.RecordKind.TheVariants.{Protect}
 use Rattle.sdls_outside.specs.Faults.{Rose}
 use Rattle.law_workers.specs.Counts.{is_of_record, count_at}
 use Rattle.run_promise.specs.Fits.{MayAppend}
-use Rattle.run_promise.specs.declared.limits.TheConstants.{MOST_ENTRIES}
+use Rattle.run_promise.specs.declared.end.TheConstants.{MOST_ENTRIES}
 use Rattle.law_workers.specs.Views.{IsBetween, log_of, entries_in}
 use Rattle.law_workers.specs.Deeds.{course_in}
 

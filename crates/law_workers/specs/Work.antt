@@ -3,8 +3,8 @@ use Rattle.std.specs.Prelude.{◌≡◌, ◌⊎◌, ℕ, ◌+◌, ◌<◌, ◌�
 use Rattle.std.specs.List.{All, Contains}
 use Rattle.sdls_base.specs.Numbers.{tally}
 use Rattle.sdls_base.specs.declared.entry.Entry.{Entry}
-use Rattle.record_io.specs.declared.records.Record.{Record}
-use Rattle.record_io.specs.declared.kinds.RecordKind.TheVariants.{Command}
+use Rattle.record_io.specs.declared.item_cursor.Record.{Record}
+use Rattle.record_io.specs.declared.reader.RecordKind.TheVariants.{Command}
 use Rattle.key_book.specs.KeyBook.{place_of}
 use Rattle.unit_state.specs.History.{after_first}
 use Rattle.counter_table.specs.declared.view.View.{View}

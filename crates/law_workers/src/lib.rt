@@ -11,7 +11,5 @@
 #![tactic(auto)]
 
 mod one_lane;
-mod reporting;
 
-pub use one_lane::served_once;
-pub use reporting::looking_reports;
+pub use one_lane::{looking_reports, served_once};

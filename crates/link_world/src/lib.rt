@@ -4,12 +4,9 @@
 //! Read `specs/Link.antt` first.
 #![tactic(auto)]
 
-mod chunk;
-mod fates;
-mod laws;
 mod link;
 
-pub use chunk::{add_deliveries, fate, is_lost};
-pub use fates::Fate;
-pub use laws::{arrivals_were_released, released_chunk_arrives};
-pub use link::{LinkEvent, link_run};
+pub use link::{
+    Fate, LinkEvent, add_deliveries, arrivals_were_released, fate, is_lost, link_run,
+    released_chunk_arrives,
+};

@@ -8,7 +8,7 @@ use Rattle.record_io.specs.declared.answers.Answer.{Answer}
 use Rattle.record_io.specs.Answers.{header_octets}
 use Rattle.pair_audit.specs.declared.audit.Audit.{Audit}
 use Rattle.pair_audit.specs.declared.audit.Repeat.{Repeat}
-use Rattle.record_io.specs.declared.answer_reading.AnswerHead.{AnswerHead}
+use Rattle.record_io.specs.declared.answers.AnswerHead.{AnswerHead}
 use Rattle.pair_audit.specs.declared.walk.RunFound.{RunFound}
 use Rattle.pair_audit.specs.declared.walk.RunFound.TheVariants as ends
 use Rattle.pair_audit.specs.Audit.{HasHead}

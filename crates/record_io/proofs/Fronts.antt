@@ -6,9 +6,9 @@ use Rattle.std.proofs.lemmas.List.{append-nil, length-take-le, take_all}
 use Rattle.sdls_outside.specs.Intake.{Collects}
 use Rattle.record_io.specs.declared.answers.Answer.{Answer}
 use Rattle.record_io.specs.Answers.{Header, HasWidths, answer_octets, header_octets, header_of}
-use Rattle.record_io.specs.declared.answer_cursor.NextAnswer.{NextAnswer}
-use Rattle.record_io.specs.declared.answer_cursor.NextAnswer.TheVariants as nexts
-use Rattle.record_io.specs.declared.answer_cursor.TheConstants.{MOST_BODY}
+use Rattle.record_io.specs.declared.answers.NextAnswer.{NextAnswer}
+use Rattle.record_io.specs.declared.answers.NextAnswer.TheVariants as nexts
+use Rattle.record_io.specs.declared.answers.TheConstants.{MOST_BODY}
 use Rattle.record_io.specs.NextAnswer.{Stands, StandsBehind}
 
 -- where the buffer was not filled, what was left was as much as was taken

@@ -4,13 +4,13 @@ use Rattle.std.proofs.Common.{arith, append_assoc, length-append}
 use Rattle.std.specs.Int.{w16, to_be_bytes, from_be_bytes}
 use Rattle.std.proofs.lemmas.Nat.{from_be_bytes-to_be_bytes_2}
 use Rattle.sdls_base.proofs.Endings.{take_front}
-use Rattle.record_io.specs.declared.kinds.ItemKind.{ItemKind}
-use Rattle.record_io.specs.declared.kinds.ItemKind.TheVariants.{Fence, Recorded}
-use Rattle.record_io.specs.declared.heads.ItemHead.{ItemHead}
+use Rattle.record_io.specs.declared.reader.ItemKind.{ItemKind}
+use Rattle.record_io.specs.declared.reader.ItemKind.TheVariants.{Fence, Recorded}
+use Rattle.record_io.specs.declared.reader.ItemHead.{ItemHead}
 use Rattle.record_io.specs.Input.{Item, IsItem, most_octets, kind_octet, item_header, item_octets, items_octets}
 use Rattle.record_io.specs.Input.{LacksItem, LacksBeginning, beginning}
 use Rattle.record_io.specs.Heads.{IsHead, IsNoHead}
-use Rattle.record_io.specs.declared.kinds.TheConstants.{MOST_RECORD_OCTETS}
+use Rattle.record_io.specs.declared.reader.TheConstants.{MOST_RECORD_OCTETS}
 
 pub length-header : (item : Item) → length (item_header item) ≡ 6
 length-header item = refl

@@ -2,7 +2,7 @@
 use Rattle.std.proofs.Common.{◌≡◌, ℕ, ◌||◌, if◌then◌else◌, Bool, true, false, List, [], ◌∷◌, map, Some, refl, ◌==◌}
 use Rattle.std.specs.Prelude.{find, is_some}
 use Rattle.std.specs.List.{list_any}
-use Rattle.record_io.specs.declared.codes.AnswerCode.{AnswerCode}
+use Rattle.record_io.specs.declared.code.AnswerCode.{AnswerCode}
 use Rattle.record_io.specs.AnswerReading.{is_answer_code}
 use Rattle.record_io.specs.Codes.{all_codes, code_at, code_octet}
 

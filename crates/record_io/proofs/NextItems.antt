@@ -4,7 +4,7 @@ use Rattle.std.proofs.Common.{length-append}
 use Rattle.record_io.specs.Heads.{IsHead, IsNoHead}
 use Rattle.record_io.specs.Input.{IsItem, Item, LacksItem, item_octets}
 use Rattle.record_io.specs.NextItem.{StandsItem, item_found}
-use Rattle.record_io.specs.declared.heads.ItemHead.{ItemHead}
+use Rattle.record_io.specs.declared.reader.ItemHead.{ItemHead}
 use Rattle.record_io.specs.declared.item_cursor.FoundItem.{FoundItem}
 use Rattle.record_io.specs.declared.item_cursor.NextItem.{NextItem}
 use Rattle.record_io.specs.declared.item_cursor.NextItem.TheVariants as nexts

@@ -8,9 +8,9 @@ use Rattle.std.specs.Int.{w16, from_be_bytes}
 use Rattle.std.proofs.lemmas.List.{append_cancel_left}
 use Rattle.std.proofs.lemmas.Nat.{from_be_bytes-to_be_bytes_2}
 use Rattle.sdls_base.proofs.Endings.{take_front, drop_front}
-use Rattle.record_io.specs.declared.kinds.RecordKind.TheVariants.{Protect, Open, Command, Monitor}
-use Rattle.record_io.specs.declared.kinds.ItemKind.{ItemKind}
-use Rattle.record_io.specs.declared.kinds.ItemKind.TheVariants.{Fence, Recorded}
+use Rattle.record_io.specs.declared.reader.RecordKind.TheVariants.{Protect, Open, Command, Monitor}
+use Rattle.record_io.specs.declared.reader.ItemKind.{ItemKind}
+use Rattle.record_io.specs.declared.reader.ItemKind.TheVariants.{Fence, Recorded}
 use Rattle.record_io.specs.Input.{Item, IsItem, kind_octet, item_header, item_octets, items_octets, beginning, AreRead}
 use Rattle.record_io.specs.Input.{LacksItem, LacksBeginning, InputEnd, Whole, MalformedAt, EndsAs, IsInput}
 use Rattle.record_io.proofs.Items.{length-header, most_small, lacks_short}

@@ -6,13 +6,13 @@ use Rattle.std.specs.Prelude.{◌*◌, ◌==◌, if◌then◌else◌, Result, Ok
 use Rattle.std.specs.List.{All}
 use Rattle.std.proofs.lemmas.List.{append-nil}
 use Rattle.std.proofs.lemmas.List.Elements.{All-nil, All-append}
-use Rattle.record_io.specs.declared.records.Record.{Record}
-use Rattle.record_io.specs.declared.records.SegmentEnd.{SegmentEnd}
-use Rattle.record_io.specs.declared.records.SegmentEnd.TheVariants.{More, End, Malformed, SourceFault}
-use Rattle.record_io.specs.declared.records.SegmentEnd.TheVariants as ends_as
-use Rattle.record_io.specs.declared.kinds.ItemKind.TheVariants.{Recorded}
-use Rattle.record_io.specs.declared.kinds.RecordKind.{RecordKind}
-use Rattle.record_io.specs.declared.kinds.RecordKind.TheVariants.{Monitor}
+use Rattle.record_io.specs.declared.item_cursor.Record.{Record}
+use Rattle.record_io.specs.declared.item_cursor.SegmentEnd.{SegmentEnd}
+use Rattle.record_io.specs.declared.item_cursor.SegmentEnd.TheVariants.{More, End, Malformed, SourceFault}
+use Rattle.record_io.specs.declared.item_cursor.SegmentEnd.TheVariants as ends_as
+use Rattle.record_io.specs.declared.reader.ItemKind.TheVariants.{Recorded}
+use Rattle.record_io.specs.declared.reader.RecordKind.{RecordKind}
+use Rattle.record_io.specs.declared.reader.RecordKind.TheVariants.{Monitor}
 use Rattle.record_io.specs.Input.{Item, IsItem, item_octets, items_octets, beginning, AreRead, MOST_OCTETS}
 use Rattle.record_io.specs.Places.{Count, behind, first_count, counted}
 use Rattle.record_io.specs.Reading.{SourceSeen, Standing, IsReading, HasTaken, ReadsLast, ReadsTo, Loses, HasFaultCause}

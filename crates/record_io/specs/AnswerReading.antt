@@ -5,7 +5,7 @@ use Rattle.record_io.specs.declared.answers.Answer.{Answer}
 use Rattle.record_io.specs.declared.answers.TheConstants.{ANSWER_HEADER}
 use Rattle.record_io.specs.Answers.{Cut, Header, HasWidths, header_octets}
 use Rattle.record_io.specs.Codes.{all_codes, code_octet}
-use Rattle.record_io.specs.declared.answer_reading.AnswerHead.{AnswerHead}
+use Rattle.record_io.specs.declared.answers.AnswerHead.{AnswerHead}
 
 abbrev pub answer_codes : List ℕ
 answer_codes = map code_octet all_codes

@@ -4,11 +4,11 @@ use Rattle.record_io.specs.declared.code.TheConstants.{ACCEPTED, CHANNEL, CLEAR,
 use Rattle.record_io.specs.declared.code.TheConstants.{EXHAUSTED, LAYOUT, MAC, NO_MEMORY, NUMBER}
 use Rattle.record_io.specs.declared.code.TheConstants.{MONITORED, MONITOR_FAULT}
 use Rattle.record_io.specs.declared.code.TheConstants.{PROTECTED, REFUSED, SITE_FAULT, SPI, STATE, STOPPED}
-use Rattle.record_io.specs.declared.codes.AnswerCode.{AnswerCode}
-use Rattle.record_io.specs.declared.codes.AnswerCode.TheVariants.{Protected, Accepted, Clear, Done, Refused, Layout}
-use Rattle.record_io.specs.declared.codes.AnswerCode.TheVariants.{Monitored, MonitorFault}
-use Rattle.record_io.specs.declared.codes.AnswerCode.TheVariants.{Channel, Spi, Direction, State, Coverage, Mac, Number}
-use Rattle.record_io.specs.declared.codes.AnswerCode.TheVariants.{Exhausted, SiteFault, Stopped, NoMemory, End}
+use Rattle.record_io.specs.declared.code.AnswerCode.{AnswerCode}
+use Rattle.record_io.specs.declared.code.AnswerCode.TheVariants.{Protected, Accepted, Clear, Done, Refused, Layout}
+use Rattle.record_io.specs.declared.code.AnswerCode.TheVariants.{Monitored, MonitorFault}
+use Rattle.record_io.specs.declared.code.AnswerCode.TheVariants.{Channel, Spi, Direction, State, Coverage, Mac, Number}
+use Rattle.record_io.specs.declared.code.AnswerCode.TheVariants.{Exhausted, SiteFault, Stopped, NoMemory, End}
 
 abbrev pub code_octet : AnswerCode → ℕ
 code_octet Protected = PROTECTED

@@ -1,7 +1,7 @@
 -- What stands before the octets of an item (profile).
 use Rattle.std.specs.Prelude.{◌≡◌, ◌≢◌, ℕ, ◌<◌, ◌≤◌, List, ◌∷◌}
 use Rattle.std.specs.Int.{w16, to_be_bytes}
-use Rattle.record_io.specs.declared.heads.ItemHead.{ItemHead}
+use Rattle.record_io.specs.declared.reader.ItemHead.{ItemHead}
 use Rattle.record_io.specs.Input.{Item, IsItem, item_header, kind_octet, lanes_of, least_octets, most_octets}
 
 -- the six octets head an item of this kind

@@ -2,10 +2,10 @@
 use Rattle.std.specs.Prelude.{◌≡◌, ◌≢◌, ℕ, ◌-◌, ◌^◌, ◌<◌, ◌≤◌, ◌⊎◌, List, [], ◌∷◌, ◌++◌, length, take, codes}
 use Rattle.std.specs.List.{All}
 use Rattle.std.specs.Int.{w16, to_be_bytes}
-use Rattle.record_io.specs.declared.kinds.RecordKind.TheVariants.{Protect, Open, Command, Monitor}
-use Rattle.record_io.specs.declared.kinds.ItemKind.{ItemKind}
-use Rattle.record_io.specs.declared.kinds.ItemKind.TheVariants.{Fence, Recorded}
-use Rattle.record_io.specs.declared.kinds.TheConstants.{LANES, LEAST_MONITOR_OCTETS, MOST_RECORD_OCTETS}
+use Rattle.record_io.specs.declared.reader.RecordKind.TheVariants.{Protect, Open, Command, Monitor}
+use Rattle.record_io.specs.declared.reader.ItemKind.{ItemKind}
+use Rattle.record_io.specs.declared.reader.ItemKind.TheVariants.{Fence, Recorded}
+use Rattle.record_io.specs.declared.reader.TheConstants.{LANES, LEAST_MONITOR_OCTETS, MOST_RECORD_OCTETS}
 
 pub record Item : Type 0 where
   pub kind : ItemKind

@@ -1,9 +1,9 @@
 -- What stands next in a source of answers (profile).
 use Rattle.std.specs.Prelude.{◌≡◌, ◌≢◌, ⊤, ℕ, ◌<◌, ◌≤◌, List, [], ◌++◌, length, Option}
 use Rattle.record_io.specs.Answers.{Header, Cut, EndsWith, answer_octets, header_octets, header_of}
-use Rattle.record_io.specs.declared.answer_cursor.NextAnswer.{NextAnswer}
-use Rattle.record_io.specs.declared.answer_cursor.NextAnswer.TheVariants as nexts
-use Rattle.record_io.specs.declared.answer_cursor.TheConstants.{MOST_BODY}
+use Rattle.record_io.specs.declared.answers.NextAnswer.{NextAnswer}
+use Rattle.record_io.specs.declared.answers.NextAnswer.TheVariants as nexts
+use Rattle.record_io.specs.declared.answers.TheConstants.{MOST_BODY}
 
 -- what stands behind a header
 unfoldable pub StandsBehind : Header → List ℕ → List ℕ → NextAnswer → Type 0

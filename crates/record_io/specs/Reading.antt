@@ -2,12 +2,12 @@
 use Rattle.std.specs.Prelude.{◌≡◌, ⊤, ℕ, ◌+◌, ◌≤◌, Bool, IsTrue, List, [], ◌∷◌, ◌++◌, length}
 use Rattle.std.specs.List.{All}
 use Rattle.sdls_outside.specs.Faults.{Rose}
-use Rattle.record_io.specs.declared.records.Record.{Record}
-use Rattle.record_io.specs.declared.records.SegmentEnd.{SegmentEnd}
-use Rattle.record_io.specs.declared.records.SegmentEnd.TheVariants.{More, End, Malformed, SourceFault}
-use Rattle.record_io.specs.declared.records.SegmentEnd.TheVariants as ends
-use Rattle.record_io.specs.declared.kinds.ItemKind.TheVariants.{Recorded}
-use Rattle.record_io.specs.declared.kinds.RecordKind.TheVariants.{Monitor}
+use Rattle.record_io.specs.declared.item_cursor.Record.{Record}
+use Rattle.record_io.specs.declared.item_cursor.SegmentEnd.{SegmentEnd}
+use Rattle.record_io.specs.declared.item_cursor.SegmentEnd.TheVariants.{More, End, Malformed, SourceFault}
+use Rattle.record_io.specs.declared.item_cursor.SegmentEnd.TheVariants as ends
+use Rattle.record_io.specs.declared.reader.ItemKind.TheVariants.{Recorded}
+use Rattle.record_io.specs.declared.reader.RecordKind.TheVariants.{Monitor}
 use Rattle.record_io.specs.Input.{Item, IsItem, AreRead, LacksNext, MOST_OCTETS, IsInput, Whole, MalformedAt}
 use Rattle.record_io.specs.Places.{first_count, counted, places_from, records_of}
 

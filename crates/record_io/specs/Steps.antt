@@ -2,12 +2,12 @@
 use Rattle.std.specs.Prelude.{◌≡◌, ◌≢◌, ℕ, ◌+◌, ◌-◌, ◌*◌, ◌<◌, ◌≤◌, ◌⊎◌, ⊤, Bool, IsTrue, ◌==◌, if◌then◌else◌, List, []}
 use Rattle.std.specs.Prelude.{◌∷◌, ◌++◌, length, take, map}
 use Rattle.std.specs.List.{All}
-use Rattle.record_io.specs.declared.kinds.ItemKind.TheVariants.{Fence, Recorded}
-use Rattle.record_io.specs.declared.kinds.RecordKind.TheVariants.{Monitor}
-use Rattle.record_io.specs.declared.records.Record.{Record}
-use Rattle.record_io.specs.declared.records.SegmentEnd.{SegmentEnd}
-use Rattle.record_io.specs.declared.records.SegmentEnd.TheVariants.{More, End, Malformed, SourceFault}
-use Rattle.record_io.specs.declared.records.SegmentEnd.TheVariants as ends
+use Rattle.record_io.specs.declared.reader.ItemKind.TheVariants.{Fence, Recorded}
+use Rattle.record_io.specs.declared.reader.RecordKind.TheVariants.{Monitor}
+use Rattle.record_io.specs.declared.item_cursor.Record.{Record}
+use Rattle.record_io.specs.declared.item_cursor.SegmentEnd.{SegmentEnd}
+use Rattle.record_io.specs.declared.item_cursor.SegmentEnd.TheVariants.{More, End, Malformed, SourceFault}
+use Rattle.record_io.specs.declared.item_cursor.SegmentEnd.TheVariants as ends
 use Rattle.record_io.specs.declared.reader.Read.{Read}
 use Rattle.record_io.specs.declared.reader.Read.TheVariants as reads
 use Rattle.record_io.specs.declared.reader.TheConstants.{SEGMENT_RECORDS}

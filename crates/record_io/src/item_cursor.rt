@@ -4,8 +4,7 @@ ghost use Rattle.sdls_outside.specs.Faults.{Rose};
 ghost use Rattle.record_io.specs.Heads.{IsHead};
 ghost use Rattle.record_io.specs.NextItem.{IfItemFault, StandsItem};
 
-use crate::heads::{ITEM_HEADER, ItemHead, item_head};
-use crate::kinds::ItemKind;
+use crate::reader::{ITEM_HEADER, ItemHead, ItemKind, RecordKind, item_head};
 use crate::short_octets::ShortOctets;
 use sdls_base::NoMemory;
 use sdls_outside::{Failed, Source, collect};
@@ -73,4 +72,33 @@ pub fn next_item<S: Source>(alloc: Global, source: &mut S) -> Result<NextItem, N
             Some(head) => take_octets(alloc, source, header, head),
         },
     }
+}
+
+/// A record of the input, which is answered.
+#[derive(Debug, Drop)]
+pub struct Record {
+    /// Its number among the records of the input, from 0; fences are not counted.
+    pub index: u64,
+    pub kind: RecordKind,
+    /// The lane that handles it, below [`crate::LANES`]; of a Monitor record it is not looked at.
+    pub lane: u8,
+    /// The link that the frame belongs to; of a command and of a Monitor record it is not looked at.
+    pub link: u8,
+    /// A reader gives at most [`crate::MOST_RECORD_OCTETS`].
+    pub octets: ShortOctets,
+}
+
+/// How a segment ends.
+#[derive(Debug, Drop)]
+pub enum SegmentEnd {
+    /// After a fence, or after 1,024 records.
+    More,
+    /// After a Monitor record, which is this one; it is none of the segment's records.
+    Monitor(Record),
+    /// At the end of the input.
+    End,
+    /// Before an item that is malformed: the offset of its first octet, or 0 for another beginning.
+    Malformed(u64),
+    /// At a fault of the source: its count of faults.
+    SourceFault(u64),
 }

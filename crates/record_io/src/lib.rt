@@ -7,32 +7,25 @@
 //! [`Outcome`] how a call ends.
 #![tactic(auto)]
 
-mod answer_cursor;
-mod answer_reading;
 mod answers;
 pub mod code;
-mod codes;
-mod heads;
 mod item_cursor;
-mod kinds;
 mod laws;
-mod outcome;
 mod reader;
-mod records;
 mod short_octets;
 mod spare;
 pub mod status;
 
-pub use answer_cursor::{MOST_BODY, NextAnswer, next_answer};
-pub use answer_reading::{AnswerError, AnswerHead, answer_head, known_head, read_answer};
-pub use answers::{ANSWER_HEADER, Answer, answer_header, answers_have_widths};
-pub use codes::AnswerCode;
-pub use heads::{ITEM_HEADER, ItemHead, item_head};
-pub use item_cursor::{FoundItem, NextItem, next_item};
-pub use kinds::{ItemKind, LANES, LEAST_MONITOR_OCTETS, MOST_RECORD_OCTETS, RecordKind};
+pub use answers::{
+    ANSWER_HEADER, Answer, AnswerError, AnswerHead, MOST_BODY, NextAnswer, answer_head,
+    answer_header, answers_have_widths, known_head, next_answer, read_answer,
+};
+pub use code::{AnswerCode, Outcome};
+pub use item_cursor::{FoundItem, NextItem, Record, SegmentEnd, next_item};
 pub use laws::{answers_are_shown, answers_shown_once, begins_reading, input_reads_once};
-pub use outcome::Outcome;
-pub use reader::{Reader, SEGMENT_RECORDS};
-pub use records::{Record, SegmentEnd};
+pub use reader::{
+    ITEM_HEADER, ItemHead, ItemKind, LANES, LEAST_MONITOR_OCTETS, MOST_RECORD_OCTETS, Reader,
+    RecordKind, SEGMENT_RECORDS, item_head,
+};
 pub use short_octets::ShortOctets;
 pub use spare::Spare;

@@ -1,19 +1,19 @@
 // The recorded input, read in segments.
+//! What stands before the octets of an item.
+// The kinds of items.
 ghost use Rattle.std.specs.Prelude.{ℕ, List, ◌≡◌, ◌≢◌, ◌+◌, ◌-◌, ◌*◌, ◌≤◌, ◌<◌, ◌++◌, [], length, take, IsTrue, IfOk};
-ghost use Rattle.std.specs.Prelude.{OnErr};
+ghost use Rattle.std.specs.Prelude.{OnErr, IfErr, IfNone, IfSome, MatchResult, vec_len, MatchOption, true, false};
 ghost use Rattle.std.specs.List.{All};
-ghost use Rattle.std.specs.Prelude.{IfErr, IfNone, IfSome, MatchResult, vec_len};
 ghost use Rattle.sdls_outside.specs.Faults.{HasCause};
-ghost use Rattle.record_io.specs.declared.kinds.RecordKind.TheVariants.{Monitor};
-ghost use Rattle.record_io.specs.Input.{Item, MOST_OCTETS};
-ghost use Rattle.record_io.specs.Reading.{SourceSeen, Standing, first_standing, IsReading, ReadsTo, Loses, source_seen};
-ghost use Rattle.record_io.specs.Reading.{GoesOn, HasFaultCause};
+ghost use Rattle.record_io.specs.declared.reader.RecordKind.TheVariants.{Monitor};
+ghost use Rattle.record_io.specs.Input.{Item, MOST_OCTETS, kind_octet, lanes_of, least_octets, most_octets};
+ghost use Rattle.record_io.specs.Reading.{SourceSeen, Standing, first_standing, IsReading, ReadsTo, Loses};
+ghost use Rattle.record_io.specs.Reading.{source_seen, GoesOn, HasFaultCause};
 ghost use Rattle.record_io.specs.Steps.{still_counted, TakesTooFew, Moves, ReadsItem, Wants, IsFaultRead};
 ghost use Rattle.record_io.specs.Steps.{CountsRecords, Segment, due_beginning, EndsBefore};
+ghost use Rattle.record_io.specs.Heads.{IsHead, IsNoHead};
 
-use crate::heads::{ITEM_HEADER, ItemHead, item_head};
-use crate::kinds::{ItemKind, RecordKind, is_monitor};
-use crate::records::{Record, SegmentEnd};
+use crate::item_cursor::{Record, SegmentEnd};
 use crate::short_octets::ShortOctets;
 use crate::spare::Spare;
 use sdls_base::NoMemory;
@@ -315,5 +315,122 @@ impl Reader {
             Some(end) => Ok((Vec::new(alloc), end)),
             None => self.read_items(alloc, source),
         }
+    }
+}
+
+/// The octets before those of an item.
+pub const ITEM_HEADER: usize = 6;
+
+/// What the first six octets of an item say.
+#[derive(Clone, Copy, Debug)]
+pub struct ItemHead {
+    pub kind: ItemKind,
+    pub lane: u8,
+    pub link: u8,
+    /// The octets of the item.
+    pub len: u16,
+}
+
+/// What the first six octets of an item say, or `None` if they are no item's.
+pub fn item_head(header: [u8; ITEM_HEADER]) -> Option<ItemHead>
+    ensures { MatchOption result (IsNoHead header) (IsHead header) }
+{
+    let [kind, lane, link, zero, high, low] = header;
+    let len = u16::from_be_bytes([high, low]);
+    let kind = kind_of(kind)?;
+    let laned = u16::from(lane) < lanes_of(kind);
+    let long = least_octets_of(kind) <= len && len <= most_octets_of(kind);
+    if zero == 0 && laned && long {
+        Some(ItemHead {
+            kind,
+            lane,
+            link,
+            len,
+        })
+    } else {
+        None
+    }
+}
+
+/// What is to be done with the octets of a record.
+#[derive(Clone, Copy, Debug, PartialEq, Eq)]
+pub enum RecordKind {
+    /// They are a frame in clear, to be protected.
+    Protect,
+    /// They are a protected frame, to be opened.
+    Open,
+    /// They are a procedure message, to be carried out.
+    Command,
+    /// They are a monitoring message, to be answered. The record ends a segment, and stands in one of its own.
+    Monitor,
+}
+
+/// What an item of the input is.
+#[derive(Clone, Copy, Debug, PartialEq, Eq)]
+pub enum ItemKind {
+    /// The end of a segment, without octets and without an answer.
+    Fence,
+    /// A record, which is answered.
+    Recorded(RecordKind),
+}
+
+/// The lanes of the input, numbered from 0.
+pub const LANES: u8 = 16;
+
+/// The most octets of a record.
+pub const MOST_RECORD_OCTETS: u16 = 2048;
+
+/// The fewest octets of a Monitor record.
+pub const LEAST_MONITOR_OCTETS: u16 = 3;
+
+/// The kind that an octet says.
+pub(crate) fn kind_of(octet: u8) -> Option<ItemKind>
+    ensures { MatchOption result ((kind : ItemKind) → kind_octet kind ≢ octet) (λ kind. kind_octet kind ≡ octet) }
+{
+    match octet {
+        0 => Some(ItemKind::Fence),
+        1 => Some(ItemKind::Recorded(RecordKind::Protect)),
+        2 => Some(ItemKind::Recorded(RecordKind::Open)),
+        3 => Some(ItemKind::Recorded(RecordKind::Command)),
+        4 => Some(ItemKind::Recorded(RecordKind::Monitor)),
+        _ => None,
+    }
+}
+
+/// If a record of this kind ends its segment.
+pub(crate) fn is_monitor(kind: RecordKind) -> bool
+    ensures monitor { result ≡ true → kind ≡ RecordKind.Monitor }
+    ensures plain { result ≡ false → kind ≢ RecordKind.Monitor }
+{
+    matches!(kind, RecordKind::Monitor)
+}
+
+/// The most octets of an item of this kind.
+pub(crate) fn most_octets_of(kind: ItemKind) -> u16
+    ensures { result ≡ most_octets kind }
+{
+    match kind {
+        ItemKind::Fence => 0,
+        ItemKind::Recorded(_) => MOST_RECORD_OCTETS,
+    }
+}
+
+/// The fewest octets of an item of this kind.
+pub(crate) fn least_octets_of(kind: ItemKind) -> u16
+    ensures { result ≡ least_octets kind }
+{
+    match kind {
+        ItemKind::Recorded(RecordKind::Monitor) => LEAST_MONITOR_OCTETS,
+        _ => 0,
+    }
+}
+
+/// How many lanes an item of this kind may name; of a Monitor record the lane is not looked at.
+pub(crate) fn lanes_of(kind: ItemKind) -> u16
+    ensures { result ≡ lanes_of kind }
+{
+    match kind {
+        ItemKind::Recorded(RecordKind::Monitor) => 256,
+        _ => u16::from(LANES),
     }
 }

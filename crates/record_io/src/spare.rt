@@ -2,8 +2,8 @@
 ghost use Rattle.std.specs.Prelude.{◌≡◌, ◌≤◌, ◌+◌, ◌-◌, [], IfOk, vec_capacity, vec_len};
 
 use crate::answers::Answer;
+use crate::item_cursor::Record;
 use crate::reader::SEGMENT_RECORDS;
-use crate::records::Record;
 use std::alloc::{AllocError, Global};
 use std::marker::Model;
 

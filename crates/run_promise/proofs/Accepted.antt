@@ -4,15 +4,15 @@ use Rattle.std.proofs.Common.{sym, ap, subst, arith}
 use Rattle.std.specs.Option.{option_map_or}
 use Rattle.std.proofs.lemmas.Bool.Decides.{nat_tests}
 use Rattle.sdls_base.specs.KeyId.{end_of}
-use Rattle.sdls_base.specs.declared.change.Change.TheVariants.{Accepted}
-use Rattle.sdls_base.specs.declared.change.Change.TheVariants as changes
+use Rattle.sdls_base.specs.declared.entry.Change.TheVariants.{Accepted}
+use Rattle.sdls_base.specs.declared.entry.Change.TheVariants as changes
 use Rattle.key_book.specs.declared.key_row.KeyRow.{KeyRow}
 use Rattle.unit_plan.specs.PlanLines.{PlanLines}
 use Rattle.unit_state.specs.declared.state.State.{State}
 use Rattle.unit_state.specs.State.{KeepsRules}
 use Rattle.unit_state.specs.Allows.{Allows}
-use Rattle.frame_checks.specs.declared.open_reply.OpenReply.{OpenReply}
-use Rattle.frame_checks.specs.declared.open_reply.OpenReply.TheVariants as opens
+use Rattle.frame_checks.specs.declared.opening_frames.OpenReply.{OpenReply}
+use Rattle.frame_checks.specs.declared.opening_frames.OpenReply.TheVariants as opens
 use Rattle.frame_checks.specs.Accepting.{MayBeAccepted}
 use Rattle.run_promise.specs.Numbers.{floor_of}
 use Rattle.run_promise.specs.History.{raised_floor, frame_change}

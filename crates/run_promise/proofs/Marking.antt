@@ -7,7 +7,7 @@ use Rattle.std.proofs.lemmas.Bool.{false≢true}
 use Rattle.std.proofs.lemmas.Bool.Decides.{nat_tests}
 use Rattle.std.proofs.lemmas.Option.{none-some, same_Some, slice_get_within, get_or_from_slice_get}
 use Rattle.sdls_base.specs.KeyId.{end_of}
-use Rattle.sdls_base.specs.declared.change.Change.TheVariants.{Marks}
+use Rattle.sdls_base.specs.declared.entry.Change.TheVariants.{Marks}
 use Rattle.sdls_base.specs.declared.entry.Entry.{Entry}
 use Rattle.sdls_base.specs.declared.entry.Seen.TheVariants.{Word}
 use Rattle.sdls_base.specs.declared.states.Direction.{Direction}
@@ -15,7 +15,7 @@ use Rattle.sdls_base.specs.declared.states.Direction.TheVariants.{Send, Receive}
 use Rattle.key_book.specs.declared.key_row.KeyRow.{KeyRow}
 use Rattle.key_book.specs.KeyRow.{IsKeyRow}
 use Rattle.key_book.specs.KeyBook.{row_of}
-use Rattle.sa_book.specs.declared.sa_row.SaRow.{SaRow}
+use Rattle.sa_book.specs.declared.sa_book.SaRow.{SaRow}
 use Rattle.sa_book.specs.SaRow.{HasHigh, IsSaRow}
 use Rattle.sa_book.specs.SaRefusal.{is_receiving, is_key, receives_with, receiver_with}
 use Rattle.unit_plan.specs.PlanLines.{PlanLines}

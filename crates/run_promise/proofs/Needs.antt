@@ -3,7 +3,7 @@ use Rattle.std.proofs.Common.{◌≡◌, ℕ, List, inl, inr, sym, ap, ◌∙◌
 use Rattle.std.proofs.lemmas.Option.{none-some}
 use Rattle.unit_state.specs.declared.state.State.{State}
 use Rattle.ep_codec.proofs.CommandReadings.{message_has_none, one_value}
-use Rattle.ep_core.specs.declared.need.Need.{Need}
+use Rattle.ep_core.specs.declared.judging.Need.{Need}
 use Rattle.ep_core.specs.Need.{need_of}
 use Rattle.run_promise.specs.History.{IsNeedOf}
 

@@ -12,7 +12,7 @@ use Rattle.unit_state.specs.declared.state.State.{State}
 use Rattle.unit_image.specs.Shows.{ShowsNone}
 use Rattle.record_io.specs.declared.answers.Answer.{Answer}
 use Rattle.record_io.specs.declared.code.TheConstants.{END}
-use Rattle.record_io.specs.declared.kinds.RecordKind.TheVariants.{Monitor}
+use Rattle.record_io.specs.declared.reader.RecordKind.TheVariants.{Monitor}
 use Rattle.record_io.specs.Answers.{answer_octets, answers_octets}
 use Rattle.record_io.specs.Input.{Item, IsInput, Whole, MalformedAt}
 use Rattle.record_io.specs.Places.{Place, places_of, records_of}
@@ -24,7 +24,7 @@ use Rattle.run_promise.specs.declared.end.RunEnd.{RunEnd}
 use Rattle.run_promise.specs.declared.end.RunEnd.TheVariants.{Ended, Malformed, SourceFault, SiteFault, NoMemory}
 use Rattle.run_promise.specs.declared.end.RunEnd.TheVariants.{NoState, SessionFull, PutFailed}
 use Rattle.run_promise.specs.History.{NearWord, HasNoEntry}
-use Rattle.run_promise.specs.declared.limits.TheConstants.{MOST_ENTRIES}
+use Rattle.run_promise.specs.declared.end.TheConstants.{MOST_ENTRIES}
 
 -- ---- what a run did
 

@@ -4,10 +4,10 @@ use Rattle.std.specs.Prelude.{if◌then◌else◌, List, take}
 use Rattle.sdls_base.specs.declared.entry.Entry.{Entry}
 use Rattle.unit_state.specs.History.{epoch_after}
 use Rattle.frame_checks.specs.ProtectingFrames.{has_channel}
-use Rattle.record_io.specs.declared.records.Record.{Record}
+use Rattle.record_io.specs.declared.item_cursor.Record.{Record}
 use Rattle.record_io.specs.declared.answers.Answer.{Answer}
-use Rattle.record_io.specs.declared.kinds.RecordKind.{RecordKind}
-use Rattle.record_io.specs.declared.kinds.RecordKind.TheVariants.{Protect, Open, Command, Monitor}
+use Rattle.record_io.specs.declared.reader.RecordKind.{RecordKind}
+use Rattle.record_io.specs.declared.reader.RecordKind.TheVariants.{Protect, Open, Command, Monitor}
 use Rattle.record_io.specs.declared.code.TheConstants.{PROTECTED, ACCEPTED, MONITOR_FAULT, NUMBER, EXHAUSTED}
 use Rattle.record_io.specs.declared.code.TheConstants.{SITE_FAULT}
 use Rattle.run_promise.specs.Answers.{SaysSiteFailed}

@@ -28,7 +28,7 @@ use Rattle.run_promise.specs.Sound.{ShowsAfter, AreReported, HasPlan, IsSound, S
 use Rattle.run_promise.specs.Numbers.{releases}
 use Rattle.run_promise.specs.Answers.{SaysSiteFailed, Uses}
 use Rattle.run_promise.specs.History.{NearWord}
-use Rattle.run_promise.specs.declared.limits.TheConstants.{MOST_ENTRIES}
+use Rattle.run_promise.specs.declared.end.TheConstants.{MOST_ENTRIES}
 use Rattle.run_promise.specs.OneLane.{OneLane, IsExact}
 use Rattle.run_promise.specs.declared.end.RunEnd.{RunEnd}
 use Rattle.run_promise.specs.Words.{MovedWords}

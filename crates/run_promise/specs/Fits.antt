@@ -3,10 +3,10 @@
 use Rattle.std.specs.Prelude.{ℕ, List, Some, None, Ok, Err, ◌≡◌, ◌≢◌, ◌-◌, ◌<◌, ◌≤◌, ◌⊎◌, [], length, slice_get, Result}
 use Rattle.std.specs.Option.{option_map_or}
 use Rattle.sdls_base.specs.KeyId.{end_of}
-use Rattle.sdls_base.specs.declared.change.Change.{Change}
+use Rattle.sdls_base.specs.declared.entry.Change.{Change}
 use Rattle.sdls_base.specs.declared.entry.Entry.{Entry}
 use Rattle.sdls_base.specs.declared.entry.Seen.{Seen}
-use Rattle.sdls_base.specs.declared.change.Change.TheVariants as changes
+use Rattle.sdls_base.specs.declared.entry.Change.TheVariants as changes
 use Rattle.sdls_outside.specs.Faults.{Rose}
 use Rattle.frame_shield.specs.declared.protecting_frames.ShieldFault.TheVariants.{Layout}
 use Rattle.frame_shield.specs.Binding.{clear_fault}
@@ -17,17 +17,17 @@ use Rattle.unit_plan.specs.PlanLines.{PlanLines}
 use Rattle.unit_state.specs.declared.state.State.{State}
 use Rattle.unit_state.specs.History.{after_first, at_epoch, epoch_after}
 use Rattle.frame_checks.specs.ProtectingFrames.{protect_check, channel_check}
-use Rattle.frame_checks.specs.declared.open_reply.OpenReply.{OpenReply}
-use Rattle.frame_checks.specs.declared.open_reply.OpenReply.TheVariants.{Accepted}
+use Rattle.frame_checks.specs.declared.opening_frames.OpenReply.{OpenReply}
+use Rattle.frame_checks.specs.declared.opening_frames.OpenReply.TheVariants.{Accepted}
 use Rattle.frame_checks.specs.OpeningFrames.{IsOpenReply}
 use Rattle.frame_checks.specs.ProtectingFrames as protecting
-use Rattle.ep_core.specs.declared.need.Need.TheVariants.{Number}
-use Rattle.ep_core.specs.declared.reply.Reply.{Reply}
+use Rattle.ep_core.specs.declared.judging.Need.TheVariants.{Number}
+use Rattle.ep_core.specs.declared.refusal.Reply.{Reply}
 use Rattle.record_io.specs.declared.answers.Answer.{Answer}
 use Rattle.record_io.specs.declared.code.TheConstants.{PROTECTED, EXHAUSTED, SITE_FAULT, STOPPED, NO_MEMORY}
-use Rattle.record_io.specs.declared.kinds.RecordKind.{RecordKind}
-use Rattle.record_io.specs.declared.kinds.RecordKind.TheVariants.{Protect, Open, Command, Monitor}
-use Rattle.record_io.specs.declared.records.Record.{Record}
+use Rattle.record_io.specs.declared.reader.RecordKind.{RecordKind}
+use Rattle.record_io.specs.declared.reader.RecordKind.TheVariants.{Protect, Open, Command, Monitor}
+use Rattle.record_io.specs.declared.item_cursor.Record.{Record}
 use Rattle.run_promise.specs.Call.{Begin}
 use Rattle.run_promise.specs.Numbers.{mark_of, floor_of}
 use Rattle.run_promise.specs.History.{frame_entry, record_entry, IsNeedOf, IsStepOf, KeyOf, SeesFor, SeenNear}

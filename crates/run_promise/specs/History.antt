@@ -3,11 +3,11 @@
 use Rattle.std.specs.Prelude.{◌≡◌, ℕ, ◌+◌, ◌-◌, min, nat_lt, if◌then◌else◌, ◌⊎◌, List, Some, ⊤, ◌<◌, ◌≤◌, take}
 use Rattle.std.specs.Prelude.{slice_get, Contains, Option, None, IsSome, Bool, true, false, [], ◌∷◌, ◌≢◌, length}
 use Rattle.sdls_base.specs.KeyId.{end_of}
-use Rattle.sdls_base.specs.declared.change.Change.{Change}
+use Rattle.sdls_base.specs.declared.entry.Change.{Change}
 use Rattle.sdls_base.specs.declared.entry.Entry.{Entry}
 use Rattle.sdls_base.specs.declared.entry.Seen.{Seen}
-use Rattle.sdls_base.specs.declared.change.Change.TheVariants.{Accepted}
-use Rattle.sdls_base.specs.declared.change.Change.TheVariants as changes
+use Rattle.sdls_base.specs.declared.entry.Change.TheVariants.{Accepted}
+use Rattle.sdls_base.specs.declared.entry.Change.TheVariants as changes
 use Rattle.sdls_base.specs.declared.entry.Seen.TheVariants as seens
 use Rattle.unit_plan.specs.PlanLines.{PlanLines}
 use Rattle.unit_plan.specs.PlanRules.{IsPlan}
@@ -15,23 +15,23 @@ use Rattle.key_book.specs.declared.key_row.KeyRow.{KeyRow}
 use Rattle.unit_state.specs.declared.state.State.{State}
 use Rattle.unit_state.specs.State.{key_row, KeepsRules}
 use Rattle.unit_state.specs.History.{after_first}
-use Rattle.frame_checks.specs.declared.open_reply.OpenReply.{OpenReply}
+use Rattle.frame_checks.specs.declared.opening_frames.OpenReply.{OpenReply}
 use Rattle.frame_checks.specs.OpeningFrames.{IsOpenReply}
-use Rattle.frame_checks.specs.declared.open_reply.OpenReply.TheVariants as opens
+use Rattle.frame_checks.specs.declared.opening_frames.OpenReply.TheVariants as opens
 use Rattle.ep_codec.specs.declared.command.Command.{Command}
 use Rattle.ep_codec.specs.Command.{IsCommandPdu}
 use Rattle.ep_codec.specs.MessageFault.{command_fault}
-use Rattle.ep_core.specs.declared.need.Need.{Need}
-use Rattle.ep_core.specs.declared.reply.Reply.{Reply}
+use Rattle.ep_core.specs.declared.judging.Need.{Need}
+use Rattle.ep_core.specs.declared.refusal.Reply.{Reply}
 use Rattle.ep_core.specs.Need.{need_of}
 use Rattle.ep_core.specs.Step.{IsStep, refused}
 use Rattle.ep_core.specs.Seen.{MeetsNeed}
-use Rattle.ep_core.specs.declared.need.Need.TheVariants as needs
+use Rattle.ep_core.specs.declared.judging.Need.TheVariants as needs
 use Rattle.ep_core.specs.declared.refusal.Refusal.TheVariants as refusals
-use Rattle.record_io.specs.declared.records.Record.{Record}
-use Rattle.record_io.specs.declared.kinds.RecordKind.{RecordKind}
+use Rattle.record_io.specs.declared.item_cursor.Record.{Record}
+use Rattle.record_io.specs.declared.reader.RecordKind.{RecordKind}
 use Rattle.record_io.specs.Places.{Place, records_of}
-use Rattle.record_io.specs.declared.kinds.RecordKind.TheVariants as kinds
+use Rattle.record_io.specs.declared.reader.RecordKind.TheVariants as kinds
 use Rattle.run_promise.specs.Numbers.{floor_of, mark_of, reserve_of, release_of}
 
 -- ---- the entries that frames and commands make

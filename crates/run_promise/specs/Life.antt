@@ -12,8 +12,8 @@ use Rattle.unit_state.specs.State.{key_row}
 use Rattle.unit_image.specs.Image.{held, HasOneClosed, IsOpenedForm}
 use Rattle.unit_image.specs.Beginning.{SaysPlan, image_of_plan}
 use Rattle.unit_image.specs.Shows.{Shows}
-use Rattle.record_io.specs.declared.kinds.RecordKind.{RecordKind}
-use Rattle.record_io.specs.declared.kinds.RecordKind.TheVariants.{Protect, Open, Command, Monitor}
+use Rattle.record_io.specs.declared.reader.RecordKind.{RecordKind}
+use Rattle.record_io.specs.declared.reader.RecordKind.TheVariants.{Protect, Open, Command, Monitor}
 use Rattle.record_io.specs.declared.answers.Answer.{Answer}
 use Rattle.record_io.specs.declared.code.TheConstants.{END}
 use Rattle.record_io.specs.Answers.{IsAnswer, answer_octets}

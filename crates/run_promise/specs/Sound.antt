@@ -11,7 +11,7 @@ use Rattle.unit_image.specs.Image.{held, HasOneClosed, IsOpenedForm}
 use Rattle.unit_image.specs.Shows.{Shows}
 use Rattle.unit_image.specs.OpeningImage.{LeftByOpening}
 use Rattle.record_io.specs.declared.code.TheConstants.{NO_MEMORY, SITE_FAULT}
-use Rattle.record_io.specs.declared.kinds.RecordKind.TheVariants.{Monitor}
+use Rattle.record_io.specs.declared.reader.RecordKind.TheVariants.{Monitor}
 use Rattle.record_io.specs.Places.{Place, records_of}
 use Rattle.record_io.specs.Answers.{IsAnswer, answer_octets, answers_octets}
 use Rattle.fsr_log.specs.Noted.{Noted}

@@ -8,7 +8,5 @@
 #![tactic(auto)]
 
 mod end;
-mod limits;
 
-pub use end::RunEnd;
-pub use limits::MOST_ENTRIES;
+pub use end::{MOST_ENTRIES, RunEnd};

@@ -10,7 +10,7 @@ use Rattle.std.proofs.lemmas.List.Folds.{list_any_at}
 use Rattle.std.proofs.lemmas.Bool.Decides.{nat_tests}
 use Rattle.sdls_base.specs.KeyId.{class_of, end_of, end_of_class}
 use Rattle.sdls_base.specs.Suite.{class_of_suite}
-use Rattle.sdls_base.specs.declared.change.NewSa.{NewSa}
+use Rattle.sdls_base.specs.declared.entry.NewSa.{NewSa}
 use Rattle.sdls_base.specs.declared.key_id.KeyClass.{KeyClass}
 use Rattle.sdls_base.specs.declared.key_id.KeyClass.TheVariants.{Master, Gcm, Cmac}
 use Rattle.sdls_base.specs.declared.states.Direction.{Direction}
@@ -25,9 +25,9 @@ use Rattle.replay_window.specs.declared.TheConstants.{MOST_BACK}
 use Rattle.replay_window.specs.declared.window.Window.{Window}
 use Rattle.replay_window.specs.WindowField.{IsWindowField}
 use Rattle.replay_window.specs.Window.{accepted, begun_at, with_field}
-use Rattle.sa_book.specs.declared.sa_row.SaRow.{SaRow}
-use Rattle.sa_book.specs.declared.sa_refusal.SaRefusal.{SaRefusal}
-use Rattle.sa_book.specs.declared.sa_refusal.SaRefusal.TheVariants.{SpiTaken, UnknownChannel, TableFull, WrongSuite}
+use Rattle.sa_book.specs.declared.sa_book.SaRow.{SaRow}
+use Rattle.sa_book.specs.declared.refusals.SaRefusal.{SaRefusal}
+use Rattle.sa_book.specs.declared.refusals.SaRefusal.TheVariants.{SpiTaken, UnknownChannel, TableFull, WrongSuite}
 use Rattle.sa_book.specs.SaRow.{IsSaRow, HasHigh, following, with_key, without_key, new_row, MayAccept}
 use Rattle.sa_book.specs.SaBook.{IsSaBook, row_of, place_of, covers, is_operational, is_same_direction, with_row}
 use Rattle.sa_book.specs.SaRefusal.{unless_unkeyed, unless_keyed, unless_operational, unless_active, if_unkeyed}

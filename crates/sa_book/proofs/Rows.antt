@@ -16,9 +16,9 @@ use Rattle.std.proofs.lemmas.List.Quantifiers.{position-Some, all_pairs_push, al
 use Rattle.sdls_base.specs.declared.TheConstants.{MOST_ASSOCIATIONS}
 use Rattle.sdls_base.specs.declared.states.Direction.TheVariants.{Receive}
 use Rattle.sdls_base.specs.declared.states.SaState.TheVariants.{Operational}
-use Rattle.sa_book.specs.declared.sa_row.SaRow.{SaRow}
-use Rattle.sa_book.specs.declared.sa_refusal.SaRefusal.{SaRefusal}
-use Rattle.sa_book.specs.declared.sa_refusal.SaRefusal.TheVariants.{UnknownSpi}
+use Rattle.sa_book.specs.declared.sa_book.SaRow.{SaRow}
+use Rattle.sa_book.specs.declared.refusals.SaRefusal.{SaRefusal}
+use Rattle.sa_book.specs.declared.refusals.SaRefusal.TheVariants.{UnknownSpi}
 use Rattle.sa_book.specs.SaRow.{IsSaRow}
 use Rattle.sa_book.specs.SaBook.{RowsAreApart, IsSaBook, MayFollow, row_of, place_of, changed, without, with_row}
 use Rattle.sa_book.specs.SaRefusal.{on_row}

@@ -1,7 +1,7 @@
 -- The windows of associations, begun anew at a number (profile).
 use Rattle.std.specs.Prelude.{ℕ, if◌then◌else◌, List, map}
 use Rattle.replay_window.specs.Window.{begun_at, lowered_to}
-use Rattle.sa_book.specs.declared.sa_row.SaRow.{SaRow}
+use Rattle.sa_book.specs.declared.sa_book.SaRow.{SaRow}
 use Rattle.sa_book.specs.SaRefusal.{receives_with}
 
 -- an association whose window begins at a number

@@ -7,7 +7,7 @@ use Rattle.sdls_base.specs.FirstFailing.{fails_if, first_told}
 use Rattle.sdls_base.specs.KeyId.{class_of, end_of}
 use Rattle.sdls_base.specs.Suite.{class_of_suite}
 use Rattle.sdls_base.specs.declared.TheConstants.{MOST_ASSOCIATIONS}
-use Rattle.sdls_base.specs.declared.change.NewSa.{NewSa}
+use Rattle.sdls_base.specs.declared.entry.NewSa.{NewSa}
 use Rattle.sdls_base.specs.declared.key_id.KeyClass.{KeyClass}
 use Rattle.sdls_base.specs.declared.key_id.KeyClass.TheVariants as classes
 use Rattle.sdls_base.specs.declared.states.Direction.{Direction}
@@ -16,11 +16,11 @@ use Rattle.sdls_base.specs.declared.states.KeyState.{KeyState}
 use Rattle.sdls_base.specs.declared.states.KeyState.TheVariants as key_states
 use Rattle.sdls_base.specs.declared.states.SaState.{SaState}
 use Rattle.sdls_base.specs.declared.states.SaState.TheVariants.{Unkeyed, Keyed, Operational}
-use Rattle.sa_book.specs.declared.sa_row.SaRow.{SaRow}
-use Rattle.sa_book.specs.declared.sa_refusal.SaRefusal.{SaRefusal}
-use Rattle.sa_book.specs.declared.sa_refusal.SaRefusal.TheVariants.{UnknownSpi, SpiTaken, WrongState, ChannelTaken}
-use Rattle.sa_book.specs.declared.sa_refusal.SaRefusal.TheVariants.{KeyNotActive, BelowFloor, TableFull, WrongSuite}
-use Rattle.sa_book.specs.declared.sa_refusal.SaRefusal.TheVariants.{PastEnd, UnknownChannel, KeyTaken, NoMemory}
+use Rattle.sa_book.specs.declared.sa_book.SaRow.{SaRow}
+use Rattle.sa_book.specs.declared.refusals.SaRefusal.{SaRefusal}
+use Rattle.sa_book.specs.declared.refusals.SaRefusal.TheVariants.{UnknownSpi, SpiTaken, WrongState, ChannelTaken}
+use Rattle.sa_book.specs.declared.refusals.SaRefusal.TheVariants.{KeyNotActive, BelowFloor, TableFull, WrongSuite}
+use Rattle.sa_book.specs.declared.refusals.SaRefusal.TheVariants.{PastEnd, UnknownChannel, KeyTaken, NoMemory}
 use Rattle.sa_book.specs.SaBook.{row_of, covers}
 
 -- a refusal is lack of memory, or the first that applies

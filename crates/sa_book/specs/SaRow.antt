@@ -3,14 +3,14 @@ use Rattle.std.specs.Prelude.{◌≡◌, ℕ, ◌-◌, ◌<◌, ◌≤◌, ◌�
 use Rattle.sdls_base.specs.Bounds.{AreChannels, IsWidth}
 use Rattle.sdls_base.specs.KeyId.{class_of, end_of}
 use Rattle.sdls_base.specs.Suite.{class_of_suite}
-use Rattle.sdls_base.specs.declared.change.NewSa.{NewSa}
+use Rattle.sdls_base.specs.declared.entry.NewSa.{NewSa}
 use Rattle.sdls_base.specs.declared.states.Direction.{Direction}
 use Rattle.sdls_base.specs.declared.states.Direction.TheVariants.{Send, Receive}
 use Rattle.sdls_base.specs.declared.states.SaState.TheVariants.{Unkeyed, Keyed, Operational}
 use Rattle.replay_window.specs.declared.window.Window.{Window}
 use Rattle.replay_window.specs.declared.TheConstants.{MOST_BACK}
 use Rattle.replay_window.specs.Window.{IsFresh, begun_at, new_window}
-use Rattle.sa_book.specs.declared.sa_row.SaRow.{SaRow}
+use Rattle.sa_book.specs.declared.sa_book.SaRow.{SaRow}
 
 -- The highest number accepted: below the key's end where the association receives and has a key, and else 0.
 abbrev pub HasHigh : Direction → Option ℕ → ℕ → Type 0

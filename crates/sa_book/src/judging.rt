@@ -1,5 +1,4 @@
 //! What decides on the associations. Nothing here changes a row.
-
 ghost use Rattle.std.specs.Prelude.{◌≡◌, ◌+◌, ◌^◌, ◌<◌, ◌≤◌, ◌==◌, nat_lt, [], ◌∷◌, not, position, All, None, Some};
 ghost use Rattle.std.specs.Prelude.{IsSome, IfOk, MatchResult};
 ghost use Rattle.std.specs.List.{list_any, position_or_len};
@@ -11,8 +10,8 @@ ghost use Rattle.sa_book.specs.SaRefusal.{taken_key, key_refusal, number_refusal
 ghost use Rattle.sa_book.specs.SaRefusal.{unless_unkeyed, unless_keyed, unless_operational, if_unkeyed};
 ghost use Rattle.sa_book.specs.SaRefusal.{number_refusal_of};
 
-use crate::sa_refusal::SaRefusal;
-use crate::sa_row::SaRow;
+use crate::refusals::SaRefusal;
+use crate::sa_book::SaRow;
 use sdls_base::{ChannelId, Direction, KeyId, KeyState, MOST_ASSOCIATIONS, NewSa, SaState, Spi};
 
 fn position(rows: &[SaRow], spi: Spi) -> Option<usize>

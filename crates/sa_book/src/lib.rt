@@ -5,13 +5,9 @@
 //! change would break. Keys stand elsewhere: a call is given the state and the floor of the key that it needs.
 #![tactic(auto)]
 
-mod highs;
 mod judging;
 mod refusals;
 mod sa_book;
-mod sa_refusal;
-mod sa_row;
 
-pub use sa_book::{SaBook, rows_may_follow};
-pub use sa_refusal::SaRefusal;
-pub use sa_row::SaRow;
+pub use refusals::SaRefusal;
+pub use sa_book::{SaBook, SaRow, rows_may_follow};

@@ -1,6 +1,6 @@
+//! The windows of the associations that receive with a key, begun anew at a number.
 ghost use Rattle.std.specs.Prelude.{◌≡◌, ℕ, ◌+◌, ◌<◌, ◌≤◌, List, length, take, slice_index_or, slice_set, [], ◌∷◌};
-ghost use Rattle.std.specs.Prelude.{◌++◌, All};
-ghost use Rattle.std.specs.Prelude.{Some, IfOk, IfErr, OnOk, OnErr, IsSomeAnd};
+ghost use Rattle.std.specs.Prelude.{◌++◌, All, Some, IfOk, IfErr, OnOk, OnErr, IsSomeAnd, MatchResult};
 ghost use Rattle.std.specs.Option.{option_map, ForSome};
 ghost use Rattle.std.specs.Result.{result_err};
 ghost use Rattle.sdls_base.specs.Bounds.{AreChannels};
@@ -8,7 +8,7 @@ ghost use Rattle.sdls_base.specs.declared.states.Direction.TheVariants.{Receive}
 ghost use Rattle.sdls_base.specs.declared.states.SaState.TheVariants.{Keyed, Operational};
 ghost use Rattle.replay_window.specs.WindowField.{IsWindowField};
 ghost use Rattle.replay_window.specs.Window.{accepted, with_field};
-ghost use Rattle.sa_book.specs.declared.sa_row.SaRow.{SaRow};
+ghost use Rattle.sa_book.specs.declared.sa_book.SaRow.{SaRow};
 ghost use Rattle.sa_book.specs.SaRow.{HasHigh, IsSaRow, MayAccept, new_row, with_key, without_key, following};
 ghost use Rattle.sa_book.specs.SaBook.{IsSaBook, MayFollow, row_of, changed, without, with_row, sender_on, in_use};
 ghost use Rattle.sa_book.specs.Numbers.{lowered, with_high};
@@ -16,10 +16,13 @@ ghost use Rattle.sa_book.specs.SaRefusal.{IsSaRefusal, create_refusal, rekey_ref
 ghost use Rattle.sa_book.specs.SaRefusal.{expire_refusal, delete_refusal, set_number_refusal, set_window_refusal};
 ghost use Rattle.sa_book.specs.SaRefusal.{read_number_refusal};
 
-use crate::sa_refusal::SaRefusal;
-use crate::sa_row::{SaRow, follow};
-use crate::{highs, judging};
-use sdls_base::{ChannelId, Direction, KeyId, KeyState, NewSa, NoMemory, SaState, Spi};
+use crate::judging;
+use crate::judging::receives_with;
+use crate::refusals::SaRefusal;
+use replay_window::Window;
+use sdls_base::{
+    ChannelId, Direction, KeyId, KeyState, NewSa, NoMemory, Octets, SaState, Spi, Suite,
+};
 use std::alloc::Global;
 use std::marker::Model;
 
@@ -32,7 +35,7 @@ pub struct SaBook {
 
 impl Model for SaBook {
     ghost use Rattle.std.specs.Prelude.{List};
-    ghost use Rattle.sa_book.specs.declared.sa_row.SaRow.{SaRow};
+    ghost use Rattle.sa_book.specs.declared.sa_book.SaRow.{SaRow};
     ghost use Rattle.sa_book.specs.SaBook.{IsSaBook};
     ghost use Rattle.std.specs.Coded.{codes, coded_ℕ};
     ghost use Rattle.std.specs.FinSet as set;
@@ -199,7 +202,7 @@ impl SaBook {
     pub fn lower(&mut self, key: KeyId, floor: u64)
         ensures { self.new ≡ lowered self.old key floor }
     {
-        highs::lower(&mut self.rows, key, floor);
+        lower(&mut self.rows, key, floor);
     }
 
     /// Begins the window of the association at a place anew at a number. Takes no memory.
@@ -290,3 +293,58 @@ pub fn rows_may_follow()
     ensures { (rows : List SaRow) (i : ℕ) (d : SaRow) → IsSaBook rows → i < length rows
         → MayFollow (take i rows) (slice_index_or rows i d) }
 {}
+
+/// Begins those whose highest number is above a floor anew at it.
+pub(crate) fn lower(rows: &mut Vec<SaRow>, key: KeyId, floor: u64)
+    ensures { rows.new.items ≡ lowered rows.old.items key floor }
+{
+    for row in rows.iter_mut() {
+        if receives_with(row, key) {
+            row.window.lower(floor);
+        }
+    }
+}
+
+/// A security association.
+#[derive(Clone, Debug, PartialEq, Eq, Drop)]
+pub struct SaRow {
+    pub spi: Spi,
+    pub direction: Direction,
+    pub suite: Suite,
+    pub state: SaState,
+    /// The key that it holds; none where it is unkeyed.
+    pub key: Option<KeyId>,
+    /// The numbers of the channels that it covers, one to [`sdls_base::MOST_CHANNELS`], strictly ascending.
+    pub channels: Octets,
+    /// The numbers that it accepts. It begins at 0 where it sends or has no key.
+    pub window: Window,
+}
+
+impl SaRow {
+    /// The row of an association that is created, unkeyed.
+    pub(crate) fn created(new: &NewSa) -> Result<SaRow, SaRefusal>
+        ensures { MatchResult result
+            (λ row. row ≡ new_row new.now)
+            (λ refusal. refusal ≡ SaRefusal.NoMemory) }
+    {
+        Ok(SaRow {
+            spi: new.spi,
+            direction: new.direction,
+            suite: new.suite,
+            state: SaState::Unkeyed,
+            key: None,
+            channels: new.channels.clone()?,
+            window: Window::new(0, new.window),
+        })
+    }
+}
+
+/// Makes `number`, which is at least 1, the next to accept. A sending association keeps its window.
+pub(crate) fn follow(direction: Direction, number: u64, window: &mut Window)
+    ensures { window.new ≡ following direction number window.old }
+{
+    match direction {
+        Direction::Send => {}
+        Direction::Receive => window.begin_at(number.saturating_sub(1)),
+    }
+}

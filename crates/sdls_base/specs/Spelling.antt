@@ -1,8 +1,8 @@
 -- How keys and associations are spelled in messages and records (profile).
 use Rattle.std.specs.Prelude.{ℕ, List, ◌∷◌, ◌++◌, length}
 use Rattle.std.specs.Int.{w16, w64, to_be_bytes}
-use Rattle.sdls_base.specs.declared.change.NewSa.{NewSa}
-use Rattle.sdls_base.specs.declared.key_item.KeyItem.{KeyItem}
+use Rattle.sdls_base.specs.declared.entry.NewSa.{NewSa}
+use Rattle.sdls_base.specs.declared.key_id.KeyItem.{KeyItem}
 use Rattle.sdls_base.specs.Code.{direction_code, suite_code}
 
 -- a key to be loaded: its identifier, its length, its octets

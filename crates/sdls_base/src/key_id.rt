@@ -2,6 +2,8 @@ ghost use Rattle.std.specs.Prelude.{◌≡◌, ◌≢◌, ◌<◌};
 ghost use Rattle.std.specs.Option.{SomeIff};
 ghost use Rattle.sdls_base.specs.KeyId.{class_of, end_of};
 
+use crate::octets::Octets;
+use std::fmt;
 use std::marker::Model;
 
 /// What a key serves for, which follows from its identifier (profile).
@@ -68,5 +70,19 @@ impl KeyId {
             KeyClass::Master | KeyClass::Gcm => 1 << 48,
             KeyClass::Cmac => 1 << 32,
         }
+    }
+}
+
+/// A key to be loaded. `Debug` prints its identifier alone.
+#[derive(Clone, PartialEq, Eq, Drop)]
+pub struct KeyItem {
+    pub id: KeyId,
+    /// The key itself, 16 or 32 octets where a call says so.
+    pub bytes: Octets,
+}
+
+impl fmt::Debug for KeyItem {
+    fn fmt<W: fmt::Write>(&self, f: &mut fmt::Formatter<W>) -> fmt::Result {
+        write!(f, "KeyItem({})", self.id.get())
     }
 }

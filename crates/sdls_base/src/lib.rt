@@ -6,44 +6,37 @@
 #![tactic(auto)]
 
 mod bounds;
-mod change;
 mod channel_id;
-mod comparing;
 mod entry;
 mod error_control;
 mod key_id;
-mod key_item;
 mod layout;
 mod link;
 mod lists;
 mod no_memory;
 mod ocf;
 mod octets;
-mod places;
 mod spi;
 mod states;
 mod version;
-mod writing;
 
 pub use bounds::are_channels;
-pub use change::{Change, NewSa};
 pub use channel_id::ChannelId;
-pub use comparing::same_octets;
-pub use entry::{Entry, Logged, Seen};
+pub use entry::{Change, Entry, Logged, NewSa, Seen};
 pub use error_control::fecf;
-pub use key_id::{KeyClass, KeyId};
-pub use key_item::KeyItem;
+pub use key_id::{KeyClass, KeyId, KeyItem};
 pub use layout::{AosLayout, FrameFault, TcLayout, TmLayout};
 pub use link::{AnyLayout, Link, Mask};
 pub use lists::{ChannelList, KeyItems, KeyList, KeyRows};
 pub use no_memory::NoMemory;
 pub use ocf::cut_ocf;
-pub use octets::Octets;
-pub use places::{are_zeros, double_word_at, number_at, word_at};
+pub use octets::{
+    Octets, are_zeros, before_fecf, double_word_at, fecf_fails, flag, number_at, put, put_fecf,
+    put_frame, put_optional, same_octets, word_at,
+};
 pub use spi::Spi;
 pub use states::{Direction, KeyState, SaState, Suite};
 pub use version::{CONTENT_LENGTH_ONE, CONTENT_LENGTH_TWO, Version};
-pub use writing::{before_fecf, fecf_fails, flag, put, put_fecf, put_frame, put_optional};
 
 /// The most keys that a unit loads in its life (profile).
 pub const MOST_KEYS: usize = 4_096;

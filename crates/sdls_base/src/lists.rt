@@ -1,10 +1,8 @@
 //! The lists of the unit's types, each a `Vec` that contracts see as the list of its items. Making one takes no memory.
-
 ghost use Rattle.std.specs.Prelude.{◌≡◌};
 
 use crate::channel_id::ChannelId;
-use crate::key_id::KeyId;
-use crate::key_item::KeyItem;
+use crate::key_id::{KeyId, KeyItem};
 use crate::states::KeyState;
 use std::alloc::AllocError;
 use std::marker::Model;
@@ -151,7 +149,7 @@ pub struct KeyItems {
 
 impl Model for KeyItems {
     ghost use Rattle.std.specs.Prelude.{List};
-    ghost use Rattle.sdls_base.specs.declared.key_item.KeyItem.{KeyItem};
+    ghost use Rattle.sdls_base.specs.declared.key_id.KeyItem.{KeyItem};
 
     ghost Value = { List KeyItem };
 

@@ -8,8 +8,8 @@ use Rattle.sdls_base.specs.declared.states.Suite.{Suite}
 use Rattle.sdls_base.specs.declared.states.Suite.TheVariants.{Cmac, Gcm}
 use Rattle.sdls_base.specs.Suite.{overhead_of}
 use Rattle.sdls_base.proofs.Endings.{take_front, drop_front}
-use Rattle.sdls_header.specs.declared.pieces.Vector.{Vector}
-use Rattle.sdls_header.specs.declared.pieces.Vector.TheVariants.{Sequence, Wide}
+use Rattle.sdls_header.specs.declared.header.Vector.{Vector}
+use Rattle.sdls_header.specs.declared.header.Vector.TheVariants.{Sequence, Wide}
 use Rattle.sdls_header.specs.SecurityHeader.{Pieces, SplitsInto, IsVectorOf, vector_octets}
 
 vector_length : (suite : Suite) (v : Vector) → IsVectorOf suite v → length (vector_octets v) + 18 ≡ overhead_of suite

@@ -3,10 +3,10 @@ use Rattle.std.specs.Prelude.{◌≡◌, ℕ, ◌^◌, ◌<◌, List, ◌++◌, 
 use Rattle.std.specs.Int.{w16, w32, w64, to_be_bytes}
 use Rattle.sdls_base.specs.declared.states.Suite.{Suite}
 use Rattle.sdls_base.specs.declared.states.Suite.TheVariants.{Cmac, Gcm}
-use Rattle.sdls_header.specs.declared.pieces.Vector.{Vector}
-use Rattle.sdls_header.specs.declared.pieces.Vector.TheVariants.{Sequence, Wide}
-use Rattle.sdls_header.specs.declared.pieces.SecurityHeader.{SecurityHeader}
-use Rattle.sdls_header.specs.declared.pieces.Split.{Split}
+use Rattle.sdls_header.specs.declared.header.Vector.{Vector}
+use Rattle.sdls_header.specs.declared.header.Vector.TheVariants.{Sequence, Wide}
+use Rattle.sdls_header.specs.declared.header.SecurityHeader.{SecurityHeader}
+use Rattle.sdls_header.specs.declared.header.Split.{Split}
 
 -- a sequence number of 4 octets, or a vector of 12: the device field, then the number
 abbrev pub vector_octets : Vector → List ℕ

@@ -5,10 +5,8 @@
 //! profile.
 #![tactic(auto)]
 
-mod mask;
-mod pieces;
+mod header;
 mod splitting;
 
-pub use mask::{mask_in_place, masked};
-pub use pieces::{SecurityHeader, Split, Vector};
+pub use header::{SecurityHeader, Split, Vector, mask_in_place, masked};
 pub use splitting::{read_spi, split, wide_octets, write_header};

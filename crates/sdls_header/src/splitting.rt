@@ -1,10 +1,10 @@
 ghost use Rattle.std.specs.Prelude.{◌≡◌, ◌+◌, ◌<◌, ◌≤◌, ◌↔◌, ◌++◌, length, take, drop, IsNone, IfSome, IsSomeAnd};
 ghost use Rattle.std.specs.Int.{w16, w64, to_be_bytes};
 ghost use Rattle.sdls_base.specs.Suite.{overhead_of};
-ghost use Rattle.sdls_header.specs.declared.pieces.Vector.TheVariants.{Wide};
+ghost use Rattle.sdls_header.specs.declared.header.Vector.TheVariants.{Wide};
 ghost use Rattle.sdls_header.specs.SecurityHeader.{Pieces, SplitsInto, IsVectorOf, view, header_octets, vector_octets};
 
-use crate::pieces::{SecurityHeader, Split, Vector};
+use crate::header::{SecurityHeader, Split, Vector};
 use sdls_base::{Suite, put};
 
 /// The octets of the MAC.

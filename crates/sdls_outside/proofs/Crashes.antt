@@ -2,8 +2,8 @@
 use Rattle.std.proofs.Common.{◌≡◌, ℕ, ◌≤◌, List, length, refl, sym, ◌∙◌, subst, arith}
 use Rattle.sdls_outside.specs.Disk.{Disk, Leaves}
 use Rattle.sdls_outside.specs.Crash.{LeftBy}
-use Rattle.sdls_outside.specs.declared.crash.Crash.{Crash}
-use Rattle.sdls_outside.specs.declared.crash.Crash.TheVariants.{Kept, Lost, Filled}
+use Rattle.sdls_outside.specs.declared.mem_site.Crash.{Crash}
+use Rattle.sdls_outside.specs.declared.mem_site.Crash.TheVariants.{Kept, Lost, Filled}
 
 pub left-leaves : (how : Crash) (disk : Disk) (image : List ℕ) → Leaves disk disk.image → LeftBy how disk image
     → Leaves disk image

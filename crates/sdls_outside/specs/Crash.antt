@@ -3,8 +3,8 @@ use Rattle.std.specs.Prelude.{◌≡◌, ℕ, ◌+◌, ◌<◌, ◌≤◌, ◌-�
 use Rattle.std.specs.Prelude.{slice_index}
 use Rattle.sdls_outside.specs.Disk.{Disk, Outside}
 use Rattle.sdls_outside.specs.Moments.{Trace}
-use Rattle.sdls_outside.specs.declared.crash.Crash.{Crash}
-use Rattle.sdls_outside.specs.declared.crash.Crash.TheVariants.{Kept, Lost, Filled}
+use Rattle.sdls_outside.specs.declared.mem_site.Crash.{Crash}
+use Rattle.sdls_outside.specs.declared.mem_site.Crash.TheVariants.{Kept, Lost, Filled}
 
 -- octet i lies in one of the ranges
 abbrev pub Inside : List (ℕ × ℕ) → ℕ → Type 0

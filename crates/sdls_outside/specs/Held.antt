@@ -2,7 +2,7 @@
 use Rattle.std.specs.Prelude.{ℕ, List, map}
 use Rattle.sdls_outside.specs.Disk.{Disk}
 use Rattle.sdls_outside.specs.Undo.{played_back, range_of}
-use Rattle.sdls_outside.specs.declared.undo.Undo.{Undo}
+use Rattle.sdls_outside.specs.declared.history.Undo.{Undo}
 
 -- the image, what undoes the writes since the last sync, the newest first, and what was sunk
 abbrev pub disk_from : List ℕ → List Undo → List ℕ → Disk

@@ -3,7 +3,7 @@ use Rattle.std.specs.Prelude.{map}
 use Rattle.sdls_outside.specs.Disk.{Disk}
 use Rattle.sdls_outside.specs.Moments.{Trace}
 use Rattle.sdls_outside.specs.Held.{disk_from}
-use Rattle.sdls_outside.specs.declared.held.Held.{Held}
+use Rattle.sdls_outside.specs.declared.mem_site.Held.{Held}
 use Rattle.sdls_outside.specs.declared.history.History.{History}
 
 -- what was synced is the image with the writes since undone

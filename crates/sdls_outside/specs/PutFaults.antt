@@ -1,6 +1,6 @@
 -- How many calls of `put` of a site have failed (profile).
 use Rattle.std.specs.Prelude.{ℕ, ◌+◌}
-use Rattle.sdls_outside.specs.declared.put_faults.PutFaults.{PutFaults, Zero, OneMore', Same'}
+use Rattle.sdls_outside.specs.declared.site.PutFaults.{PutFaults, Zero, OneMore', Same'}
 
 abbrev pub count_of : PutFaults → ℕ
 count_of Zero = 0

@@ -2,7 +2,7 @@
 use Rattle.std.specs.Prelude.{ℕ, ◌+◌, ◌<◌, ◌≤◌, ⊤, List, [], ◌∷◌, ◌++◌, length, take, drop}
 use Rattle.std.specs.Coded.{×_prop, Unit-prop, le_prop}
 use mathlib.Core.HLevel.{Π_prop}
-use Rattle.sdls_outside.specs.declared.undo.Undo.{Undo}
+use Rattle.sdls_outside.specs.declared.history.Undo.{Undo}
 
 -- the range that was written: its first octet, and how many
 abbrev pub range_of : Undo → ℕ × ℕ

@@ -1,5 +1,7 @@
 // Calls that are numbered from 0, some of them to fail.
+// Faults of the real edge.
 ghost use Rattle.std.specs.Prelude.{◌≡◌, ◌≤◌, is_ok};
+ghost use Rattle.std.specs.Result.{result_ok};
 ghost use Rattle.sdls_outside.specs.Faults.{HasCause, Rose};
 
 use crate::Failed;
@@ -69,5 +71,23 @@ impl Calls {
     {
         self.faults = self.faults.saturating_add(1);
         Failed
+    }
+}
+
+// Counts the fault of a call of the system that answers an error.
+pub fn counted<T, E: Drop>(outcome: Result<T, E>, faults: &mut u64) -> Result<T, Failed>
+    ensures value { result_ok result ≡ result_ok outcome }
+    ensures cause { HasCause faults.old faults.new result }
+{
+    match outcome {
+        Ok(value) => {
+            // For contracts alone.
+            let _ = *faults;
+            Ok(value)
+        }
+        Err(_) => {
+            *faults = faults.saturating_add(1);
+            Err(Failed)
+        }
     }
 }

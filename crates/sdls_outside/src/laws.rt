@@ -5,7 +5,7 @@ ghost use Rattle.sdls_outside.specs.Disk.{Disk, Leaves, IsSynced};
 ghost use Rattle.sdls_outside.specs.Moments.{Trace, clock, MomentSince, Continues};
 ghost use Rattle.sdls_outside.specs.Site.{Sank};
 ghost use Rattle.sdls_outside.specs.Crash.{LeftBy};
-ghost use Rattle.sdls_outside.specs.declared.crash.Crash.{Crash};
+ghost use Rattle.sdls_outside.specs.declared.mem_site.Crash.{Crash};
 
 /// Law: a count rose where it is greater than before, or stands at its last value.
 pub fn rose()

@@ -7,33 +7,22 @@
 #![tactic(auto)]
 
 mod calls;
-mod crash;
-mod edge;
 mod file_site;
-mod held;
 mod history;
-mod image_file;
-mod intake;
 mod laws;
 mod mem_site;
 mod mem_source;
-mod put_faults;
 mod site;
 mod source;
 mod std_source;
-mod sure_source;
-mod undo;
 
-pub use crash::Crash;
 pub use file_site::FileSite;
-pub use intake::collect;
 pub use laws::{
     crash_is_a_moment, moment_of_a_part, moment_of_now, moment_since_earlier, rose,
     synced_until_written,
 };
-pub use mem_site::MemSite;
-pub use mem_source::MemSource;
+pub use mem_site::{Crash, MemSite};
+pub use mem_source::{MemSource, SureSource};
 pub use site::Site;
-pub use source::{Failed, Source};
+pub use source::{Failed, Source, collect};
 pub use std_source::StdSource;
-pub use sure_source::SureSource;

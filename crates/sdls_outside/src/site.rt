@@ -1,11 +1,14 @@
 // The disk and the sink.
+// The calls of `put` that failed.
 ghost use Rattle.std.specs.Prelude.{◌≡◌, ℕ, ◌+◌, ◌≤◌, Bool, IsTrue, IfOk, OnOk, length, take, drop};
 ghost use Rattle.sdls_outside.specs.Faults.{HasCause};
 ghost use Rattle.sdls_outside.specs.Disk.{Leaves};
 ghost use Rattle.sdls_outside.specs.Moments.{Trace};
 ghost use Rattle.sdls_outside.specs.Site.{Writes, Syncs, Puts, after_put};
+ghost use Rattle.sdls_outside.specs.PutFaults.{count_of};
 
 use crate::Failed;
+use std::snapshot::Snapshot;
 
 /// One image on a disk and one sink, in one object, so that clauses speak of the moments of both together.
 /// They know what the two hold only if `told` holds. Each call but `faults` answers `Failed` only if
@@ -70,4 +73,23 @@ pub trait Site {
 
     /// Law: the image as it reads is one that a crash may leave.
     ghost image_may_stay: { (site : Self) → IsTrue told → Leaves (trace site).now (trace site).now.image };
+}
+
+// How many calls of `put` have failed, for clauses alone. It has no greatest value: it has a snapshot of the count
+// before.
+#[derive(Drop)]
+pub enum PutFaults {
+    Zero,
+    OneMore(Snapshot<PutFaults>),
+    Same(Snapshot<PutFaults>),
+}
+
+// The count once a put has ended so.
+pub fn noted(count: &PutFaults, put: &Result<(), Failed>) -> PutFaults
+    ensures { count_of result ≡ after_put put.now (count_of count.now) }
+{
+    match put {
+        Ok(()) => PutFaults::Same(Snapshot::of(count)),
+        Err(Failed) => PutFaults::OneMore(Snapshot::of(count)),
+    }
 }

@@ -1,7 +1,9 @@
 // Where input comes from.
-ghost use Rattle.std.specs.Prelude.{◌≡◌, ℕ, List, Bool, IsTrue, IfOk, OnErr};
+// Octets taken from a source, as many as there is room for.
+ghost use Rattle.std.specs.Prelude.{◌≡◌, ℕ, List, Bool, IsTrue, IfOk, OnErr, ◌≤◌, length};
 ghost use Rattle.sdls_outside.specs.Faults.{HasCause};
 ghost use Rattle.sdls_outside.specs.Source.{FillsFront, Takes};
+ghost use Rattle.sdls_outside.specs.Intake.{Collects, TakesAtMost, TakesFewer};
 
 use thiserror::Error;
 
@@ -36,4 +38,23 @@ pub trait Source {
     /// The count of faults.
     fn faults(&self) -> u64
         ensures { result ≡ faults self.now };
+}
+
+/// Takes octets until the buffer is full or the input ends, and answers how many.
+pub fn collect<S: Source>(source: &mut S, buffer: &mut [u8]) -> Result<usize, Failed>
+    ensures within { IfOk result (λ count. count ≤ length buffer.new) }
+    ensures collected { IsTrue S.told → IfOk result (Collects (S.left source.old) (S.left source.new) buffer.new) }
+    ensures bounded { IsTrue S.told → TakesAtMost (length buffer.old) (S.left source.old) (S.left source.new) }
+    ensures short { OnErr result (TakesFewer S.told (length buffer.old) (S.left source.old) (S.left source.new)) }
+    ensures cause { HasCause (S.faults source.old) (S.faults source.new) result }
+{
+    let mut filled = 0;
+    while filled < buffer.len() {
+        match source.take(&mut buffer[filled..]) {
+            Ok(0) => return Ok(filled),
+            Ok(count) => filled += count,
+            Err(Failed) => return Err(Failed),
+        }
+    }
+    Ok(filled)
 }

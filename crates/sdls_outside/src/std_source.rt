@@ -3,7 +3,7 @@ ghost use Rattle.std.specs.Prelude.{◌≡◌, ◌≤◌, [], false, IfOk, OnErr
 ghost use Rattle.sdls_outside.specs.Source.{FillsFront};
 ghost use Rattle.sdls_outside.specs.Faults.{HasCause};
 
-use crate::edge::counted;
+use crate::calls::counted;
 use crate::{Failed, Source};
 use std::io::{Read, Stdin};
 

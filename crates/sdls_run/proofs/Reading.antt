@@ -11,9 +11,9 @@ use Rattle.run_promise.specs.Call.{CallSeen, ShowsAtEntry, image_at_entry}
 use Rattle.run_promise.specs.Life.{no_account}
 use Rattle.run_promise.specs.Sound.{SoundMoment}
 use Rattle.law_runs.specs.Reads.{IsRead, ReadsAlone, ReadsSoundly}
-use Rattle.command_words.specs.declared.command.Command.{Command}
-use Rattle.command_words.specs.declared.command.Command.TheVariants.{Check, Init, Stat, Run, Audit, Drill, LinkDrill}
-use Rattle.command_words.specs.declared.command.Command.TheVariants.{Usage}
+use Rattle.command_words.specs.declared.reading.Command.{Command}
+use Rattle.command_words.specs.declared.reading.Command.TheVariants.{Check, Init, Stat, Run, Audit, Drill, LinkDrill}
+use Rattle.command_words.specs.declared.reading.Command.TheVariants.{Usage}
 use Rattle.cli_image.proofs.Sinking.{is_there, sinks_leave}
 use Rattle.cli_image.specs.Stat.{EndsStat, StatMoment}
 

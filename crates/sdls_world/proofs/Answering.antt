@@ -3,8 +3,8 @@ use Rattle.std.proofs.Common.{◌≡◌, ℕ, ◌+◌, ◌<◌, ◌≤◌, max, 
 use Rattle.std.proofs.Common.{sym, refl, ap, ◌∙◌, arith, Some, slice_get}
 use Rattle.std.proofs.lemmas.Bool.Decides.{nat_tests}
 use Rattle.sdls_base.specs.KeyId.{end_of}
-use Rattle.sdls_world.specs.declared.key.Key.{Key}
-use Rattle.sdls_world.specs.declared.step.Step.TheVariants.{Arm, Draw, Peek, Spend, Write, Lift, RaiseNext}
+use Rattle.sdls_world.specs.declared.world.Key.{Key}
+use Rattle.sdls_world.specs.declared.world.Step.TheVariants.{Arm, Draw, Peek, Spend, Write, Lift, RaiseNext}
 use Rattle.sdls_world.specs.Core.{Doer, Core, key_of, doer_of, holds_turn, drawing, funding, spending, peek_step}
 use Rattle.sdls_world.specs.Core.{world_after}
 use Rattle.sdls_world.proofs.Places.{place_value, place_there}

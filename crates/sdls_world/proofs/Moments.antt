@@ -5,10 +5,10 @@ use Rattle.std.proofs.Common.{sym, refl, ap, ◌∙◌, subst, ⊎_elim, le_tran
 use Rattle.std.proofs.Common.{if◌then◌else◌, nat_lt, ◌==◌}
 use Rattle.std.proofs.lemmas.Bool.Decides.{nat_tests}
 use Rattle.sdls_base.specs.KeyId.{end_of}
-use Rattle.sdls_world.specs.declared.key.Key.{Key}
-use Rattle.sdls_world.specs.declared.step.Step.{Step}
-use Rattle.sdls_world.specs.declared.step.Step.TheVariants.{Arm, Draw, Peek, Spend, See, Take, Give, Write, Sync, Lift}
-use Rattle.sdls_world.specs.declared.step.Step.TheVariants.{RaiseNext, Turn, Crash}
+use Rattle.sdls_world.specs.declared.world.Key.{Key}
+use Rattle.sdls_world.specs.declared.world.Step.{Step}
+use Rattle.sdls_world.specs.declared.world.Step.TheVariants.{Arm, Draw, Peek, Spend, See, Take, Give, Write, Sync, Lift}
+use Rattle.sdls_world.specs.declared.world.Step.TheVariants.{RaiseNext, Turn, Crash}
 use Rattle.sdls_world.specs.Core.{Doer, idle, Core, key_of, doer_of, on_found, holds_turn, drawing, funding, spending}
 use Rattle.sdls_world.specs.Core.{arm_found, arm_step, draw_at, draw_step, peek_at, peek_step, spend_step, take_step}
 use Rattle.sdls_world.specs.Core.{write_step, lift_step, raise_step, synced, restarted, world_after, world_after_all}

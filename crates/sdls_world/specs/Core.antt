@@ -3,10 +3,10 @@
 use Rattle.std.specs.Prelude.{ℕ, suc, ◌+◌, ◌==◌, ◌&&◌, max, nat_lt, nat_le, Bool, true, false, List, [], ◌∷◌, ◌++◌, map}
 use Rattle.std.specs.Prelude.{Option, Some, None, slice_get, slice_set, if◌then◌else◌}
 use Rattle.sdls_base.specs.KeyId.{end_of}
-use Rattle.sdls_world.specs.declared.key.Key.{Key}
-use Rattle.sdls_world.specs.declared.step.Step.{Step}
-use Rattle.sdls_world.specs.declared.step.Step.TheVariants.{Arm, Draw, Peek, Spend, See, Take, Give, Write, Sync, Lift}
-use Rattle.sdls_world.specs.declared.step.Step.TheVariants.{RaiseNext, Turn, Crash}
+use Rattle.sdls_world.specs.declared.world.Key.{Key}
+use Rattle.sdls_world.specs.declared.world.Step.{Step}
+use Rattle.sdls_world.specs.declared.world.Step.TheVariants.{Arm, Draw, Peek, Spend, See, Take, Give, Write, Sync, Lift}
+use Rattle.sdls_world.specs.declared.world.Step.TheVariants.{RaiseNext, Turn, Crash}
 
 -- an actor: the row that it is armed for, the number that it drew last, until it is used, and whether that one is
 -- funded; and the numbers that it drew, that were funded and that it used since the words began

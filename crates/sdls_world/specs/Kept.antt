@@ -1,7 +1,7 @@
 -- Profile: what holds of the pure core at every moment.
 use Rattle.std.specs.Prelude.{◌≡◌, ℕ, ◌+◌, ◌-◌, ◌<◌, ◌≤◌, ◌==◌, ◌&&◌, true, Option, Some, None, slice_get}
 use Rattle.sdls_base.specs.Numbers.{one_if, tally, total, once_below}
-use Rattle.sdls_world.specs.declared.key.Key.{Key}
+use Rattle.sdls_world.specs.declared.world.Key.{Key}
 use Rattle.sdls_world.specs.Core.{Doer, Core}
 
 -- 1 where the number drawn last is x of the row

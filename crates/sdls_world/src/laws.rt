@@ -1,8 +1,8 @@
 //! What holds over all lists of steps.
 ghost use Rattle.std.specs.Prelude.{◌<◌, ◌≤◌, ℕ, List, length};
-ghost use Rattle.sdls_world.specs.declared.step.Step.{Step};
-ghost use Rattle.sdls_world.specs.Core.{Core, world_after_all, beginning};
 ghost use Rattle.sdls_base.specs.Numbers.{tally};
+ghost use Rattle.sdls_world.specs.declared.world.Step.{Step};
+ghost use Rattle.sdls_world.specs.Core.{Core, world_after_all, beginning};
 ghost use Rattle.sdls_world.specs.Kept.{IsWorldKept};
 
 /// Law: what holds of the core at the beginning, and is kept by each step, holds after every list of steps.

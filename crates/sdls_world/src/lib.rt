@@ -7,12 +7,8 @@
 #![tactic(auto)]
 
 mod actor;
-mod key;
 mod laws;
-mod step;
 mod world;
 
-pub use key::Key;
 pub use laws::{kept_always, used_once};
-pub use step::Step;
-pub use world::World;
+pub use world::{Key, Step, World};

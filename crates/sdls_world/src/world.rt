@@ -1,17 +1,14 @@
 //! The world: words, actors, marks and the used pairs, and its steps.
-ghost use Rattle.std.specs.Prelude.{◌≡◌, ◌≢◌, ◌<◌, ◌≤◌, ℕ, None, Some, OnOk, OnErr, IfOk, IfSome, MatchOption, length};
-ghost use Rattle.std.specs.Prelude.{map, take, slice_get};
+ghost use Rattle.std.specs.Prelude.{◌≡◌, ◌≢◌, ◌<◌, ◌≤◌, ℕ, None, Some, OnOk, OnErr, IfOk, IfSome, MatchOption};
+ghost use Rattle.std.specs.Prelude.{length, map, take, slice_get};
 ghost use Rattle.sdls_base.specs.KeyId.{end_of};
-ghost use Rattle.sdls_world.specs.declared.step.Step.TheVariants.{Arm, Draw, Peek, Spend, See, Take, Give, Write, Sync};
-ghost use Rattle.sdls_world.specs.declared.step.Step.TheVariants.{Lift, RaiseNext, Turn, Crash};
+ghost use Rattle.sdls_world.specs.declared.world.Step.TheVariants.{Arm, Draw, Peek, Spend, See, Take, Give, Write};
+ghost use Rattle.sdls_world.specs.declared.world.Step.TheVariants.{Sync, Lift, RaiseNext, Turn, Crash};
 ghost use Rattle.sdls_world.specs.Core.{key_of, doer_of, holds_turn, world_after, world_after_all, begun, beginning};
-ghost use Rattle.sdls_world.specs.Core.{synced};
-ghost use Rattle.sdls_world.specs.Core.{restarted};
+ghost use Rattle.sdls_world.specs.Core.{synced, restarted};
 ghost use Rattle.sdls_world.specs.Kept.{IsWorldKept};
 
 use crate::actor::Actor;
-use crate::key::Key;
-use crate::step::Step;
 use sdls_base::{KeyId, NoMemory};
 use std::alloc::{AllocError, Global};
 use std::marker::Model;
@@ -387,4 +384,45 @@ fn first_keys(alloc: Global, keys: &[(KeyId, u64)]) -> Result<Vec<Key>, AllocErr
     ensures { IfOk result (λ rows. rows.items ≡ map begun keys.now) }
 {
     keys.iter().map(|k| first_key(k.0, k.1)).collect(alloc)
+}
+
+/// One atomic step.
+#[derive(Clone, Copy, Debug, PartialEq, Eq)]
+pub enum Step {
+    /// Open where the key's `next` is below its end. The actor is then armed for this key alone.
+    Arm { actor: u64, key: KeyId },
+    /// Open to an armed actor, which takes `next`.
+    Draw { actor: u64 },
+    /// Open where the number drawn last is neither funded nor used. It is funded where it is below `limit`.
+    Peek { actor: u64 },
+    /// Open where the number drawn last is funded and not used. It joins the used pairs.
+    Spend { actor: u64 },
+    /// The epoch is looked at.
+    See { actor: u64 },
+    /// Open where nobody holds the turn.
+    Take { actor: u64 },
+    /// The holder gives the turn back. The steps after this one, but `Crash`, are open to the holder alone too.
+    Give { actor: u64 },
+    /// The book's mark becomes this one, which is not below it and at most the key's end.
+    Write { actor: u64, key: KeyId, mark: u64 },
+    /// The book's marks become durable.
+    Sync { actor: u64 },
+    /// The key's `limit` becomes its durable mark, where that is above.
+    Lift { actor: u64, key: KeyId },
+    /// The key's `next` becomes the number, where that is above. The number is at most the key's end.
+    RaiseNext { actor: u64, key: KeyId, number: u64 },
+    /// The epoch goes on by one, and stays at 2^64 - 1.
+    Turn { actor: u64 },
+    /// All is lost but the durable marks and the used pairs.
+    Crash,
+}
+
+/// What the core has of a key: its words `next` and `limit`, the book's mark, and the mark that was last synced.
+#[derive(Clone, Copy, Debug, PartialEq, Eq)]
+pub struct Key {
+    pub id: KeyId,
+    pub next: u64,
+    pub limit: u64,
+    pub mark: u64,
+    pub durable: u64,
 }

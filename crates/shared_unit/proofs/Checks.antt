@@ -6,7 +6,7 @@ use Rattle.sdls_base.specs.FirstFailing.{first_failing}
 use Rattle.sdls_base.specs.declared.layout.FrameFault.{FrameFault}
 use Rattle.sdls_base.specs.declared.link.Link.{Link}
 use Rattle.key_book.specs.declared.key_row.KeyRow.{KeyRow}
-use Rattle.sa_book.specs.declared.sa_row.SaRow.{SaRow}
+use Rattle.sa_book.specs.declared.sa_book.SaRow.{SaRow}
 use Rattle.sa_book.specs.SaBook.{sender_on}
 use Rattle.unit_plan.specs.PlanLines.{PlanLines, link_of}
 use Rattle.unit_state.specs.declared.state.State.{State}

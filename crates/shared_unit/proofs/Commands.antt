@@ -8,9 +8,9 @@ use Rattle.sdls_base.specs.declared.entry.Seen.TheVariants as sights
 use Rattle.key_book.specs.declared.key_row.KeyRow.{KeyRow}
 use Rattle.unit_state.specs.State.{key_row}
 use Rattle.unit_state.specs.Restart.{counts, still}
-use Rattle.ep_core.specs.declared.need.Need.{Need}
-use Rattle.ep_core.specs.declared.need.Need.TheVariants as needs
-use Rattle.ep_core.specs.declared.reply.Reply.{Reply}
+use Rattle.ep_core.specs.declared.judging.Need.{Need}
+use Rattle.ep_core.specs.declared.judging.Need.TheVariants as needs
+use Rattle.ep_core.specs.declared.refusal.Reply.{Reply}
 use Rattle.ep_core.specs.Seen.{MeetsNeed}
 use Rattle.counter_table.specs.declared.view.Known.{Known}
 use Rattle.counter_table.specs.declared.view.Numbers.{Numbers}

@@ -4,9 +4,9 @@ use Rattle.sdls_base.specs.KeyId.{end_of}
 use Rattle.sdls_base.specs.declared.entry.Seen.{Seen}
 use Rattle.sdls_base.specs.declared.entry.Seen.TheVariants as sights
 use Rattle.key_book.specs.KeyBook.{place_of}
-use Rattle.ep_core.specs.declared.need.Need.{Need}
-use Rattle.ep_core.specs.declared.need.Need.TheVariants as needs
-use Rattle.ep_core.specs.declared.reply.Reply.{Reply}
+use Rattle.ep_core.specs.declared.judging.Need.{Need}
+use Rattle.ep_core.specs.declared.judging.Need.TheVariants as needs
+use Rattle.ep_core.specs.declared.refusal.Reply.{Reply}
 use Rattle.counter_table.specs.declared.view.Numbers.{Numbers}
 use Rattle.counter_table.specs.declared.view.Turn.{Turn}
 use Rattle.counter_table.specs.declared.view.View.{View}

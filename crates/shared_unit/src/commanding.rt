@@ -1,17 +1,17 @@
 //! Commands: the words are asked first, under the turn.
 ghost use Rattle.std.specs.Prelude.{◌≡◌, ◌⊎◌, ◌<◌, ◌+◌, ℕ, Some, true};
 ghost use Rattle.key_book.specs.KeyBook.{place_of};
-ghost use Rattle.ep_core.specs.declared.need.Need.TheVariants as needs;
-ghost use Rattle.counter_table.specs.Known.{LowersNoMark};
-ghost use Rattle.counter_table.specs.Worker.{view, IsSame, IsOf, KeepsNumbers};
 ghost use Rattle.unit_book.specs.Book.{BookView, IsKept};
 ghost use Rattle.unit_book.specs.Needs.{NamesKey};
+ghost use Rattle.counter_table.specs.Known.{LowersNoMark};
+ghost use Rattle.counter_table.specs.Worker.{view, IsSame, IsOf, KeepsNumbers};
 ghost use Rattle.shared_unit.specs.Calls.{WithPosition};
 ghost use Rattle.shared_unit.specs.Commanding.{IsCommanded, IsSeen, knowing};
 ghost use Rattle.shared_unit.specs.Going.{GoesUp};
 ghost use Rattle.shared_unit.specs.Sharing.{KnowsHeld};
 ghost use Rattle.shared_unit.specs.Told.{known_of_book};
 ghost use Rattle.shared_unit.specs.Turn.{FindsCovered, IsReady, Visits};
+ghost use Rattle.ep_core.specs.declared.judging.Need.{TheVariants as needs};
 
 use crate::shared_book::SharedBook;
 use crate::unit::{Unit, Worker};

@@ -12,22 +12,14 @@
 //! book says (crate `unit_book`).
 #![tactic(auto)]
 
-mod calls;
 mod commanding;
-mod funding;
 mod opening_frames;
-mod opening_image;
 mod permit;
-mod permitting;
 mod protecting;
-mod ready;
 mod shared_book;
-mod sharing;
-mod under_turn;
 mod unit;
 
 pub use opening_frames::open_permits_stay;
-pub use permit::{Done, OpenPermit, Permit, PermitReply, Protected, Ready};
-pub use permitting::permits_stay;
+pub use permit::{Done, OpenPermit, Permit, PermitReply, Protected, Ready, permits_stay};
 pub use shared_book::SharedBook;
 pub use unit::{Unit, Worker};

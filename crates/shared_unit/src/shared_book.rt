@@ -3,22 +3,22 @@ ghost use Rattle.std.specs.Prelude.{◌≡◌, ◌<◌, ◌↔◌, ℕ, Ok, Some
 ghost use Rattle.std.specs.Prelude.{length};
 ghost use Rattle.sdls_base.specs.KeyId.{end_of};
 ghost use Rattle.sdls_base.specs.declared.TheConstants.{MOST_KEYS};
+ghost use Rattle.frame_shield.specs.Binding.{IsBinding};
 ghost use Rattle.key_book.specs.KeyBook.{place_of};
 ghost use Rattle.unit_state.specs.State.{key_row};
-ghost use Rattle.frame_shield.specs.Binding.{IsBinding};
 ghost use Rattle.frame_checks.specs.Accepting.{LeavesOctets, field_in};
 ghost use Rattle.frame_checks.specs.ProtectingFrames.{IsSentClear, channel_check, protect_check, without_channel};
 ghost use Rattle.frame_checks.specs.Trying.{IsOpener, IsTried};
-ghost use Rattle.ep_core.specs.declared.need.Need.{Need};
-ghost use Rattle.ep_core.specs.Seen.{MeetsNeed};
 ghost use Rattle.run_promise.specs.Log.{entries_of};
+ghost use Rattle.run_promise.specs.History.{IsNeedOf};
 ghost use Rattle.unit_book.specs.Book.{IsKept};
 ghost use Rattle.unit_book.specs.Records.{Handles, OpensWithEntry, RefusesFrame, RefusesMessage};
-ghost use Rattle.run_promise.specs.History.{IsNeedOf};
 ghost use Rattle.shared_unit.specs.Calls.{IsPut};
 ghost use Rattle.shared_unit.specs.Funding.{Reserves};
 ghost use Rattle.shared_unit.specs.Going.{GoesUp};
 ghost use Rattle.shared_unit.specs.Told.{known_of_book};
+ghost use Rattle.ep_core.specs.declared.judging.Need.{Need};
+ghost use Rattle.ep_core.specs.Seen.{MeetsNeed};
 
 use counter_table::Counted;
 use ep_core::{Need, Reply};

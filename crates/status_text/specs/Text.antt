@@ -8,7 +8,7 @@ use Rattle.sdls_base.specs.declared.states.Suite.{Suite}
 use Rattle.text_words.specs.Words.{direction_word, key_state_word, sa_state_word, suite_word}
 use Rattle.key_book.specs.declared.key_row.KeyRow.{KeyRow}
 use Rattle.key_book.specs.KeyBook.{row_of}
-use Rattle.sa_book.specs.declared.sa_row.SaRow.{SaRow}
+use Rattle.sa_book.specs.declared.sa_book.SaRow.{SaRow}
 use Rattle.unit_state.specs.declared.state.State.{State}
 
 -- so many slots of the image are used, of so many

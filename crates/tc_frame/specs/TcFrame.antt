@@ -5,7 +5,7 @@ use Rattle.std.specs.Option.{option_to_list}
 use Rattle.sdls_base.specs.declared.layout.TcLayout.{TcLayout}
 use Rattle.sdls_base.specs.Fields.{Field, bit, packed}
 use Rattle.sdls_base.specs.ErrorControl.{with_error_control, error_control_length}
-use Rattle.tc_frame.specs.declared.parts.Parts.{Parts}
+use Rattle.tc_frame.specs.declared.frame.Parts.{Parts}
 
 -- the parts of a frame, apart from where they lie in memory
 pub record TcParts : Type 0 where

@@ -4,12 +4,9 @@
 //! security header, the data and the security trailer stand in the room behind the prefix.
 #![tactic(auto)]
 
-mod header;
-mod parts;
-mod reading;
-mod writing;
+mod frame;
 
-pub use header::{is_control, lacks_header, map_of, put_prefix, spacecraft_of, virtual_channel_of};
-pub use parts::Parts;
-pub use reading::{fault_of, read, take_apart};
-pub use writing::write;
+pub use frame::{
+    Parts, fault_of, is_control, lacks_header, map_of, put_prefix, read, spacecraft_of, take_apart,
+    virtual_channel_of, write,
+};

@@ -10,7 +10,7 @@ use Rattle.text_streams.specs.Spelling.{Spells, SpellsAll, seen_item}
 use Rattle.text_streams.specs.declared.ends.End.{End}
 use Rattle.text_streams.specs.declared.ends.End.TheVariants.{Done, LineFault, LongLine, CutAnswer, NoAnswer, NoItem}
 use Rattle.text_streams.specs.declared.ends.End.TheVariants.{SourceFault, OutputFault, NoMemory}
-use Rattle.record_io.specs.declared.heads.ItemHead.{ItemHead}
+use Rattle.record_io.specs.declared.reader.ItemHead.{ItemHead}
 use Rattle.record_io.specs.declared.item_cursor.FoundItem.{FoundItem}
 use Rattle.record_io.specs.declared.item_cursor.NextItem.{NextItem}
 use Rattle.record_io.specs.declared.item_cursor.NextItem.TheVariants as nexts

@@ -10,7 +10,7 @@ use Rattle.input_text.specs.declared.asked.Asked.TheVariants as asks
 use Rattle.input_text.specs.Monitor.{IsAsked, asked_words}
 use Rattle.std.proofs.lemmas.Bool.Decides.{nat_tests}
 use Rattle.std.proofs.lemmas.List.{append-nil}
-use Rattle.record_io.specs.declared.kinds.TheConstants.{LANES}
+use Rattle.record_io.specs.declared.reader.TheConstants.{LANES}
 use Rattle.sdls_base.specs.declared.states.Direction.{Direction}
 use Rattle.sdls_base.specs.declared.states.Direction.TheVariants.{Send, Receive}
 use Rattle.sdls_base.specs.declared.states.Suite.{Suite}

@@ -6,7 +6,7 @@ use Rattle.record_io.specs.Answers.{Cut, EndsWith, answers_octets}
 use Rattle.answer_text.specs.declared.listing.AnswersEnd.{AnswersEnd}
 use Rattle.answer_text.specs.declared.listing.AnswersEnd.TheVariants as ends
 use Rattle.answer_text.specs.declared.listing.AnswersEnd.TheVariants.{Whole, CutAt, NoAnswerAt}
-use Rattle.record_io.specs.declared.answer_cursor.NextAnswer.TheVariants as next
+use Rattle.record_io.specs.declared.answers.NextAnswer.TheVariants as next
 use Rattle.record_io.specs.NextAnswer.{Stands}
 use Rattle.answer_text.specs.declared.form.Form.{Form}
 use Rattle.answer_text.specs.Line.{HasLine}

@@ -5,7 +5,7 @@ ghost use Rattle.std.specs.Prelude.{◌≡◌, [], IfOk, OnOk};
 ghost use Rattle.hex.specs.Hex.{IsBytes};
 ghost use Rattle.input_text.specs.declared.line.Line.TheVariants as lines;
 ghost use Rattle.input_text.specs.Line.{IsLine, line_item};
-ghost use Rattle.record_io.specs.declared.kinds.ItemKind.TheVariants.{Fence};
+ghost use Rattle.record_io.specs.declared.reader.ItemKind.TheVariants.{Fence};
 ghost use Rattle.record_io.specs.Input.{IsItem};
 ghost use Rattle.record_io.specs.Steps.{item_of};
 ghost use Rattle.input_text.specs.Monitor.{AreAsked, IsAsked, asked_octets};

@@ -8,9 +8,9 @@ use Rattle.ep_codec.specs.declared.procedure.Procedure.TheVariants.{Rekeying, Ac
 use Rattle.ep_codec.specs.declared.procedure.Procedure.TheVariants.{Inventory, Compose, ReadNumber, Create, Delete}
 use Rattle.ep_codec.specs.declared.procedure.Procedure.TheVariants.{SetWindow, Rekey, Expire, SetNumber, Start, Stop}
 use Rattle.ep_codec.specs.declared.procedure.Procedure.TheVariants.{Status}
-use Rattle.record_io.specs.declared.kinds.ItemKind.{ItemKind}
-use Rattle.record_io.specs.declared.kinds.ItemKind.TheVariants.{Fence, Recorded}
-use Rattle.record_io.specs.declared.kinds.RecordKind.TheVariants as records
+use Rattle.record_io.specs.declared.reader.ItemKind.{ItemKind}
+use Rattle.record_io.specs.declared.reader.ItemKind.TheVariants.{Fence, Recorded}
+use Rattle.record_io.specs.declared.reader.RecordKind.TheVariants as records
 use Rattle.text_words.specs.declared.names.MessageName.{MessageName}
 use Rattle.text_words.specs.declared.names.MessageName.TheVariants as messages
 

@@ -5,7 +5,7 @@ use Rattle.sdls_base.specs.declared.layout.TmLayout.{TmLayout}
 use Rattle.sdls_base.specs.ControlField.{IsControlField}
 use Rattle.sdls_base.specs.Fields.{Field, bit, packed}
 use Rattle.sdls_base.specs.ErrorControl.{with_error_control}
-use Rattle.tm_frame.specs.declared.parts.Parts.{Parts}
+use Rattle.tm_frame.specs.declared.frame.Parts.{Parts}
 
 -- the parts of a frame, apart from where they lie in memory
 pub record TmParts : Type 0 where

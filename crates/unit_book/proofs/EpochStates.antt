@@ -5,15 +5,15 @@ use Rattle.std.specs.List.{position_or_len}
 use Rattle.std.specs.Option.{option_map, option_and_then}
 use Rattle.std.proofs.lemmas.List.{take-append-drop, length-map}
 use Rattle.std.proofs.lemmas.Option.{same_Some}
-use Rattle.sdls_base.specs.declared.change.Change.{Change}
-use Rattle.sdls_base.specs.declared.change.Change.TheVariants.{Marks, Load, KeyStates, Create, Rekey, SaTo, SetNumber}
-use Rattle.sdls_base.specs.declared.change.Change.TheVariants.{SetWindow, Accepted, Nothing}
+use Rattle.sdls_base.specs.declared.entry.Change.{Change}
+use Rattle.sdls_base.specs.declared.entry.Change.TheVariants.{Marks, Load, KeyStates, Create, Rekey, SaTo, SetNumber}
+use Rattle.sdls_base.specs.declared.entry.Change.TheVariants.{SetWindow, Accepted, Nothing}
 use Rattle.sdls_base.specs.declared.entry.Entry.{Entry}
 use Rattle.sdls_base.specs.declared.link.Link.{Link}
 use Rattle.sdls_base.specs.declared.states.Suite.{Suite}
 use Rattle.key_book.specs.declared.key_row.KeyRow.{KeyRow}
 use Rattle.key_book.specs.KeyBook.{place_of}
-use Rattle.sa_book.specs.declared.sa_row.SaRow.{SaRow}
+use Rattle.sa_book.specs.declared.sa_book.SaRow.{SaRow}
 use Rattle.sa_book.specs.SaBook.{sender_on}
 use Rattle.unit_plan.specs.PlanLines.{PlanLines}
 use Rattle.unit_state.specs.declared.state.State.{State}
@@ -27,7 +27,7 @@ use Rattle.unit_state.proofs.StateLaws.{light_still, serves_alike}
 use Rattle.frame_shield.specs.declared.binding.Binding.{Binding}
 use Rattle.frame_checks.specs.Binding.{binding_of}
 use Rattle.frame_checks.proofs.Alike.{checks_alike}
-use Rattle.ep_core.specs.declared.need.Need.{Need}
+use Rattle.ep_core.specs.declared.judging.Need.{Need}
 use Rattle.ep_core.proofs.NeedsAlike.{same_need}
 use Rattle.run_promise.specs.History.{IsNeedOf}
 use Rattle.unit_book.specs.Epoch.{ServesAlike}

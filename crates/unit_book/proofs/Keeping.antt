@@ -2,7 +2,7 @@
 use Rattle.std.proofs.Common.{◌≡◌, ℕ, ◌+◌, ◌<◌, ◌≤◌, ◌⊎◌, Bool, IsTrue, true, false, if◌then◌else◌, List, [], ◌∷◌, ◌++◌}
 use Rattle.std.proofs.Common.{length, take, Ok, Err, sym, ◌∙◌, ap, subst, inl, inr, arith, length-append}
 use Rattle.std.proofs.lemmas.List.{take_all, take-append-le}
-use Rattle.sdls_base.specs.declared.change.Change.{Change}
+use Rattle.sdls_base.specs.declared.entry.Change.{Change}
 use Rattle.sdls_base.specs.declared.entry.Entry.{Entry}
 use Rattle.sdls_base.specs.declared.entry.Logged.{Logged}
 use Rattle.sdls_base.specs.declared.entry.Logged.TheVariants as logged
@@ -21,7 +21,7 @@ use Rattle.unit_image.specs.Storing.{KeepsPlaces, LeavesRest, LeavesRestImage, S
 use Rattle.unit_image.specs.declared.storing.SiteFault.{SiteFault}
 use Rattle.unit_image.proofs.Outside.{beside_then}
 use Rattle.run_promise.specs.Call.{SiteSeen}
-use Rattle.run_promise.specs.declared.limits.TheConstants.{MOST_ENTRIES}
+use Rattle.run_promise.specs.declared.end.TheConstants.{MOST_ENTRIES}
 use Rattle.run_promise.specs.Log.{entries_of}
 use Rattle.run_promise.specs.Sound.{HasPlan}
 use Rattle.unit_book.specs.Log.{sunk_between}

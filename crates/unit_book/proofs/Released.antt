@@ -9,11 +9,11 @@ use Rattle.std.proofs.lemmas.List.{append_assoc, drop_more}
 use Rattle.std.proofs.lemmas.List.Elements.{All-head, All-tail}
 use Rattle.std.proofs.lemmas.Option.{none-some, same_Some}
 use Rattle.sdls_base.proofs.Searches.{find-map, left_out}
-use Rattle.sdls_base.specs.declared.change.Change.TheVariants.{Marks}
+use Rattle.sdls_base.specs.declared.entry.Change.TheVariants.{Marks}
 use Rattle.sdls_base.specs.declared.entry.Entry.{Entry}
 use Rattle.sdls_base.specs.declared.entry.Seen.TheVariants.{Word}
 use Rattle.key_book.specs.declared.key_row.KeyRow.{KeyRow}
-use Rattle.sa_book.specs.declared.sa_row.SaRow.{SaRow}
+use Rattle.sa_book.specs.declared.sa_book.SaRow.{SaRow}
 use Rattle.sa_book.specs.Numbers.{with_floor, lowered}
 use Rattle.sa_book.specs.SaRefusal.{receives_with, receiver_with}
 use Rattle.unit_state.specs.declared.state.State.{State}

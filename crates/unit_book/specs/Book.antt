@@ -1,7 +1,7 @@
 -- What a book is seen as, and what holds of it between its calls.
 use Rattle.std.specs.Prelude.{◌≡◌, ℕ, ◌+◌, ◌<◌, ◌≤◌, ◌⊎◌, min, Bool, IsTrue, if◌then◌else◌, List, [], ◌∷◌, ◌++◌, length}
 use Rattle.std.specs.Prelude.{take}
-use Rattle.sdls_base.specs.declared.change.Change.{Change}
+use Rattle.sdls_base.specs.declared.entry.Change.{Change}
 use Rattle.sdls_base.specs.declared.entry.Entry.{Entry}
 use Rattle.sdls_base.specs.declared.entry.Logged.{Logged}
 use Rattle.sdls_base.specs.declared.entry.Logged.TheVariants as logged
@@ -19,9 +19,9 @@ use Rattle.unit_state.specs.History.{after_all, after_first, epoch_after}
 use Rattle.unit_image.specs.Shows.{Shows}
 use Rattle.unit_book.specs.declared.fault.BookFault.{BookFault}
 use Rattle.unit_book.specs.declared.fault.BookFault.TheVariants.{SiteFault, Stopped, SessionFull, NoMemory}
-use Rattle.run_promise.specs.declared.limits.TheConstants.{MOST_ENTRIES}
-use Rattle.unit_book.specs.declared.next.Next.{Next}
-use Rattle.unit_book.specs.declared.next.Next.TheVariants.{Here, Then}
+use Rattle.run_promise.specs.declared.end.TheConstants.{MOST_ENTRIES}
+use Rattle.unit_book.specs.declared.book.Next.{Next}
+use Rattle.unit_book.specs.declared.book.Next.TheVariants.{Here, Then}
 use Rattle.run_promise.specs.Log.{entries_of, pieces_of, IsStored}
 use Rattle.run_promise.specs.Sound.{HasPlan, ShowsAfter}
 use Rattle.run_promise.specs.Call.{SiteSeen}

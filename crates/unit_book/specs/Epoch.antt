@@ -14,7 +14,7 @@ use Rattle.unit_state.specs.History.{at_epoch}
 use Rattle.frame_shield.specs.declared.binding.Binding.{Binding}
 use Rattle.frame_checks.specs.Binding.{binding_of}
 use Rattle.frame_checks.specs.ProtectingFrames.{protect_check}
-use Rattle.ep_core.specs.declared.need.Need.{Need}
+use Rattle.ep_core.specs.declared.judging.Need.{Need}
 use Rattle.run_promise.specs.Log.{entries_of}
 use Rattle.run_promise.specs.Numbers.{mark_at, mark_of}
 use Rattle.unit_book.specs.Marks.{highest_mark}

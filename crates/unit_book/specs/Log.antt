@@ -3,7 +3,7 @@ use Rattle.std.specs.Prelude.{ℕ, List, [], ◌∷◌, ◌++◌, length, drop}
 use Rattle.sdls_base.specs.declared.entry.Logged.{Logged}
 use Rattle.sdls_base.specs.declared.entry.Logged.TheVariants as logged
 use Rattle.sdls_outside.specs.Moments.{Trace}
-use Rattle.unit_book.specs.declared.log.Log.{Log, Begun, Entered', Put'}
+use Rattle.unit_book.specs.declared.opening_image.Log.{Log, Begun, Entered', Put'}
 
 -- the octets that were sunk between two times of a site
 abbrev pub sunk_between : Trace → Trace → List ℕ

@@ -3,8 +3,8 @@ use Rattle.std.specs.Prelude.{⊤, ◌<◌, IsSome}
 use Rattle.sdls_base.specs.KeyId.{end_of}
 use Rattle.unit_state.specs.declared.state.State.{State}
 use Rattle.unit_state.specs.State.{key_row}
-use Rattle.ep_core.specs.declared.need.Need.{Need}
-use Rattle.ep_core.specs.declared.need.Need.TheVariants.{Nothing, Look, Raise, Number}
+use Rattle.ep_core.specs.declared.judging.Need.{Need}
+use Rattle.ep_core.specs.declared.judging.Need.TheVariants.{Nothing, Look, Raise, Number}
 
 -- the key that it names is there, and the number below the key's end
 abbrev pub NamesKey : State → Need → Type 0

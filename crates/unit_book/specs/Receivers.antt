@@ -1,8 +1,8 @@
 -- Which keys associations receive with (profile).
 use Rattle.std.specs.Prelude.{◌≡◌, ℕ, ◌%◌, Bool, true, false, List, None, slice_index_or}
-use Rattle.sa_book.specs.declared.sa_row.SaRow.{SaRow}
+use Rattle.sa_book.specs.declared.sa_book.SaRow.{SaRow}
 use Rattle.sa_book.specs.SaRefusal.{receives_with, receiver_with}
-use Rattle.unit_book.specs.declared.receivers.TheConstants.{PLACES}
+use Rattle.unit_book.specs.declared.accepting.TheConstants.{PLACES}
 
 -- the place of a key
 abbrev pub noted_at : ℕ → ℕ

@@ -1,12 +1,12 @@
 -- How a book handles frames and commands (CCSDS 355.0-B-2, ProcessSecurity; 355.1-B-1, procedures).
 use Rattle.std.specs.Prelude.{◌≡◌, ℕ, ◌⊎◌, List, [], ◌∷◌, ◌++◌}
-use Rattle.sdls_base.specs.declared.change.Change.{Change}
+use Rattle.sdls_base.specs.declared.entry.Change.{Change}
 use Rattle.sdls_base.specs.declared.entry.Entry.{Entry}
 use Rattle.sdls_base.specs.declared.entry.Logged.TheVariants as logged
 use Rattle.sdls_base.specs.declared.entry.Seen.{Seen}
-use Rattle.frame_checks.specs.declared.open_reply.OpenReply.{OpenReply}
+use Rattle.frame_checks.specs.declared.opening_frames.OpenReply.{OpenReply}
 use Rattle.frame_checks.specs.OpeningFrames.{IsOpenReply}
-use Rattle.ep_core.specs.declared.reply.Reply.{Reply}
+use Rattle.ep_core.specs.declared.refusal.Reply.{Reply}
 use Rattle.unit_image.specs.Storing.{Destroys}
 use Rattle.run_promise.specs.History.{frame_entry, record_entry, IsStepOf}
 use Rattle.unit_book.specs.declared.fault.BookFault.{BookFault}

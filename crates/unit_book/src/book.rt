@@ -1,24 +1,30 @@
 // The book.
-ghost use Rattle.std.specs.Prelude.{◌≡◌, ◌+◌, ◌<◌, ◌≤◌, ◌↔◌, IsTrue, MatchResult, IfErr, OnOk, Some, None, length, ◌∷◌};
-ghost use Rattle.std.specs.Prelude.{[], ◌++◌, false};
-ghost use Rattle.sdls_base.specs.declared.change.Change.{Change};
+// The reserve of numbers.
+// The state after an entry.
+// The state after an entry.
+ghost use Rattle.std.specs.Prelude.{◌≡◌, ◌+◌, ◌<◌, ◌≤◌, ◌↔◌, IsTrue, MatchResult, IfErr, OnOk, Some, None, length};
+ghost use Rattle.std.specs.Prelude.{◌∷◌, [], ◌++◌, false, ℕ, Ok, min, IsSome, if◌then◌else◌, MatchOption};
 ghost use Rattle.sdls_outside.specs.Faults.{Rose};
 ghost use Rattle.sdls_outside.specs.Site.{Puts, after_put};
 ghost use Rattle.unit_state.specs.Applied.{applied};
 ghost use Rattle.unit_state.specs.Allows.{Allows};
+ghost use Rattle.unit_state.specs.State.{key_row};
+ghost use Rattle.unit_state.specs.Restart.{counts};
 ghost use Rattle.run_promise.specs.Log.{entries_of};
+ghost use Rattle.run_promise.specs.Numbers.{mark_of, floor_of, reserve_of};
 ghost use Rattle.unit_book.specs.Log.{sunk_between};
 ghost use Rattle.unit_book.specs.Marks.{is_release, KeepsMarks};
-ghost use Rattle.unit_book.specs.Book.{IsKept, CanEnter, IsBarred, IsNextState, entered, left_out};
-ghost use Rattle.unit_book.specs.Book.{with_put, PutFails};
-ghost use Rattle.unit_book.specs.LeavesBook.{LeavesBook, MakesEntry, TellsRise};
+ghost use Rattle.unit_book.specs.Book.{IsKept, CanEnter, IsBarred, IsNextState, entered, left_out, with_put};
+ghost use Rattle.unit_book.specs.Book.{PutFails, Made, Refuses};
+ghost use Rattle.unit_book.specs.LeavesBook.{LeavesBook, MakesEntry, TellsRise, IsCalm};
+ghost use Rattle.unit_book.specs.declared.book.Next.{Next};
+ghost use Rattle.sdls_base.specs.declared.entry.Change.{Change};
+ghost use Rattle.sdls_base.specs.KeyId.{end_of};
 
-use crate::applying::{changes_of, put_next};
 use crate::fault::BookFault;
-use crate::log::{Log, with_entry, with_piece};
-use crate::next::Next;
+use crate::opening_image::{Log, with_entry, with_piece};
 use run_promise::MOST_ENTRIES;
-use sdls_base::Entry;
+use sdls_base::{Change, Entry, KeyId, Seen};
 use sdls_outside::{Failed, Site};
 use std::marker::Model;
 use std::snapshot::Snapshot;
@@ -50,7 +56,7 @@ impl<O: Site> Model for Book<O> {
     ghost use Rattle.run_promise.specs.Log.{entries_of};
     ghost use Rattle.run_promise.specs.Call.{site_seen};
     ghost use Rattle.unit_book.specs.Log.{lines};
-    ghost use Rattle.run_promise.specs.declared.limits.TheConstants.{MOST_ENTRIES};
+    ghost use Rattle.run_promise.specs.declared.end.TheConstants.{MOST_ENTRIES};
     ghost use Rattle.sdls_base.specs.declared.version.TheConstants.{CONTENT_LENGTH_TWO};
     ghost use Rattle.unit_image.specs.Image.{IsOfTwo};
     ghost use Rattle.unit_book.specs.Book.{BookView};
@@ -195,6 +201,107 @@ impl<O: Site> Book<O> {
         match result {
             Ok(()) => Ok(()),
             Err(Failed) => Err(BookFault::SiteFault(self.site.faults())),
+        }
+    }
+}
+
+impl<O: Site> Book<O> {
+    /// The entry that reserves a number.
+    fn reserve_entry(&self, key: KeyId, number: u64) -> Entry
+        requires { IsSome (key_row self.now.state key) }
+        ensures entry { result ≡ reserve_of self.entry.now.plan self.entry.now.state key number }
+        ensures block { 1 ≤ self.entry.now.plan.block }
+    {
+        let floor = self.state.keys.receive_floor(key).unwrap_or(0);
+        Entry {
+            index: None,
+            seen: Seen::Number(number),
+            change: Change::Marks {
+                key,
+                mark: number.saturating_add(self.plan.block()).min(key.end()),
+                floor,
+            },
+        }
+    }
+
+    /// The mark of a key that is there.
+    pub(crate) fn mark(&self, key: KeyId) -> u64
+        ensures { result ≡ mark_of self.entry.now.state key }
+    {
+        self.state.keys.mark(key).unwrap_or(1)
+    }
+
+    /// Sees to it that a key's mark is above a number that was drawn, and answers the mark that then stands. Where it
+    /// is above already no entry is made. Takes no memory.
+    pub fn reserve(&mut self, key: KeyId, number: u64) -> Result<u64, BookFault>
+        requires kept { IsKept O.told self.old }
+        requires there { IsSome (key_row self.old.state key) }
+        requires below { number < end_of key }
+        ensures kept { IsKept O.told self.new }
+        ensures unneeded { number < mark_of self.old.state key
+            → (result ≡ Ok (mark_of self.old.state key)) × (self.new ≡ self.old) }
+        ensures made { mark_of self.old.state key ≤ number → MatchResult result
+            (λ mark. (position : ℕ) × Made (reserve_of self.old.plan self.old.state key number) self.old
+            self.new position
+            × (mark ≡ mark_of self.new.state key))
+            (Refuses (reserve_of self.old.plan self.old.state key number) self.old self.new) }
+        ensures above { (mark : ℕ) → result ≡ Ok mark → number < mark }
+        ensures goes_on { LeavesBook self.old self.new }
+        ensures marks { KeepsMarks self.old.state self.new.state }
+        ensures risen { IfErr result (TellsRise self.new) }
+        ensures puts { self.new.site.put_faults ≡ self.old.site.put_faults }
+        ensures later { self.old.site.faults ≤ self.new.site.faults }
+        ensures calm { IsCalm self.old self.new }
+    {
+        let mark = self.mark(key);
+        if number < mark {
+            return Ok(mark);
+        }
+        self.may_enter()?;
+        let entry = self.reserve_entry(key, number);
+        match self.commit(entry, Next::Here) {
+            Ok(_) => Ok(self.mark(key)),
+            Err(fault) => Err(fault),
+        }
+    }
+}
+
+/// Writes the state after the change in its place.
+pub(crate) fn put_next(state: &mut State, change: &Change, next: Next)
+    requires allowed { Allows state.old change.now }
+    requires makes { IsNextState state.old change.now next }
+    ensures { state.new ≡ applied state.old change.now }
+{
+    match next {
+        Next::Here => state.apply_here(change),
+        Next::Then(made) => *state = made,
+    }
+}
+
+/// Whether a change counts for the epoch, as a number.
+pub(crate) fn changes_of(change: &Change) -> u64
+    ensures { result ≡ (if counts change.now then 1 else 0) }
+{
+    if unit_state::counts(change) { 1 } else { 0 }
+}
+
+/// How the state after an entry is made.
+#[derive(Drop)]
+pub(crate) enum Next {
+    /// By the change itself, which takes no memory.
+    Here,
+    /// It is this one, made beforehand.
+    Then(State),
+}
+
+impl Next {
+    /// The state, if it was made beforehand.
+    pub(crate) fn state(&self) -> Option<&State>
+        ensures { MatchOption result (self.now ≡ Next.Here) (λ made. self.now ≡ Next.Then made.now) }
+    {
+        match self {
+            Next::Here => None,
+            Next::Then(made) => Some(made),
         }
     }
 }

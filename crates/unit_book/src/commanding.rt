@@ -1,20 +1,19 @@
 // The commands of the key and association management.
 ghost use Rattle.std.specs.Prelude.{◌≡◌, ◌≤◌, ⊤, IsTrue, IfOk, IfErr, MatchResult};
-ghost use Rattle.ep_core.specs.declared.need.Need.{Need};
-ghost use Rattle.ep_core.specs.Seen.{MeetsNeed};
 ghost use Rattle.unit_state.specs.State.{KeepsRules};
 ghost use Rattle.unit_state.specs.Applied.{applied};
 ghost use Rattle.unit_state.specs.Allows.{Allows};
 ghost use Rattle.unit_state.specs.Laws.{IsNoMarks};
+ghost use Rattle.run_promise.specs.History.{IsNeedOf, IsStepOf};
 ghost use Rattle.unit_book.specs.Marks.{KeepsMarks};
 ghost use Rattle.unit_book.specs.Book.{IsKept, IsNextState};
 ghost use Rattle.unit_book.specs.LeavesBook.{LeavesBook, IsCalm, TellsRise};
-ghost use Rattle.run_promise.specs.History.{IsNeedOf, IsStepOf};
 ghost use Rattle.unit_book.specs.Records.{Handles, LeavesNoOctets, RefusesMessage};
+ghost use Rattle.ep_core.specs.declared.judging.Need.{Need};
+ghost use Rattle.ep_core.specs.Seen.{MeetsNeed};
 
-use crate::book::Book;
+use crate::book::{Book, Next};
 use crate::fault::BookFault;
-use crate::next::Next;
 use ep_codec::{PduError, read_pdu};
 use ep_core::{Need, Refusal, Reply, changes_are_allowed, judge, plan_change};
 use sdls_base::{Change, Entry, NoMemory, Seen};

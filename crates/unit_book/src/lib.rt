@@ -11,23 +11,15 @@
 #![tactic(auto)]
 
 mod accepting;
-mod applying;
-mod beginning;
 mod book;
 mod commanding;
 mod fault;
-mod laws;
-mod log;
-mod next;
 mod opening_image;
-mod receivers;
 mod releasing;
-mod reserving;
-mod showing;
 
 pub use book::Book;
-pub use fault::BookFault;
-pub use image_content::{write_content, write_content_two};
-pub use laws::{
-    marks_stand, needs_name_keys, serves_at_epoch, states_have_bounds, states_serve_alike,
+pub use fault::{
+    BookFault, marks_stand, needs_name_keys, serves_at_epoch, states_have_bounds,
+    states_serve_alike,
 };
+pub use unit_image::{write_content, write_content_two};

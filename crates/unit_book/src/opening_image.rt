@@ -1,16 +1,23 @@
 // The opening of a book.
+// The beginning of a book, and its end.
+// A log that has no octets.
 ghost use Rattle.std.specs.Prelude.{◌≡◌, ◌≤◌, IsTrue, Ok, IfOk, IfErr, OnOk, MatchResult, [], vec_capacity, vec_len};
-ghost use Rattle.sdls_outside.specs.Disk.{Leaves};
-ghost use Rattle.sdls_outside.specs.Moments.{EachMoment};
+ghost use Rattle.std.specs.Prelude.{◌∷◌, ◌++◌};
 ghost use Rattle.sdls_base.specs.declared.version.TheConstants.{CONTENT_LENGTH_TWO};
-ghost use Rattle.unit_image.specs.Image.{held, IsOfTwo, IsSettled, used_next};
+ghost use Rattle.sdls_base.specs.declared.entry.Logged.{TheVariants as logged};
+ghost use Rattle.sdls_outside.specs.Disk.{Leaves};
+ghost use Rattle.sdls_outside.specs.Moments.{EachMoment, Trace};
 ghost use Rattle.unit_plan.specs.Plan.{plan_of};
 ghost use Rattle.unit_state.specs.State.{KeepsRules};
+ghost use Rattle.unit_state.specs.Restart.{restarted};
+ghost use Rattle.unit_image.specs.Image.{held, IsOfTwo, IsSettled, used_next};
 ghost use Rattle.unit_image.specs.Shows.{Shows, ShowsNone};
-ghost use Rattle.unit_image.specs.OpeningImage.{HasOpenFault, IsHeldNext, IsOpenCause, StaysOutside};
-ghost use Rattle.unit_image.specs.OpeningImage.{LeavesShown, Opening};
-ghost use Rattle.unit_image.specs.OpeningImage.{StandsUnlessFailed};
+ghost use Rattle.unit_image.specs.OpeningImage.{HasOpenFault, IsHeldNext, IsOpenCause, StaysOutside, LeavesShown};
+ghost use Rattle.unit_image.specs.OpeningImage.{Opening, StandsUnlessFailed};
+ghost use Rattle.run_promise.specs.Log.{entries_of};
+ghost use Rattle.run_promise.specs.Call.{site_seen};
 ghost use Rattle.unit_book.specs.Book.{IsKept, begun};
+ghost use Rattle.unit_book.specs.Log.{lines, sunk_between};
 
 use crate::book::Book;
 use run_promise::MOST_ENTRIES;
@@ -135,4 +142,95 @@ impl<O: Site> Book<O> {
             Err(fault) => Err((fault, site)),
         }
     }
+}
+
+impl<O: Site> Book<O> {
+    /// The book over a site whose image, at rest, shows this state. `taken` is the site as `open` took it.
+    pub(crate) fn new(
+        site: O,
+        taken: Snapshot<O>,
+        found: Opened,
+        entries: Vec<Entry>,
+        room: Vec<u8>,
+    ) -> Book<O>
+        requires rules { KeepsRules found.state }
+        requires settled { IsTrue O.told → IsSettled (O.trace site) found.journal }
+        requires shows { IsTrue O.told → Shows (O.trace site).now.image (restarted found.state) }
+        requires same_plan { IsTrue O.told → (held (O.trace site).now.image).plan
+            ≡ (held (O.trace taken.value).now.image).plan }
+        requires entries { (entries.items ≡ []) × (MOST_ENTRIES ≤ vec_capacity entries) }
+        requires room { vec_len room ≡ CONTENT_LENGTH_TWO }
+        requires version { IsOfTwo found.journal }
+        ensures view { result ≡ begun (site_seen O.trace O.faults O.put_faults site) (O.trace taken.value).now.image
+            found.plan found.state found.journal }
+        ensures kept { IsKept O.told result }
+    {
+        let Opened {
+            journal,
+            plan,
+            state,
+        } = found;
+        Book {
+            begun: taken,
+            opened: Snapshot::of(&site),
+            faults: site.faults(),
+            site,
+            plan,
+            start: Snapshot::of(&state),
+            state,
+            journal,
+            entries,
+            standing: 0,
+            changes: 0,
+            log: Log::Begun,
+            room,
+        }
+    }
+
+    /// Gives back the site and the run's entries.
+    pub fn into_site(self) -> (O, Vec<Entry>)
+        ensures site { self.site ≡ site_seen O.trace O.faults O.put_faults result.0 }
+        ensures entries { result.1.items ≡ entries_of self.log }
+    {
+        let Book {
+            site,
+            begun: _,
+            opened: _,
+            faults: _,
+            plan: _,
+            start: _,
+            state: _,
+            journal: _,
+            entries,
+            standing: _,
+            changes: _,
+            log: _,
+            room: _,
+        } = self;
+        (site, entries)
+    }
+}
+
+/// What was entered and put, the newest last. It takes no memory: of what came before it has a snapshot.
+#[derive(Drop)]
+pub(crate) enum Log<O> {
+    Begun,
+    Entered(Snapshot<Log<O>>, Snapshot<Entry>),
+    /// The site before and after octets were put.
+    Put(Snapshot<Log<O>>, Snapshot<O>, Snapshot<O>),
+}
+
+/// The log with one more entry.
+pub(crate) fn with_entry<O>(log: &Log<O>, entry: &Entry) -> Log<O>
+    ensures { (trace : O → Trace) → lines trace result ≡ lines trace log.now ++ logged.Entry entry.now ∷ [] }
+{
+    Log::Entered(Snapshot::of(log), Snapshot::of(entry))
+}
+
+/// The log with one more piece: what was put on a site.
+pub(crate) fn with_piece<O>(log: &Log<O>, before: Snapshot<O>, site: &O) -> Log<O>
+    ensures { (trace : O → Trace) → lines trace result
+        ≡ lines trace log.now ++ logged.Piece (sunk_between (trace before.value) (trace site.now)) ∷ [] }
+{
+    Log::Put(Snapshot::of(log), before, Snapshot::of(site))
 }

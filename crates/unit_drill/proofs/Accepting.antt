@@ -3,7 +3,7 @@
 use Rattle.std.proofs.Common.{◌≡◌, ℕ, ◌+◌, ◌<◌, ◌≤◌, max, Bool, true, false, nat_eq, if◌then◌else◌, List, [], ◌∷◌, ◌++◌}
 use Rattle.std.proofs.Common.{inl, ⊎_elim, refl, ◌∙◌, ap, arith}
 use Rattle.std.specs.FinSet as set
-use Rattle.sdls_base.specs.declared.change.Change.TheVariants.{Accepted, Nothing}
+use Rattle.sdls_base.specs.declared.entry.Change.TheVariants.{Accepted, Nothing}
 use Rattle.sdls_base.specs.declared.entry.Entry.{Entry}
 use Rattle.replay_window.specs.declared.window.Window.{Window}
 use Rattle.replay_window.specs.Window.{accepted, IsAhead, IsLate, IsFresh}

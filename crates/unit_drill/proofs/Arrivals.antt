@@ -16,7 +16,7 @@ use Rattle.link_world.specs.Chunk.{deliveries, is_lost}
 use Rattle.link_world.proofs.Counting.{few_arrive, few_delivered}
 use Rattle.record_io.specs.declared.answers.Answer.{Answer}
 use Rattle.record_io.specs.declared.code.TheConstants.{PROTECTED}
-use Rattle.record_io.specs.declared.records.Record.{Record}
+use Rattle.record_io.specs.declared.item_cursor.Record.{Record}
 use Rattle.unit_drill.specs.Arriving.{arrived_task, arrived_tasks, chunk_events, count_lost, octets_in, releases}
 
 -- ---- releases

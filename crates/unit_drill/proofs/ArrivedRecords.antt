@@ -7,7 +7,7 @@ use Rattle.std.proofs.lemmas.List.Elements.{All-cons, All-head, All-nil, All-tai
 use Rattle.std.proofs.lemmas.Option.{slice_get-get_or}
 use Rattle.link_world.proofs.Chunks.{Under}
 use Rattle.record_io.specs.declared.answers.Answer.{Answer}
-use Rattle.record_io.specs.declared.records.Record.{Record}
+use Rattle.record_io.specs.declared.item_cursor.Record.{Record}
 use Rattle.unit_drill.specs.Arriving.{arrived_task, arrived_tasks, octets_in}
 use Rattle.unit_drill.specs.Frames.{open_task}
 use Rattle.law_workers.specs.Deeds.{Ascend}

@@ -4,7 +4,7 @@ use Rattle.std.specs.List.{count_by, zip}
 use Rattle.std.proofs.lemmas.List.Sums.{count_by-le-length}
 use Rattle.std.proofs.lemmas.Slice.Zip.{length-zip}
 use Rattle.record_io.specs.declared.answers.Answer.{Answer}
-use Rattle.record_io.specs.declared.records.Record.{Record}
+use Rattle.record_io.specs.declared.item_cursor.Record.{Record}
 use Rattle.unit_drill.specs.Counting.{count_accepted, count_given, gives_field}
 
 pub few_counted : (p : Answer → Bool) (answers : List Answer) → count_by p answers ≤ length answers

@@ -13,7 +13,7 @@ use Rattle.std.proofs.lemmas.List.Sums.{sum_by-append, sum_by-cons}
 use Rattle.link_world.specs.Link.{arrivals}
 use Rattle.record_io.specs.declared.answers.Answer.{Answer}
 use Rattle.record_io.specs.declared.code.TheConstants as codes_of
-use Rattle.record_io.specs.declared.records.Record.{Record}
+use Rattle.record_io.specs.declared.item_cursor.Record.{Record}
 use Rattle.record_io.specs.Places.{Place}
 use Rattle.unit_drill.specs.Arriving.{arrived_frames, chunk_events}
 use Rattle.unit_drill.specs.Counting.{count_accepted, count_fields, count_given, gives_field}

@@ -5,7 +5,7 @@ use Rattle.replay_window.specs.declared.window.Window.{Window}
 use Rattle.unit_plan.specs.Channels.{channel_at}
 use Rattle.unit_state.specs.declared.state.State.{State}
 use Rattle.frame_shield.specs.Protects.{Protects}
-use Rattle.frame_checks.specs.declared.open_reply.OpenReply.{OpenReply}
+use Rattle.frame_checks.specs.declared.opening_frames.OpenReply.{OpenReply}
 use Rattle.frame_checks.specs.Header.{channel_of}
 use Rattle.frame_checks.specs.OpeningFrames.{IsOpenReply}
 use Rattle.unit_drill.specs.Plans.{link_line}

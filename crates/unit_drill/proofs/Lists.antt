@@ -7,7 +7,7 @@ use Rattle.std.proofs.lemmas.List.Elements.{All-append, All-cons, All-contains, 
 use Rattle.std.proofs.lemmas.List.Sums.{sum_by-cons}
 use Rattle.unit_drill.proofs.Tasks.{ascend_cons}
 use Rattle.record_io.specs.declared.answers.Answer.{Answer}
-use Rattle.record_io.specs.declared.records.Record.{Record}
+use Rattle.record_io.specs.declared.item_cursor.Record.{Record}
 use Rattle.law_workers.specs.Deeds.{AllBoth, Ascend, deeds_of}
 use Rattle.run_promise.specs.Deed.{Deed, deed_of}
 use Rattle.law_workers.specs.Order.{ComeBefore}

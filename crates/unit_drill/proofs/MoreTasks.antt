@@ -6,7 +6,7 @@ use Rattle.std.proofs.lemmas.List.{take_more, length-take}
 use Rattle.std.proofs.lemmas.List.FromFn.{map-range_with_len_more}
 use Rattle.record_io.specs.declared.answers.Answer.{Answer}
 use Rattle.record_io.specs.declared.code.TheConstants.{PROTECTED}
-use Rattle.record_io.specs.declared.records.Record.{Record}
+use Rattle.record_io.specs.declared.item_cursor.Record.{Record}
 use Rattle.unit_drill.specs.Frames.{open_task, open_tasks, protect_task, protect_tasks}
 
 pub none_yet : (first number : ℕ) → number ≡ first → protect_tasks first (number - first) ≡ []

@@ -11,7 +11,7 @@ use Rattle.std.proofs.lemmas.List.Elements.{All-tail, All-weaker, Contains-appen
 use Rattle.sdls_base.specs.declared.TheConstants.{MOST_KEYS}
 use Rattle.record_io.specs.declared.answers.Answer.{Answer}
 use Rattle.record_io.specs.declared.code.TheConstants as codes_of
-use Rattle.record_io.specs.declared.records.Record.{Record}
+use Rattle.record_io.specs.declared.item_cursor.Record.{Record}
 use Rattle.counter_table.specs.declared.view.View.{View}
 use Rattle.counter_table.specs.Whole.{IsWhole}
 use Rattle.run_promise.specs.Fits.{Fits}

@@ -11,7 +11,7 @@ use Rattle.link_world.proofs.Chunks.{delivered_low}
 use Rattle.link_world.proofs.Counting.{few_delivered}
 use Rattle.record_io.specs.declared.answers.Answer.{Answer}
 use Rattle.record_io.specs.declared.code.TheConstants as codes_of
-use Rattle.record_io.specs.declared.records.Record.{Record}
+use Rattle.record_io.specs.declared.item_cursor.Record.{Record}
 use Rattle.counter_table.specs.declared.view.View.{View}
 use Rattle.counter_table.specs.Whole.{IsWhole}
 use Rattle.run_promise.specs.Fits.{Fits}

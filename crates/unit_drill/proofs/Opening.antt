@@ -10,7 +10,7 @@ use Rattle.sdls_base.specs.KeyId.{end_of}
 use Rattle.sdls_base.specs.declared.states.Suite.{Suite}
 use Rattle.sdls_base.specs.declared.states.Suite.TheVariants as suites
 use Rattle.replay_window.specs.Window.{IsFresh}
-use Rattle.sa_book.specs.declared.sa_row.SaRow.{SaRow}
+use Rattle.sa_book.specs.declared.sa_book.SaRow.{SaRow}
 use Rattle.sdls_header.specs.SecurityHeader.{Pieces, vector_octets}
 use Rattle.tc_frame.specs.TcFrame.{TcFrame, TcParts, frame_length, prefix_of}
 use Rattle.tc_frame.proofs.Frames.{frame_parts}
@@ -24,10 +24,10 @@ use Rattle.frame_shield.specs.Protects.{Protects}
 use Rattle.frame_shield.specs.Secured.{IsSecured, number_of, vector_for}
 use Rattle.frame_shield.specs.declared.binding.Binding.{Binding}
 use Rattle.frame_shield.proofs.OpenFacts.{no_fault, one_frame}
-use Rattle.frame_checks.specs.declared.open_reply.OpenReply.{OpenReply}
-use Rattle.frame_checks.specs.declared.open_reply.OpenReply.TheVariants.{Accepted, Clear, Layout, Channel, Spi}
-use Rattle.frame_checks.specs.declared.open_reply.OpenReply.TheVariants.{Direction, State as NotOperational, Coverage}
-use Rattle.frame_checks.specs.declared.open_reply.OpenReply.TheVariants.{Mac, Number}
+use Rattle.frame_checks.specs.declared.opening_frames.OpenReply.{OpenReply}
+use Rattle.frame_checks.specs.declared.opening_frames.OpenReply.TheVariants.{Accepted, Clear, Layout, Channel, Spi}
+use Rattle.frame_checks.specs.declared.opening_frames.OpenReply.TheVariants.{Direction, State as NotOperational, Coverage}
+use Rattle.frame_checks.specs.declared.opening_frames.OpenReply.TheVariants.{Mac, Number}
 use Rattle.frame_checks.specs.Binding.{binding_of}
 use Rattle.frame_checks.specs.Header.{channel_of, is_clear}
 use Rattle.frame_checks.specs.OpeningFrames.{IsJudged, IsOpenedUnder, IsOpenReply, IsReplyOn, IsReplyUnder, IsToldOr}

@@ -8,7 +8,7 @@ use Rattle.counter_table.specs.declared.view.View.{View}
 use Rattle.law_runs.specs.Doing.{IsFounded}
 use Rattle.record_io.specs.declared.answers.Answer.{Answer}
 use Rattle.record_io.specs.declared.code.TheConstants as codes_of
-use Rattle.record_io.specs.declared.records.Record.{Record}
+use Rattle.record_io.specs.declared.item_cursor.Record.{Record}
 use Rattle.record_io.specs.Places.{Place}
 use Rattle.run_promise.specs.Call.{Begin}
 use Rattle.unit_drill.specs.declared.counts.Counts.{Counts}

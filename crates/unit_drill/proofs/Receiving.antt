@@ -9,15 +9,15 @@ use Rattle.std.proofs.lemmas.List.{take_more}
 use Rattle.std.proofs.lemmas.List.Elements.{All-contains, All-head, All-tail}
 use Rattle.std.proofs.lemmas.Option.{slice_get-get_or, slice_get_within}
 use Rattle.sdls_base.specs.KeyId.{end_of}
-use Rattle.sdls_base.specs.declared.change.Change.TheVariants as changes
+use Rattle.sdls_base.specs.declared.entry.Change.TheVariants as changes
 use Rattle.sdls_base.specs.declared.entry.Entry.{Entry}
 use Rattle.sdls_base.specs.declared.entry.Seen.TheVariants as seens
 use Rattle.sdls_base.specs.declared.states.Direction.TheVariants.{Receive}
 use Rattle.replay_window.specs.Window.{IsFresh}
 use Rattle.record_io.specs.declared.answers.Answer.{Answer}
 use Rattle.record_io.specs.declared.code.TheConstants as codes_of
-use Rattle.record_io.specs.declared.kinds.RecordKind.TheVariants.{Open, Command}
-use Rattle.record_io.specs.declared.records.Record.{Record}
+use Rattle.record_io.specs.declared.reader.RecordKind.TheVariants.{Open, Command}
+use Rattle.record_io.specs.declared.item_cursor.Record.{Record}
 use Rattle.counter_table.specs.Turn.{stands}
 use Rattle.counter_table.specs.declared.view.View.{View}
 use Rattle.unit_plan.specs.PlanLines.{PlanLines}
@@ -25,8 +25,8 @@ use Rattle.unit_state.specs.declared.state.State.{State}
 use Rattle.unit_state.specs.State.{KeepsRules}
 use Rattle.unit_state.specs.History.{after_all}
 use Rattle.frame_shield.specs.Protects.{Protects}
-use Rattle.frame_checks.specs.declared.open_reply.OpenReply.{OpenReply}
-use Rattle.frame_checks.specs.declared.open_reply.OpenReply.TheVariants.{Accepted}
+use Rattle.frame_checks.specs.declared.opening_frames.OpenReply.{OpenReply}
+use Rattle.frame_checks.specs.declared.opening_frames.OpenReply.TheVariants.{Accepted}
 use Rattle.frame_checks.specs.OpeningFrames.{IsOpenReply}
 use Rattle.run_promise.specs.Answers.{Told, told_by, opened_told}
 use Rattle.run_promise.specs.History.{draws, drawers, is_none_index, reserves_of, frame_change, frame_entry}

@@ -28,7 +28,7 @@ use Rattle.law_workers.specs.Views.{entries_in, log_of}
 use Rattle.law_workers.proofs.Counting.{few_entries}
 use Rattle.law_workers.proofs.Joining.{does_nothing}
 use Rattle.record_io.specs.declared.answers.Answer.{Answer}
-use Rattle.record_io.specs.declared.records.Record.{Record}
+use Rattle.record_io.specs.declared.item_cursor.Record.{Record}
 use Rattle.record_io.specs.Answers.{IsAnswer}
 use Rattle.record_io.specs.Places.{Place, records_of}
 use Rattle.run_promise.specs.Account.{deeds_from}

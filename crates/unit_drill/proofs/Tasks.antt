@@ -7,9 +7,9 @@ use Rattle.std.proofs.lemmas.List.Elements.{All-nil, All-cons, All-map, All-weak
 use Rattle.std.proofs.lemmas.List.FromFn.{get_or-map-range_with_len, length-map-range_with_len}
 use Rattle.record_io.specs.declared.answers.Answer.{Answer}
 use Rattle.record_io.specs.declared.code.TheConstants.{PROTECTED}
-use Rattle.record_io.specs.declared.records.Record.{Record}
-use Rattle.record_io.specs.declared.kinds.RecordKind.TheVariants.{Monitor}
-use Rattle.record_io.specs.declared.kinds.TheConstants.{LANES}
+use Rattle.record_io.specs.declared.item_cursor.Record.{Record}
+use Rattle.record_io.specs.declared.reader.RecordKind.TheVariants.{Monitor}
+use Rattle.record_io.specs.declared.reader.TheConstants.{LANES}
 use Rattle.law_workers.specs.Deeds.{Ascend}
 use Rattle.law_workers.specs.Order.{Layout, LiesIn}
 use Rattle.unit_drill.specs.declared.records.TheConstants.{CHUNK}

@@ -4,7 +4,7 @@ use Rattle.std.specs.List.{count_by, zip}
 use Rattle.std.specs.Str.{bytes_eq}
 use Rattle.record_io.specs.declared.answers.Answer.{Answer}
 use Rattle.record_io.specs.declared.code.TheConstants.{ACCEPTED}
-use Rattle.record_io.specs.declared.records.Record.{Record}
+use Rattle.record_io.specs.declared.item_cursor.Record.{Record}
 use Rattle.unit_drill.specs.declared.counts.Counts.{Counts}
 use Rattle.unit_drill.specs.Frames.{data_field}
 

@@ -3,8 +3,8 @@ use Rattle.std.specs.Prelude.{ℕ, ◌+◌, ◌*◌, ◌%◌, ◌==◌, List, []
 use Rattle.std.specs.List.{range_with_len}
 use Rattle.record_io.specs.declared.answers.Answer.{Answer}
 use Rattle.record_io.specs.declared.code.TheConstants.{PROTECTED}
-use Rattle.record_io.specs.declared.kinds.RecordKind.TheVariants.{Protect, Open}
-use Rattle.record_io.specs.declared.records.Record.{Record}
+use Rattle.record_io.specs.declared.reader.RecordKind.TheVariants.{Protect, Open}
+use Rattle.record_io.specs.declared.item_cursor.Record.{Record}
 use Rattle.unit_drill.specs.declared.frames.TheConstants.{FIELD_LENGTH, DRILL_LANES}
 use Rattle.unit_drill.specs.declared.records.TheConstants.{CHUNK}
 

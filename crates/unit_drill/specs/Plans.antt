@@ -7,7 +7,7 @@ use Rattle.sdls_base.specs.declared.states.Direction.TheVariants.{Send, Receive}
 use Rattle.sdls_base.specs.declared.states.KeyState.TheVariants.{Active}
 use Rattle.sdls_base.specs.declared.states.Suite.{Suite}
 use Rattle.sdls_base.specs.declared.states.Suite.TheVariants.{Cmac, Gcm}
-use Rattle.unit_plan.specs.declared.channel_line.ChannelPlace.{ChannelPlace}
+use Rattle.unit_plan.specs.declared.link_line.ChannelPlace.{ChannelPlace}
 use Rattle.unit_plan.specs.declared.plan.PlanKey.{PlanKey}
 use Rattle.unit_plan.specs.declared.plan.PlanSa.{PlanSa}
 use Rattle.unit_plan.specs.PlanLines.{PlanLines}

@@ -1,14 +1,14 @@
 //! The laws of drills.
 ghost use Rattle.std.specs.Prelude.{◌≡◌, ◌≤◌, ℕ, List, Ok};
-ghost use Rattle.record_io.specs.declared.answers.Answer.{Answer};
 ghost use Rattle.unit_plan.specs.Plan.{plan_of};
-ghost use Rattle.command_words.specs.declared.command.TheConstants.{MOST_FRAMES};
+ghost use Rattle.record_io.specs.declared.answers.Answer.{Answer};
 ghost use Rattle.unit_drill.specs.declared.counts.Counts.{Counts};
 ghost use Rattle.unit_drill.specs.Chunks.{HandlesDrill};
 ghost use Rattle.unit_drill.specs.Drilled.{IsComplete, IsDrilled};
 ghost use Rattle.unit_drill.specs.LinkChunks.{HandlesLinkDrill};
 ghost use Rattle.unit_drill.specs.OverLink.{IsLinkComplete, IsLinkDrilled};
 ghost use Rattle.unit_drill.specs.Plans.{receiver_lines, receiver_plan, sender_lines, sender_plan};
+ghost use Rattle.command_words.specs.declared.reading.TheConstants.{MOST_FRAMES};
 
 use frame_shield::opens_once;
 use unit_image::shows_one;

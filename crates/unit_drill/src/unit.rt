@@ -1,13 +1,13 @@
 //! A unit in memory, with the one worker that serves its segments.
 ghost use Rattle.std.specs.Prelude.{◌≡◌, ◌≢◌, ◌-◌, ◌%◌, ◌≤◌, ℕ, true, IfOk, length, vec_len};
 ghost use Rattle.std.specs.List.{All, list_any};
-ghost use Rattle.counter_table.specs.Worker.{view};
-ghost use Rattle.record_io.specs.declared.records.Record.{Record};
 ghost use Rattle.run_promise.specs.Call.{Begin};
+ghost use Rattle.counter_table.specs.Worker.{view};
 ghost use Rattle.law_workers.specs.Deeds.{Ascend};
 ghost use Rattle.law_workers.specs.Began.{BeganWith};
 ghost use Rattle.unit_drill.specs.Chunks.{HandlesSegment, MayServe, UnitIsOpened};
 ghost use Rattle.unit_drill.specs.UnitRun.{says_fault};
+ghost use Rattle.record_io.specs.declared.item_cursor.Record.{Record};
 
 use crate::image::site_of;
 use frame_workers::{Gate, run_segment};

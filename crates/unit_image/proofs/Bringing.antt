@@ -10,8 +10,8 @@ use Rattle.unit_state.specs.declared.state.State.{State}
 use Rattle.unit_state.specs.Restart.{restarted}
 use Rattle.unit_state.specs.State.{KeepsRules}
 use Rattle.unit_state.proofs.StateLaws.{restarted_twice}
-use Rattle.image_content.specs.Content.{content_of}
-use Rattle.image_content.specs.Reading.{HasRows, IsContent}
+use Rattle.unit_image.specs.Content.{content_of}
+use Rattle.unit_image.specs.ContentReading.{HasRows, IsContent}
 use Rattle.disk_journal.specs.Banks.{version_of}
 use Rattle.disk_journal.specs.Image.{Held, held, migrated, version_in}
 use Rattle.disk_journal.specs.Forms.{Becomes, Holds}

@@ -7,14 +7,14 @@ use Rattle.std.proofs.lemmas.Option.{same_Some}
 use Rattle.std.proofs.Math.Seq.{drop-cons}
 use Rattle.std.proofs.lemmas.List.Elements.{All-map}
 use Rattle.sdls_base.specs.declared.TheConstants.{MOST_KEYS, MOST_ASSOCIATIONS}
-use Rattle.sdls_base.specs.declared.change.Change.TheVariants.{Marks}
+use Rattle.sdls_base.specs.declared.entry.Change.TheVariants.{Marks}
 use Rattle.sdls_base.specs.declared.version.Version.TheVariants.{Two}
 use Rattle.key_book.specs.declared.key_row.KeyRow.{KeyRow}
 use Rattle.key_book.specs.KeyBook.{AreKeyRows, row_of, place_of, changed}
 use Rattle.key_book.proofs.Rows.{set-changed}
 use Rattle.replay_window.proofs.Lowered.{lowered_field}
-use Rattle.book_record.specs.declared.sa_parts.SaParts.{SaParts}
-use Rattle.sa_book.specs.declared.sa_row.SaRow.{SaRow}
+use Rattle.book_record.specs.declared.sa_rows.SaParts.{SaParts}
+use Rattle.sa_book.specs.declared.sa_book.SaRow.{SaRow}
 use Rattle.sa_book.specs.SaRefusal.{receives_with}
 use Rattle.sa_book.specs.Numbers.{with_floor, lowered}
 use Rattle.unit_state.specs.declared.state.State.{State}
@@ -24,8 +24,8 @@ use Rattle.unit_state.specs.Restart.{restarted, restarted_row}
 use Rattle.unit_state.proofs.KeyRules.{stands}
 use Rattle.book_record.specs.KeyParts.{AreKeyRowOctets, key_row_octets}
 use Rattle.book_record.specs.SaParts.{AreSaRowOctets, sa_parts, sa_row_octets}
-use Rattle.image_content.specs.Content.{sa_rows, content_of, replaced}
-use Rattle.image_content.specs.Reading.{HasRows, IsContent, IsTypedKey, IsTypedSa}
+use Rattle.unit_image.specs.Content.{sa_rows, content_of, replaced}
+use Rattle.unit_image.specs.ContentReading.{HasRows, IsContent, IsTypedKey, IsTypedSa}
 use Rattle.unit_image.proofs.Restarted.{restarted_rules}
 
 -- ---- what a restart leaves

@@ -1,3 +1,9 @@
+mod Lists
+mod Fields
+pub mod RowsRead
+mod Highs
+pub mod Contents
+mod Changing
 pub mod Recorded
 pub mod Leading
 pub mod Shown

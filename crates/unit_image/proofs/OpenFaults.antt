@@ -3,11 +3,11 @@ use Rattle.std.proofs.Common.{◌≡◌, ℕ, List, ap, sym, subst, inl, inr}
 use Rattle.std.specs.Prelude.{Result, Ok, Err}
 use Rattle.sdls_outside.specs.Moments.{Trace}
 use Rattle.disk_journal.specs.Moments.{OnlySyncs}
-use Rattle.unit_image.specs.declared.fault.OpenFault.{OpenFault}
-use Rattle.unit_image.specs.declared.fault.OpenFault.TheVariants.{SiteFault, Image, NoMemory}
+use Rattle.unit_image.specs.declared.opening_image.OpenFault.{OpenFault}
+use Rattle.unit_image.specs.declared.opening_image.OpenFault.TheVariants.{SiteFault, Image, NoMemory}
 use Rattle.unit_state.specs.declared.state.State.{State}
-use Rattle.disk_journal.specs.declared.fault.JournalFault.{JournalFault}
-use Rattle.disk_journal.specs.declared.fault.JournalFault.TheVariants as journal_faults
+use Rattle.disk_journal.specs.declared.layout.JournalFault.{JournalFault}
+use Rattle.disk_journal.specs.declared.layout.JournalFault.TheVariants as journal_faults
 use Rattle.disk_journal.specs.Journal.{IsCause}
 use Rattle.unit_image.specs.Shows.{Shows, ShowsNone}
 use Rattle.unit_image.specs.OpeningImage.{HasOpenFault, LeavesShown, ShowsUnlessFailed, as_open_fault}

@@ -8,7 +8,7 @@ use Rattle.sdls_outside.proofs.Moments.{synced_leaves}
 use Rattle.sdls_base.specs.declared.version.Version.TheVariants.{Two}
 use Rattle.disk_journal.specs.Header.{header_of, slot_count_in}
 use Rattle.disk_journal.specs.declared.layout.TheConstants.{HEADER_LENGTH, OPEN}
-use Rattle.image_content.specs.Content.{content_of}
+use Rattle.unit_image.specs.Content.{content_of}
 use Rattle.unit_state.specs.declared.state.State.{State}
 use Rattle.disk_journal.proofs.Keeping.{front_bounds}
 use Rattle.disk_journal.proofs.Stands.{opens_stands}

@@ -7,7 +7,7 @@ use Rattle.unit_state.specs.declared.state.State.{State}
 use Rattle.unit_state.specs.Restart.{restarted}
 use Rattle.unit_image.specs.Shows.{LeadTo, IsBadRecord}
 use Rattle.sdls_base.specs.declared.version.Version.{Version}
-use Rattle.image_content.specs.Reading.{IsContent}
+use Rattle.unit_image.specs.ContentReading.{IsContent}
 use Rattle.disk_journal.specs.Image.{Held, held, record_at}
 use Rattle.unit_image.specs.Shows.{SaysBarePlan, IsContentUnder, Begins, SaysState, Shows, SaysNone, ShowsNone}
 use Rattle.unit_image.proofs.Leading.{IsOnce, led_once, no_way, same_place}

@@ -2,9 +2,9 @@
 use Rattle.std.proofs.Common.{◌≡◌, ℕ, Bool, IsTrue, List, None, Some, refl, sym, ◌∙◌, ap, subst, inl, Result, Ok, Err}
 use Rattle.std.proofs.Common.{OnOk}
 use Rattle.std.specs.Prelude.{OnErr}
-use Rattle.sdls_base.specs.declared.change.Change.{Change}
-use Rattle.sdls_base.specs.declared.change.Change.TheVariants.{Marks, Load, KeyStates, Create, Rekey, SaTo, SetNumber}
-use Rattle.sdls_base.specs.declared.change.Change.TheVariants.{SetWindow, Accepted, Nothing}
+use Rattle.sdls_base.specs.declared.entry.Change.{Change}
+use Rattle.sdls_base.specs.declared.entry.Change.TheVariants.{Marks, Load, KeyStates, Create, Rekey, SaTo, SetNumber}
+use Rattle.sdls_base.specs.declared.entry.Change.TheVariants.{SetWindow, Accepted, Nothing}
 use Rattle.sdls_base.specs.declared.version.Version.{Version}
 use Rattle.sdls_base.specs.declared.version.Version.TheVariants.{Two}
 use Rattle.sdls_outside.specs.Disk.{Leaves}
@@ -19,8 +19,8 @@ use Rattle.unit_state.specs.Restart.{IsStorable, restarted, stored_as}
 use Rattle.unit_state.specs.State.{KeepsRules}
 use Rattle.unit_state.proofs.Alike.{stores_well, unstored_alike}
 use Rattle.unit_state.proofs.StateLaws.{restarted_twice}
-use Rattle.image_content.specs.Content.{content_of}
-use Rattle.image_content.specs.Reading.{IsContent}
+use Rattle.unit_image.specs.Content.{content_of}
+use Rattle.unit_image.specs.ContentReading.{IsContent}
 use Rattle.disk_journal.specs.Banks.{version_of}
 use Rattle.disk_journal.specs.declared.layout.Layout.{Layout}
 use Rattle.disk_journal.specs.Image.{held, grown, turned, version_in}

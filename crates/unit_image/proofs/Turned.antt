@@ -1,6 +1,6 @@
 -- A record more, or a turn: for `says_grown` and `says_turned`.
 use Rattle.std.proofs.Common.{◌≡◌, ℕ, List, [], ◌∷◌, refl, sym, ◌∙◌, ap}
-use Rattle.sdls_base.specs.declared.change.Change.{Change}
+use Rattle.sdls_base.specs.declared.entry.Change.{Change}
 use Rattle.book_record.specs.Record.{IsRecord}
 use Rattle.unit_state.specs.declared.state.State.{State}
 use Rattle.unit_state.specs.Applied.{applied}
@@ -8,10 +8,10 @@ use Rattle.unit_state.specs.Restart.{restarted}
 use Rattle.unit_state.specs.Laws.{StoresWell}
 use Rattle.unit_state.proofs.Again.{applied_alike}
 use Rattle.unit_state.proofs.Allowed.{allowed_alike}
-use Rattle.sdls_base.specs.declared.change.Change.TheVariants.{Marks, Load, KeyStates, Create, Rekey, SaTo, SetNumber}
-use Rattle.sdls_base.specs.declared.change.Change.TheVariants.{SetWindow, Accepted, Nothing}
+use Rattle.sdls_base.specs.declared.entry.Change.TheVariants.{Marks, Load, KeyStates, Create, Rekey, SaTo, SetNumber}
+use Rattle.sdls_base.specs.declared.entry.Change.TheVariants.{SetWindow, Accepted, Nothing}
 use Rattle.unit_image.specs.Shows.{LeadTo}
-use Rattle.image_content.specs.Reading.{IsContent}
+use Rattle.unit_image.specs.ContentReading.{IsContent}
 use Rattle.sdls_base.specs.declared.version.Version.TheVariants.{Two}
 use Rattle.disk_journal.specs.Image.{Held, grown, migrated, turned}
 use Rattle.unit_image.specs.Shows.{SaysState}

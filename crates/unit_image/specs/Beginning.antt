@@ -7,7 +7,7 @@ use Rattle.unit_plan.specs.Plan.{plan_of}
 use Rattle.unit_plan.specs.Bare.{bare_of}
 use Rattle.unit_state.specs.declared.state.State.{State}
 use Rattle.unit_state.specs.Initial.{initial}
-use Rattle.image_content.specs.Content.{content_of}
+use Rattle.unit_image.specs.Content.{content_of}
 use Rattle.disk_journal.specs.declared.layout.HeaderForm.TheVariants.{New}
 use Rattle.disk_journal.specs.Image.{Held}
 use Rattle.disk_journal.specs.Initial.{created_image}

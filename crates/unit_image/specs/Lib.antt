@@ -1,3 +1,6 @@
+pub mod Rows
+pub mod Content
+pub mod ContentReading
 pub mod Image
 pub mod Shows
 pub mod OpeningImage

@@ -1,7 +1,7 @@
 -- Why the opening of an image fails, and what a crash in it leaves (profile).
 use Rattle.std.specs.Prelude.{◌≡◌, ℕ, ◌+◌, ◌<◌, ◌≤◌, ◌⊎◌, ⊤, List, Some, Result, IfErr, OnOk, slice_index}
 use Rattle.std.specs.List.{slice_get}
-use Rattle.sdls_base.specs.declared.change.Change.{Change}
+use Rattle.sdls_base.specs.declared.entry.Change.{Change}
 use Rattle.sdls_base.specs.declared.version.Version.TheVariants.{One, Two}
 use Rattle.sdls_outside.specs.Faults.{Rose}
 use Rattle.book_record.specs.Record.{IsRecord}
@@ -13,14 +13,14 @@ use Rattle.unit_plan.specs.PlanLines.{PlanLines}
 use Rattle.unit_state.specs.declared.state.State.{State}
 use Rattle.disk_journal.specs.declared.layout.TheConstants.{BANKS_AT, PLAN_AT, CONTENT_AT, MIGRATED_AT}
 use Rattle.disk_journal.specs.declared.layout.Layout.{Layout}
-use Rattle.unit_image.specs.declared.fault.OpenFault.{OpenFault}
-use Rattle.unit_image.specs.declared.fault.OpenFault.TheVariants.{SiteFault, Image, NoMemory}
-use Rattle.disk_journal.specs.declared.fault.JournalFault.{JournalFault}
-use Rattle.disk_journal.specs.declared.fault.JournalFault.TheVariants as journal_faults
+use Rattle.unit_image.specs.declared.opening_image.OpenFault.{OpenFault}
+use Rattle.unit_image.specs.declared.opening_image.OpenFault.TheVariants.{SiteFault, Image, NoMemory}
+use Rattle.disk_journal.specs.declared.layout.JournalFault.{JournalFault}
+use Rattle.disk_journal.specs.declared.layout.JournalFault.TheVariants as journal_faults
 use Rattle.disk_journal.specs.Banks.{image_end}
 use Rattle.disk_journal.specs.Changes.{KeepsPast}
-use Rattle.image_content.specs.Content.{content_of}
-use Rattle.image_content.specs.Reading.{IsContent}
+use Rattle.unit_image.specs.Content.{content_of}
+use Rattle.unit_image.specs.ContentReading.{IsContent}
 use Rattle.disk_journal.specs.Moments.{EachImage, OnlySyncs}
 use Rattle.disk_journal.specs.Journal.{IsSettled, JournalView}
 use Rattle.disk_journal.specs.Forms.{Becomes, Settles}

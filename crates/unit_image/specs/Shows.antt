@@ -1,7 +1,7 @@
 -- The state that an image of two banks shows (profile), or the offset that it is refused with.
 use Rattle.std.specs.Prelude.{◌≡◌, ◌≢◌, ℕ, ◌+◌, ◌⊎◌, List, [], ◌∷◌, map, take, None, Some, Ok}
 use Rattle.std.specs.List.{slice_get}
-use Rattle.sdls_base.specs.declared.change.Change.{Change}
+use Rattle.sdls_base.specs.declared.entry.Change.{Change}
 use Rattle.sdls_base.specs.declared.version.Version.{Version}
 use Rattle.unit_plan.specs.PlanLines.{PlanLines}
 use Rattle.unit_plan.specs.Plan.{plan_of}
@@ -10,7 +10,7 @@ use Rattle.unit_state.specs.Applied.{applied}
 use Rattle.unit_state.specs.Allows.{Allows}
 use Rattle.unit_state.specs.Restart.{restarted}
 use Rattle.book_record.specs.Record.{IsRecord}
-use Rattle.image_content.specs.Reading.{IsContent}
+use Rattle.unit_image.specs.ContentReading.{IsContent}
 use Rattle.disk_journal.specs.declared.layout.TheConstants.{PLAN_AT, SLOT_COUNT_AT, CONTENT_AT}
 use Rattle.disk_journal.specs.Image.{Held, held, current_at, record_at}
 use Rattle.disk_journal.specs.Fault.{image_fault}

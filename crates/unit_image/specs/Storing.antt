@@ -1,8 +1,8 @@
 -- How a change of the state is stored in an image of two banks (profile).
 use Rattle.std.specs.Prelude.{◌≡◌, ℕ, Bool, IsTrue, List, length, take, Result, OnErr, OnOk}
-use Rattle.sdls_base.specs.declared.change.Change.{Change}
-use Rattle.sdls_base.specs.declared.change.Change.TheVariants.{Marks, Load, KeyStates, Create, Rekey, SaTo, SetNumber}
-use Rattle.sdls_base.specs.declared.change.Change.TheVariants.{SetWindow, Accepted, Nothing}
+use Rattle.sdls_base.specs.declared.entry.Change.{Change}
+use Rattle.sdls_base.specs.declared.entry.Change.TheVariants.{Marks, Load, KeyStates, Create, Rekey, SaTo, SetNumber}
+use Rattle.sdls_base.specs.declared.entry.Change.TheVariants.{SetWindow, Accepted, Nothing}
 use Rattle.sdls_base.specs.declared.states.KeyState.TheVariants.{Destroyed}
 use Rattle.sdls_base.specs.declared.version.Version.TheVariants.{Two}
 use Rattle.sdls_outside.specs.Disk.{Leaves}
@@ -11,7 +11,7 @@ use Rattle.disk_journal.specs.Moments.{EachImage}
 use Rattle.unit_state.specs.declared.state.State.{State}
 use Rattle.unit_state.specs.Applied.{applied}
 use Rattle.unit_state.specs.Restart.{restarted}
-use Rattle.image_content.specs.Content.{content_of}
+use Rattle.unit_image.specs.Content.{content_of}
 use Rattle.disk_journal.specs.declared.layout.HeaderForm.{HeaderForm}
 use Rattle.disk_journal.specs.declared.layout.TheConstants.{BANKS_AT, OPEN}
 use Rattle.disk_journal.specs.Banks.{image_end, layout_of}

@@ -5,13 +5,13 @@ ghost use Rattle.sdls_outside.specs.Faults.{HasCause};
 ghost use Rattle.sdls_outside.specs.Moments.{Trace};
 ghost use Rattle.unit_plan.specs.Plan.{plan_of};
 ghost use Rattle.unit_plan.specs.Bare.{bare_of};
-ghost use Rattle.image_content.specs.Content.{content_of};
+ghost use Rattle.unit_image.specs.Content.{content_of};
 ghost use Rattle.disk_journal.specs.declared.layout.HeaderForm.TheVariants.{New};
 ghost use Rattle.disk_journal.specs.Initial.{IsLaid};
 ghost use Rattle.unit_image.specs.Beginning.{image_of_plan};
 
+use crate::content::write_content_two;
 use disk_journal::{JournalFault, create_two};
-use image_content::write_content_two;
 use sdls_base::CONTENT_LENGTH_TWO;
 use sdls_outside::Site;
 use unit_plan::{Plan, bare_plan_is_short, write_bare_plan};

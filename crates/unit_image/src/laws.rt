@@ -1,23 +1,23 @@
 // Laws of images: each function is a statement about the definitions, and does nothing.
 ghost use Rattle.std.specs.Prelude.{◌≡◌, ℕ, List};
-ghost use Rattle.sdls_base.specs.declared.change.Change.{Change};
-ghost use Rattle.sdls_base.specs.declared.version.Version.TheVariants.{Two};
-ghost use Rattle.book_record.specs.Record.{IsRecord};
+ghost use Rattle.sdls_outside.specs.Moments.{Trace};
 ghost use Rattle.unit_state.specs.declared.state.State.{State};
 ghost use Rattle.unit_state.specs.Applied.{applied};
 ghost use Rattle.unit_state.specs.Restart.{restarted};
 ghost use Rattle.unit_state.specs.Laws.{StoresWell};
-ghost use Rattle.image_content.specs.Reading.{IsContent};
-ghost use Rattle.sdls_outside.specs.Moments.{Trace};
+ghost use Rattle.book_record.specs.Record.{IsRecord};
 ghost use Rattle.disk_journal.specs.Changes.{KeepsBeside};
 ghost use Rattle.disk_journal.specs.Image.{Held, grown, turned, migrated};
 ghost use Rattle.disk_journal.specs.Journal.{IsSettled, JournalView};
+ghost use Rattle.unit_image.specs.ContentReading.{IsContent};
 ghost use Rattle.unit_image.specs.Shows.{SaysState, Shows, ShowsNone};
 ghost use Rattle.unit_image.specs.Storing.{LeavesRest, LeavesRestImage};
+ghost use Rattle.sdls_base.specs.declared.entry.Change.{Change};
+ghost use Rattle.sdls_base.specs.declared.version.Version.TheVariants.{Two};
 
+use crate::content::one_state;
 use book_record::one_change;
 use disk_journal::rest_is_whole;
-use image_content::one_state;
 use unit_state::restarts_once;
 
 /// Law: an image shows at most one state.

@@ -2,26 +2,25 @@
 ghost use Rattle.std.specs.Prelude.{◌≡◌, ◌≤◌, ℕ, List, IsTrue, IfErr, IfOk, OnOk, length, vec_len};
 ghost use Rattle.sdls_outside.specs.Disk.{Leaves};
 ghost use Rattle.sdls_outside.specs.Moments.{EachMoment};
-ghost use Rattle.disk_journal.specs.Moments.{EachImage, OnlySyncs};
-ghost use Rattle.unit_state.specs.State.{KeepsRules};
 ghost use Rattle.unit_plan.specs.Plan.{plan_of};
-ghost use Rattle.unit_image.specs.OpeningImage.{HasOpenFault};
+ghost use Rattle.unit_state.specs.State.{KeepsRules};
+ghost use Rattle.disk_journal.specs.Moments.{EachImage, OnlySyncs};
 ghost use Rattle.disk_journal.specs.declared.layout.TheConstants.{PLAN_ROOM};
 ghost use Rattle.disk_journal.specs.Changes.{KeepsPlan};
 ghost use Rattle.disk_journal.specs.Image.{held};
 ghost use Rattle.disk_journal.specs.Journal.{HasSiteFault, IsOpen, IsSettled};
+ghost use Rattle.unit_image.specs.OpeningImage.{HasOpenFault, BringsUp, IsHeldNext, StaysOutside, LeavesShown, Opening};
 ghost use Rattle.unit_image.specs.Shows.{Shows, ShowsNone};
 ghost use Rattle.unit_image.specs.Image.{IsOfTwo};
-ghost use Rattle.unit_image.specs.OpeningImage.{BringsUp, IsHeldNext, StaysOutside, LeavesShown, Opening};
 
-use crate::fault::OpenFault;
+use crate::content::write_content_two;
 use crate::laws::refused_with_one;
 use crate::reading::{open_fault, read_plan, read_state, take_records};
 use disk_journal::{Journal, JournalFault, PLAN_ROOM};
-use image_content::write_content_two;
 use sdls_base::{CONTENT_LENGTH_TWO, Version};
 use sdls_outside::Site;
 use std::alloc::{AllocError, Global};
+use thiserror::Error;
 use unit_plan::Plan;
 use unit_state::State;
 
@@ -215,4 +214,18 @@ pub fn open<O: Site>(alloc: Global, site: &mut O, room: &mut [u8]) -> Result<Ope
         Ok(()) => Ok(opened),
         Err(fault) => Err(open_fault(fault)),
     }
+}
+
+/// Why an image is not opened.
+#[derive(Clone, Copy, Debug, PartialEq, Eq, Error)]
+pub enum OpenFault {
+    /// The site failed; the count of its faults, which rose in the call.
+    #[error("site failed: {0} faults")]
+    SiteFault(u64),
+    /// The image shows no state; the offset of the first check that fails.
+    #[error("image shows no state: the check at octet {0} fails")]
+    Image(u64),
+    /// Memory ran out.
+    #[error("no memory")]
+    NoMemory,
 }

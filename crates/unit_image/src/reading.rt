@@ -1,23 +1,22 @@
 // What the plan, the content and the records of an image say.
 ghost use Rattle.std.specs.Prelude.{◌≡◌, ◌≢◌, ℕ, ◌≤◌, ◌<◌, IsTrue, IfOk, IfErr, OnOk, MatchOption, MatchResult, length};
-ghost use Rattle.sdls_base.specs.declared.change.Change.{Change};
-ghost use Rattle.book_record.specs.Record.{IsRecord};
 ghost use Rattle.unit_state.specs.State.{KeepsRules};
 ghost use Rattle.unit_state.specs.Allows.{Allows};
-ghost use Rattle.unit_image.specs.Shows.{LeadTo, IsNoChangeAt, IsBadRecord};
-ghost use Rattle.unit_image.specs.OpeningImage.{HasOpenFault, TakesRecord};
-ghost use Rattle.image_content.specs.Rows.{HasRowsCause};
-ghost use Rattle.sdls_base.specs.Version.{content_length_of};
+ghost use Rattle.book_record.specs.Record.{IsRecord};
 ghost use Rattle.disk_journal.specs.Image.{records, held, record_at};
 ghost use Rattle.disk_journal.specs.Journal.{IsOpen};
 ghost use Rattle.disk_journal.specs.Runs.{IsRunOf};
-ghost use Rattle.unit_image.specs.Shows.{SaysBarePlan, IsContentUnder, SaysNone};
-ghost use Rattle.unit_image.specs.OpeningImage.{as_open_fault, IsNoContent, IsTextCause};
+ghost use Rattle.unit_image.specs.Rows.{HasRowsCause};
+ghost use Rattle.unit_image.specs.Shows.{LeadTo, IsNoChangeAt, IsBadRecord, SaysBarePlan, IsContentUnder, SaysNone};
+ghost use Rattle.unit_image.specs.OpeningImage.{HasOpenFault, TakesRecord, as_open_fault, IsNoContent, IsTextCause};
+ghost use Rattle.sdls_base.specs.declared.entry.Change.{Change};
+ghost use Rattle.sdls_base.specs.Version.{content_length_of};
 
-use crate::fault::OpenFault;
+use crate::content::read_content;
+use crate::opening_image::OpenFault;
+use crate::rows::RowsFault;
 use book_record::{RecordError, read_record};
 use disk_journal::{Journal, JournalFault, PLAN_AT, PLAN_ROOM, RecordRun, SLOT_COUNT_AT};
-use image_content::{RowsFault, read_content};
 use sdls_base::{BODY_LENGTH, CONTENT_LENGTH_TWO, Change, ChannelList, NoMemory, Version};
 use sdls_outside::Site;
 use std::alloc::Global;

@@ -11,7 +11,7 @@ use Rattle.std.proofs.lemmas.Bool.Decides.{nat_tests}
 use Rattle.sdls_base.specs.declared.link.AnyLayout.{AnyLayout}
 use Rattle.sdls_base.specs.declared.link.AnyLayout.TheVariants.{Tc, Tm, Aos}
 use Rattle.sdls_base.specs.declared.link.Link.{Link}
-use Rattle.unit_plan.specs.declared.channel_line.ChannelPlace.{ChannelPlace}
+use Rattle.unit_plan.specs.declared.link_line.ChannelPlace.{ChannelPlace}
 use Rattle.unit_plan.specs.declared.plan_error.PlanCause.{PlanCause}
 use Rattle.unit_plan.specs.declared.plan_error.PlanCause.TheVariants.{Form, Order, Range, Twice, Unknown}
 use Rattle.unit_plan.specs.declared.plan_error.PlanFault.{PlanFault}

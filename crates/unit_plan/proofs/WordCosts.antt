@@ -22,7 +22,7 @@ use Rattle.unit_plan.specs.LineForm.{version_said, device_said, number_said}
 use Rattle.unit_plan.specs.LinkLine.{mask_of, mask_said, mask_at, tc_at, tm_at, aos_at, frame_of, frame_at, link_said}
 use Rattle.unit_plan.specs.LinkLine.{is_layout}
 use Rattle.unit_plan.specs.ChannelLine.{channel_said}
-use Rattle.unit_plan.specs.declared.channel_line.ChannelPlace.{ChannelPlace}
+use Rattle.unit_plan.specs.declared.link_line.ChannelPlace.{ChannelPlace}
 
 -- the octets of words, each with a space
 abbrev pub cost : List (List ℕ) → ℕ

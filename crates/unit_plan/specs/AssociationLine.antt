@@ -5,8 +5,8 @@ use Rattle.sdls_base.specs.declared.states.Direction.TheVariants.{Send, Receive}
 use Rattle.sdls_base.specs.declared.states.Suite.{Suite}
 use Rattle.sdls_base.specs.declared.states.Suite.TheVariants.{Cmac, Gcm}
 use Rattle.sdls_base.specs.declared.TheConstants.{MOST_CHANNELS}
-use Rattle.unit_plan.specs.declared.association_line.BeforeList.{BeforeList}
-use Rattle.unit_plan.specs.declared.association_line.AssociationLine.{AssociationLine}
+use Rattle.unit_plan.specs.declared.key_line.BeforeList.{BeforeList}
+use Rattle.unit_plan.specs.declared.key_line.AssociationLine.{AssociationLine}
 use Rattle.unit_plan.specs.Reading.{◌>>=◌, first_of, end_of}
 use Rattle.unit_plan.specs.Field.{decimal_at, choice_at, channel_numbers}
 

@@ -2,7 +2,7 @@
 use Rattle.std.specs.Prelude.{ℕ, ◌==◌, nat_le, Bool, true, false, not, ◌&&◌, List, Option, Some, None}
 use Rattle.sdls_base.specs.declared.link.AnyLayout.{AnyLayout}
 use Rattle.sdls_base.specs.declared.link.AnyLayout.TheVariants.{Tc, Tm, Aos}
-use Rattle.unit_plan.specs.declared.channel_line.ChannelPlace.{ChannelPlace}
+use Rattle.unit_plan.specs.declared.link_line.ChannelPlace.{ChannelPlace}
 use Rattle.unit_plan.specs.Reading.{◌>>=◌, end_of}
 use Rattle.unit_plan.specs.Field.{capped_at, optional_at}
 

@@ -1,7 +1,7 @@
 -- Profile: the values of lines, and their bounds.
 use Rattle.std.specs.Prelude.{ℕ, ◌^◌, nat_le, ◌&&◌, List, codes, Option, Some, None, if◌then◌else◌}
 use Rattle.sdls_base.specs.declared.TheConstants.{MOST_WINDOW}
-use Rattle.unit_plan.specs.declared.association_line.AssociationLine.{AssociationLine}
+use Rattle.unit_plan.specs.declared.key_line.AssociationLine.{AssociationLine}
 use Rattle.unit_plan.specs.declared.plan.PlanSa.{PlanSa}
 use Rattle.unit_plan.specs.AssociationLine.{are_channel_ids}
 use Rattle.unit_plan.specs.Reading.{◌>>=◌, first_of, past, end_of}

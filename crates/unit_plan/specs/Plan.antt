@@ -1,7 +1,7 @@
 -- Profile: what the lines of a plan say, or the first line that has a cause with its first cause.
 use Rattle.std.specs.Prelude.{◌≡◌, ⊤, ℕ, ◌+◌, ◌==◌, nat_le, nat_lt, Bool, true, not, List, [], ◌∷◌, ◌++◌, length}
 use Rattle.std.specs.Prelude.{Option, Some, None, Result, Ok, Err, if◌then◌else◌}
-use Rattle.unit_plan.specs.declared.channel_line.ChannelPlace.{ChannelPlace}
+use Rattle.unit_plan.specs.declared.link_line.ChannelPlace.{ChannelPlace}
 use Rattle.unit_plan.specs.declared.kind.Kind.{Kind}
 use Rattle.unit_plan.specs.declared.kind.Kind.TheVariants as kinds
 use Rattle.sdls_base.specs.declared.link.Link.{Link}

@@ -3,7 +3,7 @@ use Rattle.std.specs.Prelude.{ℕ, ◌==◌, Bool, List, [], ◌∷◌, Option}
 use Rattle.std.specs.List.{list_any, find}
 use Rattle.std.specs.Option.{option_map}
 use Rattle.sdls_base.specs.declared.link.Link.{Link}
-use Rattle.unit_plan.specs.declared.channel_line.ChannelPlace.{ChannelPlace}
+use Rattle.unit_plan.specs.declared.link_line.ChannelPlace.{ChannelPlace}
 use Rattle.unit_plan.specs.declared.plan.PlanKey.{PlanKey}
 use Rattle.unit_plan.specs.declared.plan.PlanSa.{PlanSa}
 

@@ -1,22 +1,17 @@
 //! A text read on behind lines at fault: of each line the first word that is not what was expected. What a line at
 //! fault names counts as named, so a line that names a link of a line at fault is not at fault for that.
+//! What was expected at a word that is at fault.
 ghost use Rattle.std.specs.Prelude.{◌≡◌, Ok, None, IsTrue};
 ghost use Rattle.unit_plan.specs.Plan.{is_skipped};
 ghost use Rattle.unit_plan.specs.Above.{missing_head};
 
-use crate::association_line::before_list;
 use crate::bounds::LEAST_SLOTS;
-use crate::channel_line::{ChannelPlace, channel};
-use crate::expected::{Expected, NamedAbove, Spot};
-use crate::heads::{device, number, version};
-use crate::key_line::before_octets;
+use crate::fields::{MARK, Names, number_of, spelling_spot};
+use crate::key_line::{before_list, before_octets};
 use crate::kind::{Kind, kind_of};
 use crate::lines::Words;
-use crate::link_line::link;
-use crate::names::Names;
-use crate::number::number_of;
-use crate::reader::Reader;
-use crate::spelling::{MARK, spelling_spot};
+use crate::link_line::{ChannelPlace, channel, link};
+use crate::reader::{Reader, device, number, version};
 use crate::taking::is_skipped;
 use sdls_base::{AnyLayout, NoMemory};
 use std::alloc::Global;
@@ -245,4 +240,122 @@ pub fn stand_in(line: &[u8]) -> &'static [u8] {
         Some(Kind::Accept) => b"accept 1",
         _ => b"",
     }
+}
+
+/// The place of a word at fault among the words of its line, from 1, and what was expected there.
+#[derive(Clone, Copy)]
+pub struct Spot {
+    pub word: u32,
+    pub expected: Expected,
+}
+
+/// What was expected at a word that is at fault.
+#[derive(Clone, Copy)]
+pub enum Expected {
+    Spelling(Spelling),
+    /// The first word of a line.
+    Kind,
+    /// One of the first five lines, counted from 0.
+    Head(u8),
+    /// Any other line than one of the first five.
+    NoHead,
+    HeadWord(HeadWord),
+    Link(LinkWord),
+    Channel(ChannelWord),
+    Key(KeyWord),
+    Association(AssociationWord),
+    NamedAbove(NamedAbove),
+}
+
+/// How words stand on a line, whatever they say.
+#[derive(Clone, Copy)]
+pub enum Spelling {
+    LineFeed,
+    NoMark,
+    OneSpace,
+    NoTab,
+    Ascii,
+    NoComment,
+    End,
+}
+
+/// The second word of one of the first five lines.
+#[derive(Clone, Copy)]
+pub enum HeadWord {
+    Version,
+    Device,
+    Slots,
+    Count,
+}
+
+/// A word of the line of a link.
+#[derive(Clone, Copy)]
+pub enum LinkWord {
+    Number,
+    Frames,
+    Segments,
+    Fecf,
+    Ocf,
+    /// A mask of so many octets.
+    Mask(u8),
+    Length,
+    /// A length of at least so many octets.
+    LengthFrom(u64),
+    Insert,
+}
+
+/// A word of the line of a channel.
+#[derive(Clone, Copy)]
+pub enum ChannelWord {
+    Number,
+    /// At most this number.
+    Spacecraft(u64),
+    /// At most this number.
+    VirtualChannel(u64),
+    Map(MapWord),
+}
+
+/// The multiplexer access point (MAP) of a channel.
+#[derive(Clone, Copy)]
+pub enum MapWord {
+    /// A number: the frames of the link have segment headers.
+    Number,
+    /// No number, which `-` says.
+    Absent,
+    /// Either: the line of the link is at fault.
+    Either,
+}
+
+/// A word of the line of a key.
+#[derive(Clone, Copy)]
+pub enum KeyWord {
+    Number,
+    State,
+    Digits,
+}
+
+/// A word of the line of an association.
+#[derive(Clone, Copy)]
+pub enum AssociationWord {
+    Spi,
+    Direction,
+    Suite,
+    Number,
+    Window,
+    Channels,
+}
+
+/// What the lines above name, or do not name.
+#[derive(Clone, Copy)]
+pub enum NamedAbove {
+    KnownLink,
+    KnownKey,
+    /// There is no line of this channel.
+    KnownChannel(u64),
+    // What has a line already, which is this one.
+    NewLink(u64),
+    NewChannel(u64),
+    NewPlace(u64),
+    NewKey(u64),
+    NewSpi(u64),
 }

@@ -1,8 +1,12 @@
 //! A plan's text without its keys and associations, which is what an image holds of it.
-ghost use Rattle.std.specs.Prelude.{◌≡◌, ◌+◌, ◌≤◌, ◌++◌, [], length, take, drop, if◌then◌else◌};
+//! Laws of the bare plan.
+ghost use Rattle.std.specs.Prelude.{◌≡◌, ◌+◌, ◌≤◌, ◌++◌, [], length, take, drop, if◌then◌else◌, ℕ, List, Ok};
 ghost use Rattle.unit_plan.specs.Lines.{words_of};
-ghost use Rattle.unit_plan.specs.Bare.{names_rows, is_bare, ended, bare_of};
+ghost use Rattle.unit_plan.specs.Bare.{names_rows, is_bare, ended, bare_of, without_rows};
+ghost use Rattle.unit_plan.specs.Plan.{plan_of};
+ghost use Rattle.unit_plan.specs.PlanLines.{PlanLines};
 
+use crate::MOST_OCTETS;
 use crate::lines::{Lines, Words};
 use crate::taking::is_skipped;
 use sdls_base::put;
@@ -64,3 +68,17 @@ pub fn write_bare_plan(text: &[u8], out: &mut [u8]) -> usize
     }
     end
 }
+
+/// Law: the bare plan of a plan is no longer than a plan may be, though the last line of the plan may lack its line
+/// feed.
+#[tactic(auto, using(crate::proofs::BareRoom::bare_plan_is_short))]
+pub fn bare_plan_is_short()
+    ensures { (text : List ℕ) (plan : PlanLines) → plan_of text ≡ Ok plan → length (bare_of text) ≤ MOST_OCTETS }
+{}
+
+/// Law: the bare plan of a plan reads as the plan without keys and associations.
+#[tactic(auto, using(crate::proofs::BareRoom::bare_plan_reads))]
+pub fn bare_plan_reads()
+    ensures { (text : List ℕ) (plan : PlanLines) → plan_of text ≡ Ok plan
+        → plan_of (bare_of text) ≡ Ok (without_rows plan) }
+{}

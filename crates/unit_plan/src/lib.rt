@@ -9,42 +9,30 @@
 #![tactic(auto)]
 
 mod above;
-mod association_line;
 mod bare;
-mod bare_laws;
 mod bounds;
-mod channel_line;
-mod channels;
-mod expected;
 mod fields;
-mod heads;
 mod key_line;
 mod kind;
 mod lines;
 mod link_line;
-mod names;
-mod number;
 mod plan;
 mod plan_error;
 mod reader;
-mod reading;
-mod spelling;
 mod taking;
 
-pub use above::{Above, stand_in};
-pub use association_line::are_channel_ids;
-pub use bare::write_bare_plan;
-pub use bare_laws::{bare_plan_is_short, bare_plan_reads};
-pub use channel_line::ChannelPlace;
-pub use expected::{
-    AssociationWord, ChannelWord, Expected, HeadWord, KeyWord, LinkWord, MapWord, NamedAbove,
-    Spelling, Spot,
+pub use above::{
+    Above, AssociationWord, ChannelWord, Expected, HeadWord, KeyWord, LinkWord, MapWord,
+    NamedAbove, Spelling, Spot, stand_in,
 };
+pub use bare::{bare_plan_is_short, bare_plan_reads, write_bare_plan};
+pub use fields::number_of;
+pub use key_line::are_channel_ids;
 pub use lines::{Lines, Words};
-pub use number::number_of;
+pub use link_line::ChannelPlace;
 pub use plan::{Plan, PlanKey, PlanSa};
 pub use plan_error::{PlanCause, PlanError, PlanFault};
-pub use reading::{ended, pass};
+pub use reader::{ended, pass};
 pub use sdls_base::{AnyLayout, Link, Mask};
 
 /// The most octets of a plan.

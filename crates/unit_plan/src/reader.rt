@@ -1,16 +1,16 @@
 //! The words of a line, read from left to right, with the first that is not what was expected.
+//! The words of the first five lines behind the first.
 ghost use Rattle.std.specs.Prelude.{◌≡◌};
 ghost use Rattle.std.specs.Iterator.{YieldsFirstBy};
 ghost use Rattle.unit_plan.specs.Lines.{words_of};
 ghost use Rattle.unit_plan.specs.Reading.{Reads, past, end_of};
+ghost use Rattle.unit_plan.specs.LineForm.{version_said, device_said, number_said};
 
-use crate::bounds::MOST_CHANNEL;
-use crate::expected::{AssociationWord, Expected, NamedAbove, Spelling, Spot};
+use crate::above::{AssociationWord, Expected, HeadWord, NamedAbove, Spelling, Spot};
+use crate::bounds::{LEAST_SLOTS, MOST_CHANNEL, MOST_COUNT};
+use crate::fields::{Names, Room, decimal, decode, number_of};
 use crate::kind::Kind;
 use crate::lines::{Items, Words};
-use crate::names::{Names, Room};
-use crate::number::number_of;
-use crate::reading::{ended, pass};
 use sdls_base::MOST_CHANNELS;
 use std::marker::Model;
 
@@ -190,4 +190,59 @@ impl<'a> Reader<'a> {
             self.note(expected);
         }
     }
+}
+
+/// Passes over these words where they come next.
+#[tactic(auto, unfolding(crate::specs::Reading::past))]
+pub fn pass(words: &mut Words<'_>, expected: &[u8]) -> Option<()>
+    ensures { Reads result (past (words_of expected.now) words.old) words.new }
+{
+    for word in Words::of(expected) {
+        if words.next()? != word {
+            return None;
+        }
+    }
+    Some(())
+}
+
+/// Says whether no word is left.
+pub fn ended(words: &mut Words<'_>) -> Option<()>
+    ensures { result ≡ end_of words.old }
+{
+    match words.next() {
+        None => Some(()),
+        Some(_) => None,
+    }
+}
+
+pub(crate) fn version(words: &mut Reader<'_>) -> Option<()>
+    ensures { result ≡ version_said words.old }
+{
+    words.pass(b"1", Expected::HeadWord(HeadWord::Version))?;
+    words.end()
+}
+
+pub(crate) fn device(words: &mut Reader<'_>) -> Option<[u8; 4]>
+    ensures { result ≡ device_said words.old }
+{
+    let word = words.next(Expected::HeadWord(HeadWord::Device))?;
+    let octets = decode(word);
+    words.test(octets.is_some(), Expected::HeadWord(HeadWord::Device));
+    let octets = octets?;
+    words.end()?;
+    Some(octets)
+}
+
+/// The one number of a line: the slots, or any other from 1 on.
+pub(crate) fn number(words: &mut Reader<'_>, least: u64) -> Option<u64>
+    ensures { result ≡ number_said words.old }
+{
+    let expected = if least == LEAST_SLOTS {
+        HeadWord::Slots
+    } else {
+        HeadWord::Count
+    };
+    let n = decimal(words, least, MOST_COUNT, Expected::HeadWord(expected))?;
+    words.end()?;
+    Some(n)
 }

@@ -6,21 +6,18 @@ ghost use Rattle.unit_plan.specs.PlanRules.{IsAssociation};
 ghost use Rattle.unit_plan.specs.PlanError.{Gives};
 ghost use Rattle.unit_plan.specs.LineForm.{bounded, channel_id, association_of};
 ghost use Rattle.unit_plan.specs.Plan.{TakesPlanLine, in_order, is_on_link, version_taken, device_taken, slots_taken};
-ghost use Rattle.unit_plan.specs.Plan.{number_in_order, link_admitted, channel_admitted, key_admitted};
-ghost use Rattle.unit_plan.specs.Plan.{block_taken, accept_taken, link_taken, channel_taken, key_taken, admitted};
+ghost use Rattle.unit_plan.specs.Plan.{number_in_order, link_admitted, channel_admitted, key_admitted, block_taken};
+ghost use Rattle.unit_plan.specs.Plan.{accept_taken, link_taken, channel_taken, key_taken, admitted};
 ghost use Rattle.unit_plan.specs.Plan.{association_added, association_taken, taken_as, taken, is_skipped, line_taken};
 
-use crate::association_line::{AssociationLine, are_channel_ids, association};
+use crate::above::Expected;
 use crate::bounds::{LEAST_SLOTS, MOST_COUNT, MOST_KEY, MOST_LINK, MOST_NUMBER, MOST_SPI};
-use crate::channel_line::{ChannelPlace, channel, is_place};
-use crate::expected::Expected;
-use crate::heads::{device, number, version};
-use crate::key_line::key;
+use crate::key_line::{AssociationLine, are_channel_ids, association, key};
 use crate::kind::{Kind, kind_of};
-use crate::link_line::{is_link, link};
+use crate::link_line::{ChannelPlace, channel, is_link, is_place, link};
 use crate::plan::{Plan, PlanKey, PlanSa};
 use crate::plan_error::{PlanCause, PlanError, check, refused};
-use crate::reader::Reader;
+use crate::reader::{Reader, device, number, version};
 use sdls_base::{ChannelId, KeyId, KeyItem, Link, MOST_WINDOW, NewSa, Spi};
 use std::alloc::Global;
 

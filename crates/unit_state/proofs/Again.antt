@@ -6,9 +6,9 @@ use Rattle.std.specs.Option.{option_map, option_and_then, option_map_or, option_
 use Rattle.std.proofs.lemmas.List.{map-append}
 use Rattle.std.proofs.lemmas.List.Folds.{find-append}
 use Rattle.sdls_base.proofs.Searches.{find-map}
-use Rattle.sdls_base.specs.declared.change.Change.{Change}
-use Rattle.sdls_base.specs.declared.change.Change.TheVariants.{Marks, Load, KeyStates, Create, Rekey, SaTo, SetNumber}
-use Rattle.sdls_base.specs.declared.change.Change.TheVariants.{SetWindow, Accepted, Nothing}
+use Rattle.sdls_base.specs.declared.entry.Change.{Change}
+use Rattle.sdls_base.specs.declared.entry.Change.TheVariants.{Marks, Load, KeyStates, Create, Rekey, SaTo, SetNumber}
+use Rattle.sdls_base.specs.declared.entry.Change.TheVariants.{SetWindow, Accepted, Nothing}
 use Rattle.sdls_base.specs.declared.states.Direction.{Direction}
 use Rattle.sdls_base.specs.declared.states.Direction.TheVariants.{Send, Receive}
 use Rattle.sdls_base.specs.declared.states.KeyState.{KeyState}
@@ -22,7 +22,7 @@ use Rattle.key_book.specs.KeyBook.{row_of, changed}
 use Rattle.key_book.specs.KeyRow as keys
 use Rattle.key_book.specs.Moves.{moved}
 use Rattle.key_book.proofs.Moved.{moved_row}
-use Rattle.sa_book.specs.declared.sa_row.SaRow.{SaRow}
+use Rattle.sa_book.specs.declared.sa_book.SaRow.{SaRow}
 use Rattle.sa_book.specs.SaBook.{with_row}
 use Rattle.sa_book.specs.SaBook as association_rows
 use Rattle.sa_book.specs.SaRow.{new_row, with_key, without_key, following}

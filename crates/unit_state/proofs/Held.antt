@@ -12,7 +12,7 @@ use Rattle.sdls_base.specs.declared.states.Direction.TheVariants.{Send, Receive}
 use Rattle.key_book.specs.declared.key_row.KeyRow.{KeyRow}
 use Rattle.key_book.specs.KeyBook as key_rows
 use Rattle.replay_window.specs.Window.{begun_at}
-use Rattle.sa_book.specs.declared.sa_row.SaRow.{SaRow}
+use Rattle.sa_book.specs.declared.sa_book.SaRow.{SaRow}
 use Rattle.sa_book.specs.SaBook as association_rows
 use Rattle.unit_state.specs.State.{MayHold, HasKey}
 use Rattle.unit_state.specs.Restart.{restarted_high, restarted_row}

@@ -13,11 +13,11 @@ use Rattle.sdls_base.specs.FirstFailing.{fails_if}
 use Rattle.sdls_base.proofs.Searches.{find-map, find_placed, find_nowhere}
 use Rattle.sdls_base.specs.KeyId.{end_of}
 use Rattle.sdls_base.specs.declared.TheConstants.{MOST_KEYS}
-use Rattle.sdls_base.specs.declared.key_item.KeyItem.{KeyItem}
+use Rattle.sdls_base.specs.declared.key_id.KeyItem.{KeyItem}
 use Rattle.sdls_base.specs.declared.states.KeyState.{KeyState}
 use Rattle.sdls_base.specs.declared.states.KeyState.TheVariants.{PreActive, Active, Deactivated, Destroyed}
 use Rattle.key_book.specs.declared.key_row.KeyRow.{KeyRow}
-use Rattle.key_book.specs.declared.key_refusal.KeyRefusal.TheVariants.{UnknownKey, BookFull}
+use Rattle.key_book.specs.declared.refusals.KeyRefusal.TheVariants.{UnknownKey, BookFull}
 use Rattle.key_book.specs.KeyRow.{new_row, in_state}
 use Rattle.key_book.specs.KeyBook.{AreKeyRows, IsKeyBook, row_of, place_of, changed}
 use Rattle.key_book.specs.KeyRefusal.{items_refusal, load_refusal}
@@ -25,7 +25,7 @@ use Rattle.key_book.specs.Moves.{lowest_holder, state_refusal, move_refusal, mov
 use Rattle.key_book.proofs.Rows.{AreKeyRows-push, set-changed, IsKeyBook-raise_mark, IsKeyBook-raise_floor}
 use Rattle.key_book.proofs.Rows.{IsKeyBook-set_marks}
 use Rattle.key_book.proofs.Moved.{moved_row}
-use Rattle.sa_book.specs.declared.sa_row.SaRow.{SaRow}
+use Rattle.sa_book.specs.declared.sa_book.SaRow.{SaRow}
 use Rattle.sa_book.specs.SaBook.{in_use}
 use Rattle.unit_state.proofs.Found.{found_passes}
 use Rattle.unit_state.proofs.Moves.{or_none, is_held, holder_found}

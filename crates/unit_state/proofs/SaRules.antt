@@ -9,8 +9,8 @@ use Rattle.sdls_base.specs.declared.states.SaState.{SaState}
 use Rattle.sdls_base.specs.declared.states.SaState.TheVariants.{Unkeyed, Keyed, Operational}
 use Rattle.replay_window.specs.WindowField.{IsWindowField}
 use Rattle.replay_window.specs.Window.{accepted, with_field}
-use Rattle.sa_book.specs.declared.sa_row.SaRow.{SaRow}
-use Rattle.sa_book.specs.declared.sa_refusal.SaRefusal.{SaRefusal}
+use Rattle.sa_book.specs.declared.sa_book.SaRow.{SaRow}
+use Rattle.sa_book.specs.declared.refusals.SaRefusal.{SaRefusal}
 use Rattle.sa_book.specs.SaRow.{MayAccept, with_key, without_key, following}
 use Rattle.sa_book.specs.SaBook.{IsSaBook, row_of, place_of, changed, without}
 use Rattle.sa_book.specs.SaRefusal.{on_row, rekey_refusal, start_refusal, stop_refusal, expire_refusal, delete_refusal}

@@ -4,11 +4,11 @@ use Rattle.std.specs.List.{Any}
 use Rattle.sdls_base.specs.Bounds.{AreChannels, IsKeyCount, IsKeyLength}
 use Rattle.sdls_base.specs.KeyId.{class_of, end_of}
 use Rattle.sdls_base.specs.declared.key_id.KeyClass.TheVariants.{Master}
-use Rattle.sdls_base.specs.declared.key_item.KeyItem.{KeyItem}
-use Rattle.sdls_base.specs.declared.change.Change.{Change}
-use Rattle.sdls_base.specs.declared.change.Change.TheVariants.{Marks, Load, KeyStates, Create, Rekey, SaTo, SetNumber}
-use Rattle.sdls_base.specs.declared.change.Change.TheVariants.{SetWindow, Accepted, Nothing}
-use Rattle.sdls_base.specs.declared.change.NewSa.{NewSa}
+use Rattle.sdls_base.specs.declared.key_id.KeyItem.{KeyItem}
+use Rattle.sdls_base.specs.declared.entry.Change.{Change}
+use Rattle.sdls_base.specs.declared.entry.Change.TheVariants.{Marks, Load, KeyStates, Create, Rekey, SaTo, SetNumber}
+use Rattle.sdls_base.specs.declared.entry.Change.TheVariants.{SetWindow, Accepted, Nothing}
+use Rattle.sdls_base.specs.declared.entry.NewSa.{NewSa}
 use Rattle.sdls_base.specs.declared.states.KeyState.{KeyState}
 use Rattle.sdls_base.specs.declared.states.KeyState.TheVariants.{Active}
 use Rattle.sdls_base.specs.declared.states.SaState.{SaState}
@@ -17,8 +17,8 @@ use Rattle.key_book.specs.declared.key_row.KeyRow.{KeyRow}
 use Rattle.key_book.specs.KeyRefusal.{load_refusal}
 use Rattle.key_book.specs.Moves.{moves_refusal}
 use Rattle.replay_window.specs.WindowField.{IsWindowField}
-use Rattle.sa_book.specs.declared.sa_refusal.SaRefusal.{SaRefusal}
-use Rattle.sa_book.specs.declared.sa_row.SaRow.{SaRow}
+use Rattle.sa_book.specs.declared.refusals.SaRefusal.{SaRefusal}
+use Rattle.sa_book.specs.declared.sa_book.SaRow.{SaRow}
 use Rattle.sa_book.specs.SaRow.{MayAccept}
 use Rattle.sa_book.specs.SaBook.{in_use}
 use Rattle.sa_book.specs.SaRefusal.{create_refusal, start_refusal, stop_refusal, expire_refusal, delete_refusal}

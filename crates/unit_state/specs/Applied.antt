@@ -1,9 +1,9 @@
 -- What each change makes of a state (CCSDS 355.1-B-1, key and SA management; numbers profile).
 use Rattle.std.specs.Prelude.{ℕ, ◌-◌, max, List, ◌++◌, map, Option, Some, None}
 use Rattle.std.specs.Option.{option_map, option_and_then}
-use Rattle.sdls_base.specs.declared.change.Change.{Change}
-use Rattle.sdls_base.specs.declared.change.Change.TheVariants.{Marks, Load, KeyStates, Create, Rekey, SaTo, SetNumber}
-use Rattle.sdls_base.specs.declared.change.Change.TheVariants.{SetWindow, Accepted, Nothing}
+use Rattle.sdls_base.specs.declared.entry.Change.{Change}
+use Rattle.sdls_base.specs.declared.entry.Change.TheVariants.{Marks, Load, KeyStates, Create, Rekey, SaTo, SetNumber}
+use Rattle.sdls_base.specs.declared.entry.Change.TheVariants.{SetWindow, Accepted, Nothing}
 use Rattle.sdls_base.specs.declared.states.Direction.{Direction}
 use Rattle.sdls_base.specs.declared.states.Direction.TheVariants.{Send, Receive}
 use Rattle.sdls_base.specs.declared.states.SaState.{SaState}
@@ -13,7 +13,7 @@ use Rattle.key_book.specs.KeyBook as key_rows
 use Rattle.key_book.specs.KeyRow as keys
 use Rattle.key_book.specs.Moves.{moved}
 use Rattle.replay_window.specs.Window.{accepted, with_field}
-use Rattle.sa_book.specs.declared.sa_row.SaRow.{SaRow}
+use Rattle.sa_book.specs.declared.sa_book.SaRow.{SaRow}
 use Rattle.sa_book.specs.SaBook.{changed, without, with_row}
 use Rattle.sa_book.specs.Numbers.{lowered}
 use Rattle.sa_book.specs.SaRow.{new_row, with_key, without_key, following}

@@ -4,7 +4,7 @@ use Rattle.sdls_base.specs.declared.states.KeyState.TheVariants.{Active}
 use Rattle.key_book.specs.declared.key_row.KeyRow.{KeyRow}
 use Rattle.key_book.specs.KeyBook.{IsKeyBook}
 use Rattle.key_book.specs.KeyBook as key_rows
-use Rattle.sa_book.specs.declared.sa_row.SaRow.{SaRow}
+use Rattle.sa_book.specs.declared.sa_book.SaRow.{SaRow}
 use Rattle.sa_book.specs.SaBook.{IsSaBook}
 use Rattle.sa_book.specs.SaBook as association_rows
 use Rattle.unit_state.specs.declared.state.State.{State}

@@ -1,13 +1,12 @@
 //! Whether a state allows a change. Nothing here takes memory.
-
 ghost use Rattle.std.specs.Prelude.{◌≡◌, ◌↔◌, ◌<◌, ◌≤◌, true, [], Some, None, IfSome, All};
 ghost use Rattle.std.specs.List.{Any, list_any};
 ghost use Rattle.std.specs.Option.{option_map};
 ghost use Rattle.sdls_base.specs.Bounds.{IsKeyCount};
-ghost use Rattle.key_book.specs.KeyRow.{IsKeyRow};
 ghost use Rattle.sdls_base.specs.declared.states.KeyState.TheVariants.{Deactivated};
-ghost use Rattle.key_book.specs.Moves.{moves_refusal};
 ghost use Rattle.replay_window.specs.declared.TheConstants.{MOST_BACK};
+ghost use Rattle.key_book.specs.KeyRow.{IsKeyRow};
+ghost use Rattle.key_book.specs.Moves.{moves_refusal};
 ghost use Rattle.sa_book.specs.SaBook.{in_use};
 ghost use Rattle.sa_book.specs.SaRefusal.{is_key};
 ghost use Rattle.sa_book.specs.SaRow.{MayAccept};
@@ -16,8 +15,7 @@ ghost use Rattle.unit_state.specs.Allows.{Allows, IsSessionKey, IsActiveMaster, 
 ghost use Rattle.unit_state.specs.Allows.{AllowsStates, AllowsCreate, AllowsRekey, AllowsNumber, AllowsWindow};
 ghost use Rattle.unit_state.specs.Allows.{AllowsAccepted, state_refusal};
 
-use crate::state::State;
-use crate::taking::least_with;
+use crate::state::{State, least_with};
 use key_book::KeyRow;
 use replay_window::{Verdict, is_window_field};
 use sa_book::SaRow;

@@ -1,17 +1,15 @@
 //! Each change, where the state allows it.
-
 ghost use Rattle.std.specs.Prelude.{◌≡◌, ◌<◌, ◌≤◌, ◌-◌, Some, None, OnOk, OnErr, IsSome};
-ghost use Rattle.sdls_base.specs.KeyId.{end_of};
 ghost use Rattle.key_book.specs.KeyRow.{IsKeyRow};
-ghost use Rattle.sdls_base.specs.declared.change.Change.TheVariants.{Marks, Load, KeyStates, Create, Rekey, SaTo};
-ghost use Rattle.sdls_base.specs.declared.change.Change.TheVariants.{SetNumber, SetWindow, Accepted};
 ghost use Rattle.unit_state.specs.State.{key_row, association_row};
 ghost use Rattle.unit_state.specs.Applied.{applied, numbered, direction_of, key_held};
 ghost use Rattle.unit_state.specs.Allows.{AllowsMarks, AllowsLoad, AllowsStates, AllowsCreate, AllowsRekey};
 ghost use Rattle.unit_state.specs.Allows.{AllowsNumber, AllowsWindow, AllowsAccepted, state_refusal};
+ghost use Rattle.sdls_base.specs.KeyId.{end_of};
+ghost use Rattle.sdls_base.specs.declared.entry.Change.TheVariants.{Marks, Load, KeyStates, Create, Rekey, SaTo};
+ghost use Rattle.sdls_base.specs.declared.entry.Change.TheVariants.{SetNumber, SetWindow, Accepted};
 
-use crate::state::State;
-use crate::taking::least_with;
+use crate::state::{State, least_with};
 use key_book::KeyRow;
 use sdls_base::{Direction, KeyId, KeyItems, KeyList, KeyState, NewSa, NoMemory, SaState, Spi};
 

@@ -1,9 +1,5 @@
 //! Laws of states and changes.
-
 ghost use Rattle.std.specs.Prelude.{◌≡◌, ℕ, ◌+◌, ◌≤◌, List, ◌++◌, Some, None};
-ghost use Rattle.sdls_base.specs.declared.entry.Entry.{Entry};
-ghost use Rattle.sdls_base.specs.declared.change.Change.{Change};
-ghost use Rattle.sdls_base.specs.declared.change.Change.TheVariants.{Marks};
 ghost use Rattle.unit_state.specs.declared.state.State.{State};
 ghost use Rattle.unit_state.specs.State.{KeepsRules};
 ghost use Rattle.unit_state.specs.Applied.{applied};
@@ -12,6 +8,9 @@ ghost use Rattle.unit_state.specs.Restart.{AreAlike, IsLight, IsStorable, restar
 ghost use Rattle.unit_state.specs.History.{after_all, at_epoch, epoch_after};
 ghost use Rattle.unit_state.specs.Laws.{Rises, FallOnlyTo, IsNoMarks, KeepsPlaces, HaveOwnBytes, ServeAlike};
 ghost use Rattle.unit_state.specs.Laws.{StoresWell};
+ghost use Rattle.sdls_base.specs.declared.entry.Entry.{Entry};
+ghost use Rattle.sdls_base.specs.declared.entry.Change.{Change};
+ghost use Rattle.sdls_base.specs.declared.entry.Change.TheVariants.{Marks};
 
 /// Law: a change that a state allows leaves the rules.
 pub fn rules_stay()

@@ -7,17 +7,13 @@
 
 mod allowing;
 mod changing;
-mod counting;
 mod laws;
 mod starting;
 mod state;
-mod taking;
 
-pub use counting::counts;
 pub use laws::{
     alike_allows, alike_applied, epochs_add, epochs_stay, histories_go_on, marks_fall_only_so,
     numbers_rise, octets_differ, places_stay, rest_stays, restarts_once, rules_stay, serve_alike,
     stored_well, unstored_stays,
 };
-pub use state::{State, restarted_high};
-pub use taking::least_with;
+pub use state::{State, counts, least_with, restarted_high};

@@ -1,18 +1,16 @@
 //! The state that a plan's lines make.
-
 ghost use Rattle.std.specs.Prelude.{◌≡◌, nat_le, length, map, position, IfOk, All};
 ghost use Rattle.std.specs.List.{position_or_len};
-ghost use Rattle.unit_plan.specs.declared.plan_error.PlanError.TheVariants as errors;
-ghost use Rattle.unit_plan.specs.declared.plan_error.PlanCause.TheVariants as causes;
-ghost use Rattle.unit_plan.specs.PlanError.{Gives};
 ghost use Rattle.sdls_base.specs.Bounds.{IsKeyLength};
+ghost use Rattle.unit_plan.specs.declared.plan_error.PlanError.{TheVariants as errors};
+ghost use Rattle.unit_plan.specs.declared.plan_error.PlanCause.{TheVariants as causes};
+ghost use Rattle.unit_plan.specs.PlanError.{Gives};
 ghost use Rattle.unit_plan.specs.PlanRules.{IsAssociation};
 ghost use Rattle.unit_state.specs.State.{KeepsRules};
-ghost use Rattle.unit_state.specs.Initial.{MakesLines, bare, loaded, activated, activated_if, key_made, created, keyed};
-ghost use Rattle.unit_state.specs.Initial.{started, association_made, OfKey, in_order, lines_made, initial};
+ghost use Rattle.unit_state.specs.Initial.{MakesLines, bare, loaded, activated, activated_if, key_made, created};
+ghost use Rattle.unit_state.specs.Initial.{keyed, started, association_made, OfKey, in_order, lines_made, initial};
 
-use crate::state::State;
-use crate::taking::least_with;
+use crate::state::{State, least_with};
 use key_book::{KeyBook, KeyRefusal};
 use sa_book::{SaBook, SaRefusal};
 use sdls_base::{ChannelList, KeyList, KeyState};

@@ -1,12 +1,15 @@
-ghost use Rattle.std.specs.Prelude.{◌≡◌, map, IfOk, OnOk, OnErr};
+//! The epoch of a history: how many of its changes count.
+ghost use Rattle.std.specs.Prelude.{◌≡◌, map, IfOk, OnOk, OnErr, ◌<◌};
+ghost use Rattle.sdls_base.specs.KeyId.{end_of};
 ghost use Rattle.sa_book.specs.SaRow.{HasHigh, IsSaRow};
 ghost use Rattle.sa_book.specs.SaBook.{IsSaBook};
 ghost use Rattle.unit_state.specs.State.{KeepsRules};
 ghost use Rattle.unit_state.specs.Applied.{applied};
 ghost use Rattle.unit_state.specs.Allows.{Allows};
-ghost use Rattle.unit_state.specs.Restart.{IsLight, restarted_high, restarted_row, restarted};
+ghost use Rattle.unit_state.specs.Restart.{IsLight, restarted_high, restarted_row, restarted, counts};
+ghost use Rattle.unit_state.specs.Taking.{least_with};
 
-use key_book::KeyBook;
+use key_book::{KeyBook, KeyRow};
 use sa_book::{SaBook, SaRow};
 use sdls_base::{Change, ChannelList, Direction, NoMemory};
 
@@ -110,5 +113,33 @@ impl State {
             channels: self.channels.clone()?,
             device: self.device,
         })
+    }
+}
+
+/// Whether a change counts for the epoch: all count but marks, acceptances and nothing, which leave what binds a frame
+/// as it was.
+pub fn counts(change: &Change) -> bool
+    ensures { result ≡ counts change.now }
+{
+    match change {
+        Change::Load(_)
+        | Change::KeyStates { .. }
+        | Change::Create(_)
+        | Change::Rekey { .. }
+        | Change::SaTo { .. }
+        | Change::SetNumber { .. }
+        | Change::SetWindow { .. } => true,
+        Change::Marks { .. } | Change::Accepted { .. } | Change::Nothing => false,
+    }
+}
+
+/// The least lawful number of an association with a key, by this word for one that sends.
+pub fn least_with(word: u64, direction: Direction, held: &KeyRow) -> u64
+    requires { held.now.floor < end_of held.now.id }
+    ensures { result ≡ least_with word direction held.now }
+{
+    match direction {
+        Direction::Send => word,
+        Direction::Receive => held.floor + 1,
     }
 }

@@ -1,8 +1,8 @@
 use Rattle.std.proofs.Common.{◌≡◌, ◌⊎◌, ◌∷◌, [], ◌++◌, List, Result, Ok, Err, codes, inl, inr}
 use Rattle.std.specs.Prelude.{OnOk}
 use Rattle.record_io.specs.declared.answers.Answer.{Answer}
-use Rattle.record_io.specs.declared.codes.AnswerCode.{AnswerCode}
-use Rattle.record_io.specs.declared.codes.AnswerCode.TheVariants.{Clear, Channel}
+use Rattle.record_io.specs.declared.code.AnswerCode.{AnswerCode}
+use Rattle.record_io.specs.declared.code.AnswerCode.TheVariants.{Clear, Channel}
 use Rattle.answer_text.specs.Part.{Part, parts_text}
 use Rattle.answer_text.specs.Part.Part.{named}
 use Rattle.answer_text.specs.Line.{HasValues, IsPlain}

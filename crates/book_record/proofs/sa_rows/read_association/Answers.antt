@@ -1,7 +1,7 @@
 use Rattle.std.proofs.Common.{sym, ap, ◌∙◌}
 use Rattle.std.proofs.lemmas.Result.{err_from_is_err_and}
 use Rattle.book_record.specs.SaParts.{sa_parts, sa_row_octets}
-use Rattle.sa_book.specs.declared.sa_row.SaRow.{SaRow}
+use Rattle.sa_book.specs.declared.sa_book.SaRow.{SaRow}
 use Rattle.book_record.proofs.Again.{unequal}
 use Rattle.book_record.proofs.Lists.{follows}
 use Rattle.book_record.proofs.Rows.{sa_row_says}

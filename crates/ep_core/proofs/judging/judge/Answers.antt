@@ -1,6 +1,6 @@
 use Rattle.std.proofs.Common.{◌∙◌, is_some}
 use Rattle.std.specs.Prelude.{if◌then◌else◌}
-use Rattle.ep_core.specs.declared.need.Need.TheVariants.{Nothing}
+use Rattle.ep_core.specs.declared.judging.Need.TheVariants.{Nothing}
 use Rattle.ep_core.proofs.judging.judge.Goals as goal
 
 pub returns-in-Rekey : goal.returns-in-Rekey

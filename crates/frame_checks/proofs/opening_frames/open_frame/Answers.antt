@@ -4,7 +4,7 @@ use Rattle.sdls_base.specs.FirstFailing.{first_failing}
 use Rattle.sdls_base.specs.declared.link.Link.{Link}
 use Rattle.unit_plan.specs.PlanLines.{link_of}
 use Rattle.frame_checks.specs.Accepting.{LeavesOctets, MayBeAccepted, OnAccepted, field_in}
-use Rattle.frame_checks.specs.declared.open_reply.OpenReply.TheVariants.{Layout}
+use Rattle.frame_checks.specs.declared.opening_frames.OpenReply.TheVariants.{Layout}
 use Rattle.frame_checks.specs.OpeningFrames.{IsReplyOn, IsReplyUnder, frame_checks}
 use Rattle.frame_checks.proofs.Replies.{early, on_line, without_line, told_first, reply_may}
 use Rattle.frame_checks.proofs.opening_frames.open_frame.Goals as goal

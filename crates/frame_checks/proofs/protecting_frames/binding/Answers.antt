@@ -1,6 +1,6 @@
 use Rattle.std.proofs.Common.{sym, ap, ◌∙◌, Bor}
 use Rattle.std.specs.Option.{option_map}
-use Rattle.sa_book.specs.declared.sa_row.SaRow.{SaRow}
+use Rattle.sa_book.specs.declared.sa_book.SaRow.{SaRow}
 use Rattle.frame_checks.proofs.Rows.{sender_keeps, sender_operational}
 use Rattle.frame_checks.proofs.protecting_frames.binding.Goals as goal
 

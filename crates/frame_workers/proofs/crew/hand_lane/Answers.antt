@@ -1,5 +1,5 @@
 use Rattle.std.proofs.Common.{List, ap, subst}
-use Rattle.record_io.specs.declared.records.Record.{Record}
+use Rattle.record_io.specs.declared.item_cursor.Record.{Record}
 use Rattle.shared_unit.specs.Turn.{IsReady}
 use Rattle.frame_workers.specs.Lanes.{HasRun}
 use Rattle.frame_workers.proofs.crew.hand_lane.Goals as goal

@@ -1,6 +1,6 @@
 use Rattle.std.proofs.Common.{List, sym, subst}
 use Rattle.counter_table.specs.Worker.{view}
-use Rattle.record_io.specs.declared.records.Record.{Record}
+use Rattle.record_io.specs.declared.item_cursor.Record.{Record}
 use Rattle.shared_unit.specs.Turn.{IsReady}
 use Rattle.frame_workers.specs.Lanes.{HaveRun}
 use Rattle.frame_workers.specs.Segment.{RanFrom}

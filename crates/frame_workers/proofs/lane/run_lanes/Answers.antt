@@ -2,7 +2,7 @@ use denote.Exit.{no}
 use denote.Param.{param}
 use denote.Param.Send.{param_sync, arg_sync, shr_sync, shr_slice_sync}
 use Rattle.std.proofs.Crossing.{sync as heap_sync}
-use Rattle.record_io.proofs.records.Record.TheSendSync.{the_sync as record_sync}
+use Rattle.record_io.proofs.item_cursor.Record.TheSendSync.{the_sync as record_sync}
 use Rattle.frame_workers.proofs.Crossing.{unit_sync, captures_sync}
 use Rattle.frame_workers.proofs.lane.run_lanes.Goals as goal
 

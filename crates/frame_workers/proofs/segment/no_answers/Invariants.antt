@@ -1,5 +1,5 @@
 use Rattle.std.proofs.Common.{◌≡◌, ℕ, ◌≤◌, ◌-◌, [], length, vec_capacity}
-use Rattle.record_io.specs.declared.kinds.TheConstants.{LANES}
+use Rattle.record_io.specs.declared.reader.TheConstants.{LANES}
 use Rattle.frame_workers.specs.Lanes.{left_at}
 use Rattle.frame_workers.proofs.segment.no_answers.Given as goal
 

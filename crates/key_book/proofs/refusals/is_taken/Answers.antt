@@ -1,6 +1,6 @@
 use Rattle.std.proofs.Common.{◌≡◌, true, false, ◌||◌, nat_eq, is_some, sym, ap, ◌∙◌}
 use Rattle.std.specs.List.{list_any}
-use Rattle.sdls_base.specs.declared.key_item.KeyItem.{KeyItem}
+use Rattle.sdls_base.specs.declared.key_id.KeyItem.{KeyItem}
 use Rattle.key_book.specs.KeyBook.{place_of}
 use Rattle.key_book.proofs.Judged.{taken-among}
 use Rattle.key_book.proofs.refusals.is_taken.Goals as goal

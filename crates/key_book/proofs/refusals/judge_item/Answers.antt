@@ -1,6 +1,6 @@
 use Rattle.std.proofs.Common.{◌≡◌, ◌++◌, false, map, is_some, Some, None, sym, ap, ◌∙◌}
 use Rattle.std.specs.Option.{option_map, option_or}
-use Rattle.key_book.specs.declared.key_refusal.KeyRefusal.TheVariants.{DuplicateKey}
+use Rattle.key_book.specs.declared.refusals.KeyRefusal.TheVariants.{DuplicateKey}
 use Rattle.key_book.specs.KeyRow.{new_row}
 use Rattle.key_book.specs.KeyBook.{row_of}
 use Rattle.key_book.specs.KeyRefusal.{row_with}

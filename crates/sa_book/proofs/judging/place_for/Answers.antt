@@ -1,6 +1,6 @@
 use Rattle.std.proofs.Common.{ap, ◌∙◌, nat_lt, length}
 use Rattle.std.specs.Option.{unwrap_or}
-use Rattle.sa_book.specs.declared.sa_row.SaRow.{SaRow}
+use Rattle.sa_book.specs.declared.sa_book.SaRow.{SaRow}
 use Rattle.sa_book.proofs.Rows.{or_end}
 use Rattle.sa_book.proofs.judging.place_for.Goals as goal
 

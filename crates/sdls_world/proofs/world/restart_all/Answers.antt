@@ -1,5 +1,5 @@
 use Rattle.std.proofs.Common.{◌<◌, ap, ◌∙◌, sym, length, length-set, arith}
-use Rattle.sdls_world.specs.declared.key.Key.{Key}
+use Rattle.sdls_world.specs.declared.world.Key.{Key}
 use Rattle.sdls_world.specs.Core.{restarted}
 use Rattle.sdls_world.proofs.Places.{mapped, mapped_more, place_there, place_value}
 use Rattle.sdls_world.proofs.world.restart_all.Goals as goal

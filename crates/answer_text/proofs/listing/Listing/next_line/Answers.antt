@@ -1,6 +1,6 @@
 use Rattle.std.proofs.Common.{◌≡◌, inr, rules}
 use Rattle.answer_text.specs.declared.error.TextError.TheVariants as errors
-use Rattle.record_io.specs.declared.answer_cursor.NextAnswer.TheVariants as nexts
+use Rattle.record_io.specs.declared.answers.NextAnswer.TheVariants as nexts
 use Rattle.record_io.proofs.Fronts.{answer_stands}
 use Rattle.answer_text.proofs.ValueParts.{no_line}
 use Rattle.answer_text.proofs.listing.Listing.next_line.Goals as goal

@@ -1,5 +1,5 @@
 use Rattle.std.proofs.Common.{◌≡◌, subst, arith}
-use Rattle.ep_core.specs.declared.need.Need.{Need}
+use Rattle.ep_core.specs.declared.judging.Need.{Need}
 use Rattle.ep_core.specs.Seen.{MeetsNeed}
 use Rattle.unit_state.specs.declared.state.State.{State}
 use Rattle.cases_unit_book.proofs.OneNeed.{same_need}

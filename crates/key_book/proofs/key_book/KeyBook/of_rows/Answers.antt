@@ -1,5 +1,5 @@
 use Rattle.std.proofs.Common.{Option, IfSome, subst}
-use Rattle.key_book.specs.declared.index.Index.{Index}
+use Rattle.key_book.specs.declared.table.Index.{Index}
 use Rattle.key_book.specs.declared.key_row.KeyRow.{KeyRow}
 use Rattle.key_book.specs.Table.{front, IsIndexApart}
 use Rattle.key_book.proofs.Sorted.{digests_apart}

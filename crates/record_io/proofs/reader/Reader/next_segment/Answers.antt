@@ -1,6 +1,6 @@
 use Rattle.std.proofs.Common.{◌≤◌, sym, subst, refl, List, arith}
 use Rattle.std.proofs.lemmas.Result.{IfOk-weaker, on_err_weaker}
-use Rattle.record_io.specs.declared.records.Record.{Record}
+use Rattle.record_io.specs.declared.item_cursor.Record.{Record}
 use Rattle.record_io.specs.Reading.{SourceSeen, ReadsTo}
 use Rattle.record_io.proofs.Wholes.{begun, segment_reads, wants_reads, misses_reads, due_at_start, cause_is, if_ok_of}
 use Rattle.record_io.proofs.Wholes.{goes_forth}

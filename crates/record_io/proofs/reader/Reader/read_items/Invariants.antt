@@ -1,7 +1,7 @@
 use Rattle.std.specs.List.{All}
 use Rattle.std.proofs.Common.{◌≡◌, ◌≢◌, ◌+◌, ◌-◌, ◌≤◌, [], length}
-use Rattle.record_io.specs.declared.kinds.RecordKind.TheVariants.{Monitor}
-use Rattle.record_io.specs.declared.records.Record.{Record}
+use Rattle.record_io.specs.declared.reader.RecordKind.TheVariants.{Monitor}
+use Rattle.record_io.specs.declared.item_cursor.Record.{Record}
 use Rattle.record_io.specs.Input.{items_octets}
 use Rattle.record_io.specs.Steps.{AreNumbered, Took, items_of}
 use Rattle.record_io.proofs.reader.Reader.read_items.Given as goal

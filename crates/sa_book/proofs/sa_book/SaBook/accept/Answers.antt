@@ -1,6 +1,6 @@
 use Rattle.std.proofs.Common.{◌≡◌, Option, Some, subst}
 use Rattle.sdls_base.specs.KeyId.{end_of}
-use Rattle.sa_book.specs.declared.sa_row.SaRow.{SaRow}
+use Rattle.sa_book.specs.declared.sa_book.SaRow.{SaRow}
 use Rattle.replay_window.specs.Window.{accepted}
 use Rattle.sa_book.specs.SaRow.{MayAccept}
 use Rattle.sa_book.specs.SaBook.{place_of}

@@ -1,6 +1,6 @@
 use Rattle.std.proofs.Common.{◌<◌, length}
 use Rattle.sa_book.specs.SaRow.{HasHigh}
-use Rattle.sa_book.specs.declared.sa_row.SaRow.{SaRow}
+use Rattle.sa_book.specs.declared.sa_book.SaRow.{SaRow}
 use Rattle.sa_book.proofs.Changes.{IsSaBook-begin}
 use Rattle.sa_book.proofs.sa_book.SaBook.begin_window.Goals as goal
 

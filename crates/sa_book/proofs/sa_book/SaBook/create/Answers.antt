@@ -1,6 +1,6 @@
 use Rattle.std.proofs.Common.{arith, ◌≡◌, ◌≤◌, nat_lt, length, None, sym, ap, ◌∙◌}
 use Rattle.std.specs.List.{insert, position_or_len}
-use Rattle.sa_book.specs.declared.sa_row.SaRow.{SaRow}
+use Rattle.sa_book.specs.declared.sa_book.SaRow.{SaRow}
 use Rattle.sa_book.specs.SaRow.{new_row}
 use Rattle.sa_book.specs.SaBook.{with_row}
 use Rattle.sa_book.specs.SaRefusal.{create_refusal}

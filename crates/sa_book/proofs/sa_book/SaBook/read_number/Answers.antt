@@ -1,5 +1,5 @@
 use Rattle.std.proofs.Common.{rules, ◌≡◌, Some, None, sym, ap, ◌∙◌}
-use Rattle.sa_book.specs.declared.sa_refusal.SaRefusal.{SaRefusal}
+use Rattle.sa_book.specs.declared.refusals.SaRefusal.{SaRefusal}
 use Rattle.sa_book.specs.SaBook.{place_of}
 use Rattle.sa_book.specs.SaRefusal.{read_number_refusal}
 use Rattle.sa_book.proofs.Rows.{row_of_placed, on_place, on_nowhere, within_place}

@@ -1,6 +1,6 @@
 use Rattle.std.proofs.Common.{rules, ◌≡◌, ◌<◌, length, Some, None, sym, ap, ◌∙◌, subst}
-use Rattle.sa_book.specs.declared.sa_row.SaRow.{SaRow}
-use Rattle.sa_book.specs.declared.sa_refusal.SaRefusal.{SaRefusal}
+use Rattle.sa_book.specs.declared.sa_book.SaRow.{SaRow}
+use Rattle.sa_book.specs.declared.refusals.SaRefusal.{SaRefusal}
 use Rattle.sa_book.specs.SaRow.{with_key}
 use Rattle.sa_book.specs.SaBook.{place_of}
 use Rattle.sa_book.specs.SaRefusal.{key_refusal, rekey_refusal}

@@ -1,7 +1,7 @@
 use Rattle.std.proofs.Common.{rules, ◌≡◌, ◌<◌, length, Some, None, sym, ap, ◌∙◌, subst}
 use Rattle.sdls_base.specs.declared.states.SaState.TheVariants.{Keyed}
-use Rattle.sa_book.specs.declared.sa_row.SaRow.{SaRow}
-use Rattle.sa_book.specs.declared.sa_refusal.SaRefusal.{SaRefusal}
+use Rattle.sa_book.specs.declared.sa_book.SaRow.{SaRow}
+use Rattle.sa_book.specs.declared.refusals.SaRefusal.{SaRefusal}
 use Rattle.sa_book.specs.SaBook.{place_of}
 use Rattle.sa_book.specs.SaRefusal.{unless_operational, stop_refusal}
 use Rattle.sa_book.proofs.Rows.{on_place, on_nowhere, within_place, same_read, set-changed}

@@ -1,5 +1,5 @@
 use Rattle.std.proofs.Common.{◌≡◌, ◌<◌, eqb, true, Some, None, List, ap, ◌∙◌, sym, length, slice_get, subst, arith}
-use Rattle.sdls_world.specs.declared.key.Key.{Key}
+use Rattle.sdls_world.specs.declared.world.Key.{Key}
 use Rattle.sdls_world.specs.Core.{key_of}
 use Rattle.sdls_world.proofs.Places.{found_first, not_found, place_there, more_places}
 use Rattle.sdls_world.proofs.world.World.key.Goals as goal

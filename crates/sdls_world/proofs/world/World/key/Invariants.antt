@@ -1,5 +1,5 @@
 use Rattle.std.proofs.Common.{◌≡◌, ℕ, ◌<◌, eqb, false, get_or}
-use Rattle.sdls_world.specs.declared.key.Key.{Key}
+use Rattle.sdls_world.specs.declared.world.Key.{Key}
 use Rattle.sdls_world.proofs.world.World.key.Given as goal
 
 abbrev pub invariant-loop-row : goal.invariant-loop-row

@@ -1,6 +1,6 @@
 use Rattle.std.proofs.Common.{subst}
 use Rattle.run_promise.specs.Call.{SiteSeen}
-use Rattle.unit_image.specs.declared.fault.OpenFault.TheVariants.{NoMemory}
+use Rattle.unit_image.specs.declared.opening_image.OpenFault.TheVariants.{NoMemory}
 use Rattle.unit_image.specs.OpeningImage.{LeavesShown}
 use Rattle.unit_image.proofs.OpenFaults.{left_shown}
 use Rattle.shared_unit.proofs.unit.Unit.open.Goals as goal

@@ -1,6 +1,6 @@
 use Rattle.std.proofs.Common.{sym, subst}
 use Rattle.unit_state.specs.Allows.{Allows}
-use Rattle.ep_core.specs.declared.need.Need.{Need}
+use Rattle.ep_core.specs.declared.judging.Need.{Need}
 use Rattle.ep_core.specs.Seen.{MeetsNeed}
 use Rattle.unit_book.specs.Book.{BookView}
 use Rattle.run_promise.specs.History.{IsNeedOf}

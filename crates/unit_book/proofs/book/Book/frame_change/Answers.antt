@@ -1,7 +1,7 @@
 use Rattle.std.proofs.Common.{ℕ, sym, ap, ◌∙◌, subst}
-use Rattle.sdls_base.specs.declared.change.Change.TheVariants.{Accepted}
+use Rattle.sdls_base.specs.declared.entry.Change.TheVariants.{Accepted}
 use Rattle.unit_state.specs.Allows.{Allows}
-use Rattle.frame_checks.specs.declared.open_reply.OpenReply.{OpenReply}
+use Rattle.frame_checks.specs.declared.opening_frames.OpenReply.{OpenReply}
 use Rattle.frame_checks.specs.Accepting.{MayBeAccepted, OnAccepted}
 use Rattle.run_promise.specs.History.{frame_change}
 use Rattle.run_promise.proofs.Accepted.{accept_allowed, nothing_changed}

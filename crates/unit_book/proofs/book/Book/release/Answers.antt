@@ -1,5 +1,5 @@
 use Rattle.std.proofs.Common.{◌≡◌, ◌<◌, ◌≤◌, List, length, get_or, refl, arith, ap, subst, ◌∙◌}
-use Rattle.sa_book.specs.declared.sa_row.SaRow.{SaRow}
+use Rattle.sa_book.specs.declared.sa_book.SaRow.{SaRow}
 use Rattle.unit_book.specs.Book.{BookView}
 use Rattle.unit_book.proofs.GoingOn.{goes_same, goes_then}
 use Rattle.unit_book.specs.Receivers.{TellsReceivers}

@@ -1,7 +1,7 @@
 use Rattle.std.proofs.Common.{◌≡◌, ◌*◌, ℕ, List, sym, ◌∙◌, ap, subst}
 use Rattle.std.specs.List.{All}
 use Rattle.record_io.specs.declared.answers.Answer.{Answer}
-use Rattle.record_io.specs.declared.records.Record.{Record}
+use Rattle.record_io.specs.declared.item_cursor.Record.{Record}
 use Rattle.counter_table.specs.Worker.{view}
 use Rattle.law_workers.specs.Deeds.{Ascend}
 use Rattle.unit_drill.specs.Arriving.{arrived_frames, arrived_tasks, count_lost}

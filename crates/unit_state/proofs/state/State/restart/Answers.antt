@@ -1,6 +1,6 @@
 use Rattle.std.proofs.Common.{List, sym, subst}
 use Rattle.std.specs.List.{All}
-use Rattle.sa_book.specs.declared.sa_row.SaRow.{SaRow}
+use Rattle.sa_book.specs.declared.sa_book.SaRow.{SaRow}
 use Rattle.unit_state.specs.State.{HasKey}
 use Rattle.unit_state.proofs.Held.{all_restarted}
 use Rattle.unit_state.proofs.state.State.restart.Goals as goal

@@ -1,5 +1,0 @@
-use Rattle.sdls_outside.proofs.Delivering.{delivers_put}
-use Rattle.command_words.proofs.output.put_text.Goals as goal
-
-pub returns-clause-delivered : goal.returns-clause-delivered
-returns-clause-delivered g c = λ told. delivers_put _ _ _ _ (c.put.ensures.put told)

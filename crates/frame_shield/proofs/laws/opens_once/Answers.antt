@@ -1,5 +1,0 @@
-use Rattle.frame_shield.proofs.OpenFacts.{opened_once}
-use Rattle.frame_shield.proofs.laws.opens_once.Goals as goal
-
-pub returns : goal.returns
-returns c = opened_once c.opens_what_was_sealed.ensures

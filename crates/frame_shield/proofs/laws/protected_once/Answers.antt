@@ -1,5 +1,0 @@
-use Rattle.frame_shield.proofs.ProtectedOnce.{protected_one}
-use Rattle.frame_shield.proofs.laws.protected_once.Goals as goal
-
-pub returns : goal.returns
-returns c = protected_one

@@ -1,5 +1,0 @@
-use Rattle.fsr_log.proofs.Noting.{fit}
-use Rattle.fsr_log.proofs.laws.events_fit.Goals as goal
-
-pub returns : goal.returns
-returns c = fit

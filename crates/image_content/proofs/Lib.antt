@@ -1,6 +1,0 @@
-mod Lists
-mod Fields
-pub mod RowsRead
-mod Highs
-pub mod Contents
-mod Changing

@@ -1,6 +1,0 @@
-use Rattle.std.proofs.Common.{take, All}
-use Rattle.key_book.specs.KeyRow.{IsKeyRow}
-use Rattle.image_content.proofs.keys.are_key_rows.Given as goal
-
-abbrev pub invariant-loop-row : goal.invariant-loop-row
-invariant-loop-row l = All IsKeyRow (take l.row-index l.rows)

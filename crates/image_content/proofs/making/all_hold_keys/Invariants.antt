@@ -1,6 +1,0 @@
-use Rattle.std.proofs.Common.{take, All}
-use Rattle.unit_state.specs.State.{HasKey}
-use Rattle.image_content.proofs.making.all_hold_keys.Given as goal
-
-abbrev pub invariant-loop-row : goal.invariant-loop-row
-invariant-loop-row l = All (HasKey l.keys) (take l.row-index l.rows)

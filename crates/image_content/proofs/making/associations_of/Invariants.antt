@@ -1,8 +1,0 @@
-use Rattle.std.proofs.Common.{◌≡◌, ◌++◌}
-use Rattle.image_content.proofs.making.associations_of.Given as goal
-
-abbrev pub invariant-loop-row : goal.invariant-loop-row
-invariant-loop-row l = record {
-  front : l.book ≡ l.yielded;
-  all : l.book ++ l.row-iterator.rest.items ≡ l.fn.rows.items;
-}

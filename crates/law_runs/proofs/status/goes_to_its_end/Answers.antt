@@ -1,5 +1,0 @@
-use Rattle.law_runs.proofs.Statuses.{to_its_end}
-use Rattle.law_runs.proofs.status.goes_to_its_end.Goals as goal
-
-pub returns : goal.returns
-returns c = λ call run. to_its_end call run

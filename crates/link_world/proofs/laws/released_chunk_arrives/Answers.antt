@@ -1,5 +1,0 @@
-use Rattle.link_world.proofs.Chunks.{chunk_arrives}
-use Rattle.link_world.proofs.laws.released_chunk_arrives.Goals as goal
-
-pub returns : goal.returns
-returns c = chunk_arrives
