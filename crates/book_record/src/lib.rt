@@ -6,7 +6,7 @@
 //!
 //! [`write_key_row`], [`read_key_row`], [`write_sa_row`] and [`read_sa_row`] do the same for rows. What is written is a
 //! row of `key_book` or `sa_book`, borrowed. The row of a key is read as one of `key_book`, and [`read_association`]
-//! gives one of `sa_book`. `image_content` writes the rows together, and each bank of an image holds them.
+//! gives one of `sa_book`. `unit_image` writes the rows together, and each bank of an image holds them.
 #![tactic(auto)]
 
 mod data;

@@ -12,11 +12,10 @@ ghost use Rattle.disk_journal.specs.Initial.{created_image};
 ghost use Rattle.unit_image.specs.Beginning.{SaysPlan, image_of_plan};
 
 use disk_journal::{JournalFault, create};
-use unit_image::write_content;
 use sdls_base::{CONTENT_LENGTH_ONE, CONTENT_LENGTH_TWO, Version};
 use sdls_outside::{Crash, MemSite, Site};
 use std::alloc::{AllocError, Global};
-use unit_image::create_image;
+use unit_image::{create_image, write_content};
 use unit_plan::{MOST_OCTETS, Plan, bare_plan_is_short, write_bare_plan};
 use unit_state::State;
 

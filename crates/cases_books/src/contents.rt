@@ -1,8 +1,8 @@
 // Contents of states.
 use crate::answers::again;
 use case_lines::Page;
-use unit_image::{fits, read_content, write_content, write_content_two};
 use sdls_base::{ChannelList, Version};
+use unit_image::{fits, read_content, write_content, write_content_two};
 use unit_plan::Plan;
 use unit_state::State;
 

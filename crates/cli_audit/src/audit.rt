@@ -1,5 +1,4 @@
-//! The word `audit`.
-// The line that says what an audit found.
+//! The word `audit`, and the line that says what it found.
 ghost use Rattle.std.specs.Prelude.{◌≡◌, ◌≢◌, [], IfOk, IsTrue, take};
 ghost use Rattle.sdls_outside.specs.Faults.{Rose};
 ghost use Rattle.sdls_outside.specs.Output.{OnlySinks};

@@ -1,7 +1,5 @@
-// The word `run`: a recorded input is served, with the unit of an image.
-// The end of a run: the release of what was not used, and End.
-// The log of a run: answers that are noted, and monitoring messages that are answered.
-// Octets that are put by the one worker of a unit.
+// The word `run`: a recorded input is served with the unit of an image. At its end what was not used is released, and
+// End is written.
 ghost use Rattle.std.specs.Prelude.{◌≡◌, ◌≤◌, IsTrue, [], MatchResult, ◌↔◌, ◌<◌, ℕ, length, slice_index, List};
 ghost use Rattle.sdls_outside.specs.Disk.{Leaves};
 ghost use Rattle.sdls_outside.specs.Faults.{Rose};

@@ -1,5 +1,4 @@
-// Segments that are served, one after the other, to the end of the input.
-// One worker that serves a run, and the answers that it writes.
+// Segments that one worker serves, one after the other, to the end of the input, and the answers that it writes.
 ghost use Rattle.std.specs.Prelude.{◌≡◌, ◌≢◌, ◌<◌, ℕ, List, [], ◌∷◌, IfNone, ◌↔◌, ◌+◌, ◌≤◌, ◌++◌, IsTrue, length};
 ghost use Rattle.std.specs.Prelude.{vec_len, vec_capacity};
 ghost use Rattle.std.specs.List.{All};

@@ -1,6 +1,5 @@
 //! The way of a number: a row is armed, the number is drawn, and it is spent below the limit. Each call is one step on
-//! one word.
-//! What a worker is handed by one step for the next. Each is spent by use: it can be neither copied nor made.
+//! one word. What a step hands a worker for the next is spent by use: it can be neither copied nor made.
 ghost use Rattle.std.specs.Prelude.{◌≡◌, ◌+◌, ◌*◌, ◌<◌, ◌≤◌, ◌^◌, ℕ, Some, MatchResult};
 ghost use Rattle.counter_table.specs.Numbers.{arming, drawing, peeking, spending, returning, top};
 ghost use Rattle.counter_table.specs.Rule.{next_at, limit_at};

@@ -1,5 +1,4 @@
-//! The turn, the book and the epoch. Of these calls `take` alone waits.
-//! The counters, and what steps on them.
+//! The counters, the turn, the book and the epoch. Of these calls `take` alone waits.
 ghost use Rattle.std.specs.Prelude.{◌≡◌, ◌+◌, ◌<◌, ◌≤◌, ◌^◌, ℕ, true, false, [], ◌∷◌, Some, None, max};
 ghost use Rattle.std.specs.Prelude.{slice_index_or, ◌*◌, vec_capacity};
 ghost use Rattle.counter_table.specs.Known.{known_mark, LowersNoMark, MayFill, MayGive};

@@ -1,5 +1,4 @@
-// The image that a journal begins with.
-// The migration of an image of version 1.
+// The image that a journal begins with, and the migration of an image of version 1.
 ghost use Rattle.std.specs.Prelude.{◌≡◌, ◌-◌, ◌≤◌, ◌⊎◌, IsTrue, OnOk, length, slice_index, [], ℕ, List};
 ghost use Rattle.sdls_base.specs.Version.{content_length_of};
 ghost use Rattle.sdls_outside.specs.Disk.{IsSynced};

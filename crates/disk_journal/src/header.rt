@@ -1,6 +1,5 @@
-// The header of an image.
-// The gates of the slots of a bank. They are read with their slots, a run of these in a call.
-// Which of the two banks is the current one.
+// The header of an image, and which of its two banks is the current one. The gates of a bank are read with their slots,
+// a run of these in a call.
 ghost use Rattle.byteorder.specs.Endian.{big_number};
 ghost use Rattle.std.specs.Prelude.{◌≡◌, ◌+◌, ◌≤◌, ◌==◌, not, length, drop, MatchResult, ◌-◌, ◌*◌, ◌^◌, ◌<◌, IsTrue};
 ghost use Rattle.std.specs.Prelude.{IfOk, slice_index, ◌≢◌, ◌⊎◌};

@@ -1,6 +1,5 @@
-// Where what stands in an image of two banks. All numbers in it are big-endian.
-// Laws of images: each function is a statement about the definitions, and does nothing.
-// Records that are read a run at a time.
+// Where what stands in an image of two banks, with the laws of that, and the runs in which records are read. All
+// numbers in it are big-endian.
 ghost use Rattle.std.specs.Prelude.{◌≡◌, ◌+◌, ◌*◌, ◌^◌, ◌<◌, ◌≤◌, ◌⊎◌, ℕ, List, length, take, None, ◌↔◌, ◌-◌, IsTrue};
 ghost use Rattle.sdls_base.specs.Version.{content_length_of};
 ghost use Rattle.disk_journal.specs.Banks.{version_of, magic_of, zeros_at_of, banks_of, layout_of, IsLayout};

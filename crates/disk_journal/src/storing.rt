@@ -1,6 +1,4 @@
-// Writes in a row, and writes that are brought to the disk.
-// The turn.
-// Bringing an image to rest.
+// Writes in a row, writes that are brought to the disk, the turn, and bringing an image to rest.
 ghost use Rattle.std.specs.Prelude.{◌≡◌, ◌+◌, ◌-◌, ◌^◌, ◌≤◌, ◌<◌, ◌⊎◌, IsTrue, OnOk, length, replicate, [], ◌∷◌};
 ghost use Rattle.std.specs.Prelude.{IfOk, slice_index};
 ghost use Rattle.sdls_outside.specs.Disk.{IsSynced};

@@ -1,7 +1,4 @@
-//! The fields of a message, read at their places.
-//! The lists of fields that fill a message to its end.
-//! The octets of a message, written one field after the other.
-//! What stands before the fields of a message.
+//! The fields of a message, read at their places and written one after the other, and what stands before them.
 ghost use Rattle.std.specs.Prelude.{◌≡◌, ◌+◌, ◌^◌, ◌<◌, ◌≤◌, not, length, slice_range, [], ◌∷◌, IfOk, ◌*◌, ◌++◌};
 ghost use Rattle.std.specs.Prelude.{OnOk, ◌-◌, IsTrue};
 ghost use Rattle.std.specs.Int.{is_in_range, w16, w32, w64, to_be_bytes};

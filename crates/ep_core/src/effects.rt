@@ -1,5 +1,4 @@
-//! What the commands do that open and seal nothing.
-//! What the commands on associations refuse, in their order.
+//! What the commands do that open and seal nothing, and what those on associations refuse, in their order.
 ghost use Rattle.std.specs.Prelude.{◌≡◌, ◌+◌, ◌^◌, ◌<◌, IfOk, None, Some, ◌≤◌, All};
 ghost use Rattle.sa_book.specs.SaRefusal.{create_refusal, delete_refusal, expire_refusal, read_number_refusal};
 ghost use Rattle.sa_book.specs.SaRefusal.{set_number_refusal, set_window_refusal, start_refusal, stop_refusal};

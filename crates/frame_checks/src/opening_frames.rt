@@ -1,8 +1,7 @@
 // The checks of a frame that was received, in their order: ProcessSecurity of CCSDS 355.0-B-2. `IsOpenReply` of
-// specs/OpeningFrames.antt is the definition of that order. `open_frame` makes all the checks at once, and `trying.rt`
-// makes them in two parts under the same definition.
-// The checks of a frame that was received, in two parts: what no other frame can change, MAC included, and then the
-// number. So lanes compare MACs at the same time. Both parts together meet `IsOpenReply`, the definition of the order.
+// specs/OpeningFrames.antt is the definition of that order. `open_frame` makes all the checks at once. `try_frame` and
+// `open_tried` make them in two parts: what no other frame can change, MAC included, and then the number. So lanes
+// compare MACs at the same time.
 ghost use Rattle.std.specs.Prelude.{◌≡◌, ◌≤◌, List, ℕ, length, take, Some, IfOk, IfErr, IfSome, IsNone, IsTrue};
 ghost use Rattle.std.specs.Int.{w16, to_be_bytes};
 ghost use Rattle.std.specs.Option.{option_map};

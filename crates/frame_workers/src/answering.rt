@@ -1,5 +1,4 @@
-// The answers to records, by what the calls on the unit answered.
-// The answers of the lanes, placed in the order of the input.
+// The answers to records, by what the calls on the unit answered, placed in the order of the input.
 ghost use Rattle.std.specs.Prelude.{◌≡◌, ◌<◌, ◌≤◌, ◌^◌, ◌++◌, [], length, vec_capacity, slice_range, take, unwrap_or};
 ghost use Rattle.std.specs.Prelude.{ℕ, List, All, Contains, true, false};
 ghost use Rattle.std.specs.Int.{w64, to_be_bytes};

@@ -1,7 +1,4 @@
-// A lane of a segment, and its run.
-// One record.
-// What a lane may handle frames under.
-// The permits that lanes keep from one segment to the next.
+// A lane of a segment: its records one by one, and the permits that it handles frames under and keeps.
 ghost use Rattle.std.specs.Prelude.{◌≡◌, ◌≢◌, ◌<◌, ℕ, All, length, slice_index_or, ◌≤◌, ◌+◌, [], IfOk, vec_capacity};
 ghost use Rattle.std.specs.Prelude.{Contains};
 ghost use Rattle.std.specs.List.{list_any};

@@ -1,5 +1,4 @@
-// A segment.
-// The workers of lanes, split from one and joined to it again.
+// A segment, and the workers of its lanes, split from one and joined to it again.
 ghost use Rattle.std.specs.Prelude.{◌≡◌, ◌≢◌, ◌<◌, ◌≤◌, ℕ, All, [], IfOk, OnErr, length, ◌+◌, true, slice_index_or};
 ghost use Rattle.std.specs.Prelude.{vec_capacity};
 ghost use Rattle.std.specs.List.{AllPairs, list_any};

@@ -1,5 +1,4 @@
-//! What an answer is to the log.
-//! The refusals that the log keeps.
+//! What an answer is to the log, and the refusals that the log keeps.
 ghost use Rattle.std.specs.Prelude.{◌≡◌, ◌+◌, ◌*◌, ◌++◌, length, OnOk};
 ghost use Rattle.std.specs.List.{flat_map};
 ghost use Rattle.fsr_log.specs.Kinds.{is_event, is_event_kind, kind_at, kind_bit, kind_of, raises_alarm};

@@ -1,6 +1,4 @@
-//! The log.
-//! What one more answer changes.
-//! What follows from the definitions.
+//! The log, and what one more answer changes.
 ghost use Rattle.std.specs.Prelude.{◌≡◌, ◌*◌, ◌^◌, ◌<◌, ◌≤◌, List, [], ◌∷◌, ◌++◌, length, IfOk, if◌then◌else◌, ◌↔◌};
 ghost use Rattle.std.specs.Prelude.{ℕ, None, slice_index};
 ghost use Rattle.fsr_log.specs.declared.kinds.TheConstants.{EVENT, MOST_EVENTS};

@@ -1,5 +1,4 @@
-//! Monitoring messages.
-//! What the replies to monitoring messages are made of.
+//! Monitoring messages, and what the replies to them are made of.
 ghost use Rattle.std.specs.Prelude.{◌≡◌, ◌^◌, ◌<◌, length, Some, IfOk, ◌+◌, ◌*◌, ◌≤◌};
 ghost use Rattle.ep_codec.specs.Command.{message};
 ghost use Rattle.fsr_log.specs.Message.{HasTag, Reads, data_length, monitoring_octets};

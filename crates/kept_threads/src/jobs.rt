@@ -1,5 +1,4 @@
-// Jobs that are asked for, and what was done for them.
-// The log of the jobs that were asked for.
+// Jobs that are asked for, the log of these, and what was done for them.
 ghost use mathlib.Core.List.{IsPrefix};
 ghost use Rattle.logbook.specs.Pages.{Book, cell};
 ghost use base.Fml.{ftrue};

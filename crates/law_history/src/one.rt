@@ -1,5 +1,4 @@
-//! Laws of what a state decides: one answer to a frame, one need and one step of a message.
-//! Laws of the legal history of a run.
+//! Laws of what a state decides, and of the legal history of a run.
 ghost use Rattle.std.specs.Prelude.{◌≡◌, ℕ, List, ◌≤◌, length};
 ghost use Rattle.sdls_base.specs.declared.entry.Change.{Change};
 ghost use Rattle.sdls_base.specs.declared.entry.Seen.{Seen};

@@ -1,7 +1,4 @@
-//! Laws of lives: what one may begin with, what holds of all its runs, and what a call adds.
-//! Laws of calls that did the same.
-//! Laws of whole runs, from the opening to the end.
-//! Laws of what the status of a call says.
+//! Laws of lives, of whole runs in them, of calls that did the same, and of what the status of a call says.
 ghost use Rattle.std.specs.Prelude.{ℕ, IsTrue, List, [], ◌≡◌, ◌⊎◌, ◌≤◌, length, take, Bool, ◌+◌, ◌<◌, ◌++◌, ◌≢◌};
 ghost use Rattle.std.specs.List.{All, AllPairs, slice_index_or};
 ghost use Rattle.sdls_base.specs.declared.entry.Entry.{Entry};

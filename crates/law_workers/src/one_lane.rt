@@ -1,5 +1,4 @@
 //! Laws of what one lane did alone.
-//! The law of a monitoring message.
 ghost use Rattle.std.specs.Prelude.{false, ◌≡◌, ℕ, ◌+◌, List, ◌++◌, map, [], ◌∷◌};
 ghost use Rattle.sdls_base.specs.declared.entry.Entry.{Entry};
 ghost use Rattle.unit_state.specs.State.{KeepsRules};

@@ -1,7 +1,4 @@
-//! What arrives.
-//! What a link does with the frames of a drill.
-//! What a link delivers of the frames of a chunk.
-//! The laws.
+//! What a link does with frames, and what of them arrives.
 ghost use Rattle.std.specs.Prelude.{◌≡◌, IfOk, OnOk, List, [], ◌∷◌, ◌++◌, length, option_to_list, map, ◌<◌, ℕ};
 ghost use Rattle.std.specs.List.{All, Contains};
 ghost use Rattle.link_world.specs.Link.{AreMarked, arrival, arrivals};

@@ -1,6 +1,4 @@
-// The answers of `run`.
-//! The answers of a source, one after the other.
-//! Answers, read from octets.
+//! The answers of `run`: written, and read from octets or a source.
 ghost use Rattle.std.specs.Prelude.{◌≡◌, ◌++◌, [], ◌≤◌, IsTrue, IfOk, ◌<◌, ◌^◌, ◌↔◌, IfSome, None, Ok, Err};
 ghost use Rattle.std.specs.Prelude.{MatchOption, length, slice_index};
 ghost use Rattle.std.specs.List.{All};

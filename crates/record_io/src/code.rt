@@ -1,5 +1,4 @@
-//! The codes of answers.
-//! The codes of answers, as an enum.
+//! The codes of answers, as numbers and as an enum.
 ghost use Rattle.std.specs.Prelude.{◌≡◌};
 ghost use Rattle.record_io.specs.Codes.{code_at};
 

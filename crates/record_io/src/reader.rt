@@ -1,6 +1,4 @@
-// The recorded input, read in segments.
-//! What stands before the octets of an item.
-// The kinds of items.
+//! The recorded input, read in segments, and the kinds of its items.
 ghost use Rattle.std.specs.Prelude.{ℕ, List, ◌≡◌, ◌≢◌, ◌+◌, ◌-◌, ◌*◌, ◌≤◌, ◌<◌, ◌++◌, [], length, take, IsTrue, IfOk};
 ghost use Rattle.std.specs.Prelude.{OnErr, IfErr, IfNone, IfSome, MatchResult, vec_len, MatchOption, true, false};
 ghost use Rattle.std.specs.List.{All};

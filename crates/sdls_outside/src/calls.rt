@@ -1,5 +1,4 @@
-// Calls that are numbered from 0, some of them to fail.
-// Faults of the real edge.
+// Calls that are numbered from 0, some of them to fail, and the faults of the real edge.
 ghost use Rattle.std.specs.Prelude.{◌≡◌, ◌≤◌, is_ok};
 ghost use Rattle.std.specs.Result.{result_ok};
 ghost use Rattle.sdls_outside.specs.Faults.{HasCause, Rose};

@@ -1,5 +1,4 @@
-// The file of the image, and standard output.
-// The image in a file of the system.
+// The image in a file of the system, and standard output.
 ghost use Rattle.std.specs.Prelude.{◌≡◌, [], false, codes};
 ghost use Rattle.std.proofs.Common.{rules};
 ghost use Rattle.sdls_outside.specs.Crash.{fresh};

@@ -1,5 +1,4 @@
-// A disk and a sink in memory, with all that they have held.
-// What undoes a write to an image in memory.
+// A disk and a sink in memory, with all that they have held, and what undoes a write.
 ghost use Rattle.std.specs.Prelude.{◌≡◌, ◌≤◌, length, OnErr, IfOk, OnOk};
 ghost use Rattle.sdls_outside.specs.Crash.{LeftBy, fresh};
 ghost use Rattle.sdls_outside.specs.Disk.{Leaves};

@@ -1,5 +1,4 @@
 // A site in memory that a test can crash.
-// What a site in memory holds.
 ghost use Rattle.std.specs.Prelude.{◌≡◌, ◌+◌, ◌≤◌, true, [], None, IfOk, OnOk, OnErr, IsErr, IsTrue, length, take};
 ghost use Rattle.std.specs.Prelude.{drop, ℕ, ◌<◌, ◌∷◌, map, slice_index};
 ghost use Rattle.std.specs.List.{list_any};

@@ -1,5 +1,4 @@
-// A source in memory that gives pieces, and fails where it is told to.
-// A source in memory that never fails.
+// Sources in memory: one gives pieces and fails where it is told to, one never fails.
 ghost use Rattle.std.specs.Prelude.{◌≡◌, ◌<◌, min, true, None, IfOk, OnErr, length, ℕ, ◌≤◌, ◌++◌, Ok, take, drop};
 ghost use Rattle.sdls_outside.specs.Source.{FillsFront, Takes};
 ghost use Rattle.sdls_outside.specs.Faults.{HasCause};

@@ -1,5 +1,4 @@
-// The disk and the sink.
-// The calls of `put` that failed.
+// The disk and the sink, with the calls of `put` that failed.
 ghost use Rattle.std.specs.Prelude.{◌≡◌, ℕ, ◌+◌, ◌≤◌, Bool, IsTrue, IfOk, OnOk, length, take, drop};
 ghost use Rattle.sdls_outside.specs.Faults.{HasCause};
 ghost use Rattle.sdls_outside.specs.Disk.{Leaves};

@@ -1,5 +1,4 @@
-// Where input comes from.
-// Octets taken from a source, as many as there is room for.
+// Where input comes from, and octets taken from it, as many as there is room for.
 ghost use Rattle.std.specs.Prelude.{◌≡◌, ℕ, List, Bool, IsTrue, IfOk, OnErr, ◌≤◌, length};
 ghost use Rattle.sdls_outside.specs.Faults.{HasCause};
 ghost use Rattle.sdls_outside.specs.Source.{FillsFront, Takes};

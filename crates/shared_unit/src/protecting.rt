@@ -1,7 +1,5 @@
-//! A frame is protected: with the kept permit where that still holds, and else under the turn.
-//! The way of a frame: with a permit it makes steps on words alone.
-//! A frame that is protected under the turn.
-//! A number that was drawn at or above the limit: its block is reserved under the turn.
+//! A frame is protected: with the kept permit, by steps on words alone, where that still holds, and else under the
+//! turn. There the block of a number that was drawn at or above the limit is reserved.
 ghost use Rattle.std.specs.Prelude.{◌≡◌, ◌≤◌, ◌<◌, ◌+◌, ℕ, length, Some, Ok, IfSome, ◌^◌, true, OnErr, None};
 ghost use Rattle.sdls_base.specs.declared.TheConstants.{MOST_KEYS};
 ghost use Rattle.sdls_base.specs.KeyId.{end_of};

@@ -1,6 +1,4 @@
-//! Calls that take the turn once: putting answers, and the count of entries.
-//! The workers of a unit, and its end.
-//! The beginning of a unit.
+//! The unit: its beginning, its workers, the calls that take the turn once, and its end.
 ghost use Rattle.std.specs.Prelude.{◌≡◌, ◌<◌, ◌≤◌, ℕ, ◌+◌, ◌^◌, IsTrue, true, [], IfOk, IfErr, MatchResult};
 ghost use Rattle.sdls_base.specs.declared.TheConstants.{MOST_KEYS};
 ghost use Rattle.sdls_base.specs.Numbers.{tally};

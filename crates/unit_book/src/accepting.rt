@@ -1,5 +1,4 @@
-// The opening of frames.
-// Which keys associations receive with, so that no key is looked for that none does.
+// The opening of frames. A key is looked for only if an association receives with it.
 ghost use Rattle.std.specs.Prelude.{◌≡◌, ℕ, ◌<◌, ◌≤◌, MatchResult, IfErr, IsSome, IsTrue, None};
 ghost use Rattle.sdls_base.specs.KeyId.{end_of};
 ghost use Rattle.sa_book.specs.SaRefusal.{receives_with, receiver_with};

@@ -1,7 +1,4 @@
-// The book.
-// The reserve of numbers.
-// The state after an entry.
-// The state after an entry.
+// The book, the reserve of numbers in it, and its state after an entry.
 ghost use Rattle.std.specs.Prelude.{◌≡◌, ◌+◌, ◌<◌, ◌≤◌, ◌↔◌, IsTrue, MatchResult, IfErr, OnOk, Some, None, length};
 ghost use Rattle.std.specs.Prelude.{◌∷◌, [], ◌++◌, false, ℕ, Ok, min, IsSome, if◌then◌else◌, MatchOption};
 ghost use Rattle.sdls_outside.specs.Faults.{Rose};

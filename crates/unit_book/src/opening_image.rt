@@ -1,6 +1,4 @@
-// The opening of a book.
-// The beginning of a book, and its end.
-// A log that has no octets.
+// The opening of a book, its beginning and its end.
 ghost use Rattle.std.specs.Prelude.{◌≡◌, ◌≤◌, IsTrue, Ok, IfOk, IfErr, OnOk, MatchResult, [], vec_capacity, vec_len};
 ghost use Rattle.std.specs.Prelude.{◌∷◌, ◌++◌};
 ghost use Rattle.sdls_base.specs.declared.version.TheConstants.{CONTENT_LENGTH_TWO};

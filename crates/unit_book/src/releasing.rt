@@ -1,5 +1,4 @@
-// The release at the end of a run.
-// What a book shows.
+// The release at the end of a run, and what a book shows.
 ghost use Rattle.std.specs.Prelude.{◌≡◌, ℕ, ◌<◌, ◌≤◌, Ok, MatchOption, MatchResult, IfErr, Some, length, slice_get};
 ghost use Rattle.std.specs.Prelude.{slice_index, slice_index_or, IfOk, IfSome};
 ghost use Rattle.std.specs.Option.{option_map};

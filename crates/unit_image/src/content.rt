@@ -1,5 +1,4 @@
-//! Contents, read.
-//! Contents of states.
+//! Contents of states, written and read.
 
 //! States made of rows.
 ghost use Rattle.std.specs.Prelude.{◌≡◌, ◌↔◌, ◌+◌, ◌*◌, ◌≤◌, IsTrue, length, IfOk, IfErr, ◌++◌, take, All, ℕ, List};

@@ -1,5 +1,4 @@
-// The store of a change.
-// The content of the state after a change, while the state is still the one before.
+// The store of a change, with the content of the state after it, while the state is still the one before.
 ghost use Rattle.std.specs.Prelude.{◌≡◌, ◌↔◌, ◌≤◌, IsTrue, is_some, length, IfErr, OnErr, OnOk, MatchOption, None};
 ghost use Rattle.std.specs.Prelude.{IsSome};
 ghost use Rattle.std.specs.Option.{option_and_then};

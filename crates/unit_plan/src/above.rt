@@ -1,6 +1,5 @@
-//! A text read on behind lines at fault: of each line the first word that is not what was expected. What a line at
-//! fault names counts as named, so a line that names a link of a line at fault is not at fault for that.
-//! What was expected at a word that is at fault.
+//! A text read on behind lines at fault: of each line the first word that is not what was expected, and what was. What
+//! a line at fault names counts as named, so a line that names a link of a line at fault is not at fault for that.
 ghost use Rattle.std.specs.Prelude.{◌≡◌, Ok, None, IsTrue};
 ghost use Rattle.unit_plan.specs.Plan.{is_skipped};
 ghost use Rattle.unit_plan.specs.Above.{missing_head};

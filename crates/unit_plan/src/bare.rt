@@ -1,5 +1,4 @@
-//! A plan's text without its keys and associations, which is what an image holds of it.
-//! Laws of the bare plan.
+//! A plan's text without its keys and associations, which is what an image holds of it, with its laws.
 ghost use Rattle.std.specs.Prelude.{◌≡◌, ◌+◌, ◌≤◌, ◌++◌, [], length, take, drop, if◌then◌else◌, ℕ, List, Ok};
 ghost use Rattle.unit_plan.specs.Lines.{words_of};
 ghost use Rattle.unit_plan.specs.Bare.{names_rows, is_bare, ended, bare_of, without_rows};

@@ -1,5 +1,4 @@
-//! The fields of a line, in the order in which they stand.
-//! How words are parted and spelled, whatever they say.
+//! The fields of a line, in the order in which they stand, and how words are parted and spelled.
 
 //! What lines name, those at fault too.
 ghost use Rattle.std.specs.Prelude.{◌≡◌, IfOk};

@@ -1,5 +1,4 @@
-//! `key` lines.
-//! `sa` lines.
+//! `key` and `sa` lines.
 ghost use Rattle.std.specs.Prelude.{◌≡◌, length, IfOk, IfSome, ◌↔◌, ◌≤◌, All, IsTrue, nat_le};
 ghost use Rattle.std.specs.Option.{option_map};
 ghost use Rattle.std.specs.List.{list_all};

@@ -1,5 +1,4 @@
-//! `link` lines.
-//! `channel` lines.
+//! `link` and `channel` lines.
 ghost use Rattle.std.specs.Prelude.{◌≡◌, ◌≤◌, IfSome, IsTrue};
 ghost use Rattle.sdls_base.specs.Link.{IsInBounds};
 ghost use Rattle.unit_plan.specs.Reading.{Reads};

@@ -1,5 +1,4 @@
 //! The words of a line, read from left to right, with the first that is not what was expected.
-//! The words of the first five lines behind the first.
 ghost use Rattle.std.specs.Prelude.{◌≡◌};
 ghost use Rattle.std.specs.Iterator.{YieldsFirstBy};
 ghost use Rattle.unit_plan.specs.Lines.{words_of};
