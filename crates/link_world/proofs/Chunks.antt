@@ -3,8 +3,8 @@ use Rattle.std.proofs.Common.{◌≡◌, ℕ, zero, suc, ◌<◌, List, [], ◌�
 use Rattle.std.specs.List.{All, Contains}
 use Rattle.std.proofs.lemmas.List.Elements.{All-append, All-cons, All-head, All-nil, All-tail, All-weaker}
 use Rattle.std.proofs.lemmas.List.Elements.{Contains-append_left}
-use Rattle.link_world.specs.declared.link.Fate.{Fate}
-use Rattle.link_world.specs.declared.link.Fate.TheVariants.{Lost, Once, Twice, Late}
+use Rattle.link_world.specs.declared.fates.Fate.{Fate}
+use Rattle.link_world.specs.declared.fates.Fate.TheVariants.{Lost, Once, Twice, Late}
 use Rattle.link_world.specs.declared.link.LinkEvent.{LinkEvent}
 use Rattle.link_world.specs.declared.link.LinkEvent.TheVariants.{Release, Deliver}
 use Rattle.link_world.specs.Link.{arrival, arrivals_behind, arrivals}

@@ -2,8 +2,8 @@
 use Rattle.std.proofs.Common.{◌≡◌, ℕ, zero, suc, ◌+◌, ◌*◌, ◌≤◌, nat_lt, ◌&&◌, if◌then◌else◌, Bool, true, false, List}
 use Rattle.std.proofs.Common.{[], ◌∷◌, ◌++◌, length, refl, sym, subst, arith, length-append}
 use Rattle.std.specs.List.{list_any}
-use Rattle.link_world.specs.declared.link.Fate.{Fate}
-use Rattle.link_world.specs.declared.link.Fate.TheVariants.{Lost, Once, Twice, Late}
+use Rattle.link_world.specs.declared.fates.Fate.{Fate}
+use Rattle.link_world.specs.declared.fates.Fate.TheVariants.{Lost, Once, Twice, Late}
 use Rattle.link_world.specs.declared.link.LinkEvent.{LinkEvent}
 use Rattle.link_world.specs.declared.link.LinkEvent.TheVariants.{Release, Deliver}
 use Rattle.link_world.specs.Link.{releases_frame, arrival, arrivals_behind, arrivals}

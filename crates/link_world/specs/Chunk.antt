@@ -1,7 +1,7 @@
 -- What a link delivers of the frames of a drill's chunk, each known by its number in the chunk (profile).
 use Rattle.std.specs.Prelude.{ℕ, zero, suc, Bool, true, false, List, [], ◌∷◌, ◌++◌}
-use Rattle.link_world.specs.declared.link.Fate.{Fate}
-use Rattle.link_world.specs.declared.link.Fate.TheVariants.{Lost, Once, Twice, Late}
+use Rattle.link_world.specs.declared.fates.Fate.{Fate}
+use Rattle.link_world.specs.declared.fates.Fate.TheVariants.{Lost, Once, Twice, Late}
 use Rattle.link_world.specs.Fate.{fate_of}
 
 -- what is delivered of a frame in its turn

@@ -4,9 +4,11 @@
 //! Read `specs/Link.antt` first.
 #![tactic(auto)]
 
+mod fates;
 mod link;
 
+pub use fates::Fate;
 pub use link::{
-    Fate, LinkEvent, add_deliveries, arrivals_were_released, fate, is_lost, link_run,
+    LinkEvent, add_deliveries, arrivals_were_released, fate, is_lost, link_run,
     released_chunk_arrives,
 };

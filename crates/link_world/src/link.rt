@@ -1,4 +1,4 @@
-//! What a link does with frames, and what of them arrives.
+//! What a link delivers of the frames that were released.
 ghost use Rattle.std.specs.Prelude.{◌≡◌, IfOk, OnOk, List, [], ◌∷◌, ◌++◌, length, option_to_list, map, ◌<◌, ℕ};
 ghost use Rattle.std.specs.List.{All, Contains};
 ghost use Rattle.link_world.specs.Link.{AreMarked, arrival, arrivals};
@@ -8,6 +8,7 @@ ghost use Rattle.link_world.specs.Chunk.{deliveries, in_turn, is_lost, late, lat
 ghost use Rattle.link_world.specs.declared.link.LinkEvent.{LinkEvent};
 ghost use Rattle.link_world.specs.Delivered.{AreDelivered, IsDeliveredAt};
 
+use crate::fates::Fate;
 use sdls_base::NoMemory;
 use std::alloc::Global;
 
@@ -74,19 +75,6 @@ fn note(released: &mut Vec<bool>, event: LinkEvent)
             released[frame] = true;
         }
     }
-}
-
-/// What a link does with a frame.
-#[derive(Clone, Copy, Debug, PartialEq, Eq)]
-pub enum Fate {
-    /// It does not arrive.
-    Lost,
-    /// It arrives in its turn.
-    Once,
-    /// It arrives in its turn, twice in a row.
-    Twice,
-    /// It arrives behind the others.
-    Late,
 }
 
 /// The fate of the frame with this number in its chunk, counted from 0.
