@@ -2,8 +2,8 @@
 use Rattle.std.specs.Prelude.{◌≡◌, ◌≢◌, ◌⊎◌, ℕ}
 use Rattle.record_io.specs.declared.answers.Answer.{Answer}
 use Rattle.record_io.specs.declared.code.TheConstants.{PROTECTED, ACCEPTED, DONE}
-use Rattle.pair_audit.specs.declared.marks.Mark.{Mark}
-use Rattle.pair_audit.specs.declared.marks.Mark.TheVariants as marks
+use Rattle.pair_audit.specs.declared.audit.Mark.{Mark}
+use Rattle.pair_audit.specs.declared.audit.Mark.TheVariants as marks
 
 -- code and key of an answer that uses a number: a frame protected, or a command done that drew one
 abbrev pub SaysUse : ℕ → ℕ → Type 0

@@ -3,8 +3,8 @@ use Rattle.std.specs.Prelude.{◌≡◌, ℕ, ◌+◌, ◌<◌, ◌≤◌, Bool,
 use Rattle.sdls_outside.specs.Faults.{Rose}
 use Rattle.record_io.specs.Input.{MOST_OCTETS}
 use Rattle.record_io.specs.Steps.{still_counted}
-use Rattle.pair_audit.specs.declared.stop.AuditStop.{AuditStop}
-use Rattle.pair_audit.specs.declared.stop.AuditStop.TheVariants.{SourceFault, NoMemory}
+use Rattle.pair_audit.specs.declared.walk.AuditStop.{AuditStop}
+use Rattle.pair_audit.specs.declared.walk.AuditStop.TheVariants.{SourceFault, NoMemory}
 
 -- Behind so many octets of an input these were taken, at most so many; fewer only if none are left that count.
 pub record Taking (told : Bool) (taken most : ℕ) (octets left_old left_new : List ℕ) : Type 0 where

@@ -7,17 +7,10 @@
 #![tactic(auto)]
 
 mod audit;
-mod laws;
-mod marks;
-mod places;
-mod stop;
-mod taking;
 mod walk;
 
-pub use audit::{Audit, Repeat};
-pub use laws::{
-    audit_says_one, first_told_is_first, fronts_count, fronts_show, none_told_repeats_nothing,
-    recording_reads_once,
+pub use audit::{
+    Audit, Repeat, audit_says_one, first_told_is_first, fronts_count, fronts_show,
+    none_told_repeats_nothing, recording_reads_once,
 };
-pub use stop::AuditStop;
-pub use walk::{AuditEnd, audit_recording};
+pub use walk::{AuditEnd, AuditStop, audit_recording};

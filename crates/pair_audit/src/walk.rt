@@ -1,7 +1,9 @@
-//! The audit of a whole recording.
-ghost use Rattle.std.specs.Prelude.{◌≡◌, ◌⊎◌, ℕ, ◌+◌, ◌<◌, ◌≤◌, ◌++◌, IfOk, IsTrue, List, [], false, length};
-ghost use Rattle.std.specs.Prelude.{◌^◌, take};
+//! The audit of a whole recording: the octets that it takes, the places of numbers, and why it ends before its input.
+ghost use Rattle.std.specs.Prelude.{◌≡◌, ◌⊎◌, ℕ, ◌+◌, ◌<◌, ◌≤◌, ◌++◌, IfOk, IsTrue, List, [], false, length, ◌^◌};
+ghost use Rattle.std.specs.Prelude.{take, Some, OnErr, ◌==◌, ◌&&◌, if◌then◌else◌, unwrap_or};
 ghost use Rattle.std.specs.Int.{w32, to_be_bytes};
+ghost use Rattle.std.specs.BTreeMap.{IsUnchanged};
+ghost use Rattle.sdls_outside.specs.Faults.{HasCause};
 ghost use Rattle.record_io.specs.declared.answers.Answer.{Answer};
 ghost use Rattle.record_io.specs.declared.answers.TheConstants.{ANSWER_HEADER};
 ghost use Rattle.record_io.specs.Input.{MOST_OCTETS};
@@ -9,15 +11,17 @@ ghost use Rattle.pair_audit.specs.Audit.{KnowsAudit};
 ghost use Rattle.pair_audit.specs.Recording.{AuditFound, AuditSays, ReadsRuns, recording_beginning};
 ghost use Rattle.pair_audit.specs.Taking.{HasStopCause, Taking};
 ghost use Rattle.pair_audit.specs.Walk.{IsOutcome, NextSaid, RunSaid, StepSaid, earlier_of};
-ghost use Rattle.pair_audit.specs.declared.walk.RunFound.TheVariants as ends;
+ghost use Rattle.pair_audit.specs.declared.walk.RunFound.{TheVariants as ends};
+ghost use Rattle.pair_audit.specs.Places.{place_in};
+ghost use Rattle.pair_audit.specs.declared.walk.AuditStop.{TheVariants as stops};
 
 use crate::audit::{Audit, Repeat};
-use crate::stop::AuditStop;
-use crate::taking::{fill, skip};
 use record_io::{ANSWER_HEADER, known_head};
-use sdls_base::double_word_at;
-use sdls_outside::Source;
+use sdls_base::{NoMemory, double_word_at};
+use sdls_outside::{Failed, Source, collect};
 use std::alloc::Global;
+use std::collections::BTreeMap;
+use thiserror::Error;
 
 /// The octets that a recording begins with.
 const BEGINNING: [u8; 8] = *b"SDLSAUD1";
@@ -308,4 +312,89 @@ pub fn audit_recording<S: Source>(alloc: Global, source: &mut S) -> Result<Audit
     }
     let mut room = [0; PIECE];
     audit_runs(alloc, source, &mut room)
+}
+
+/// Takes octets until the room is full or the input ends, and returns how many. So many were taken before.
+pub(crate) fn fill<S: Source>(source: &mut S, taken: u64, room: &mut [u8]) -> Result<usize, Failed>
+    ensures within { IfOk result (λ count. count ≤ length room.old) }
+    ensures sized { length room.new ≡ length room.old }
+    ensures taken { IfOk result (λ count. Taking S.told taken (length room.old) (take count room.new)
+        (S.left source.old) (S.left source.new)) }
+    ensures cause { HasCause (S.faults source.old) (S.faults source.new) result }
+{
+    let most = room.len().min((u64::MAX - taken) as usize);
+    collect(source, &mut room[..most])
+}
+
+/// Takes so many octets, or as many as there are, by way of the room, and returns how many.
+pub(crate) fn skip<S: Source>(
+    source: &mut S,
+    taken: u64,
+    len: u64,
+    room: &mut [u8],
+) -> Result<u64, Failed>
+    requires { 0 < length room.old }
+    ensures sized { length room.new ≡ length room.old }
+    ensures taken { IfOk result (λ count. (octets : List ℕ) × (length octets ≡ count)
+        × Taking S.told taken len octets (S.left source.old) (S.left source.new)) }
+    ensures cause { HasCause (S.faults source.old) (S.faults source.new) result }
+{
+    let mut skipped: u64 = 0;
+    'pieces: while skipped < len {
+        let most = room.len().min((len - skipped) as usize);
+        let count = fill(source, taken + skipped, &mut room[..most])?;
+        skipped += count as u64;
+        if count < most {
+            return Ok(skipped);
+        }
+    }
+    Ok(skipped)
+}
+
+/// The place at which the number of the key was seen before; if it was not, it is now seen at this one.
+pub(crate) fn enter(
+    places: &mut BTreeMap<(u16, u64), u64>,
+    key: u16,
+    number: u64,
+    place: u64,
+) -> Result<Option<u64>, NoMemory>
+    ensures found { IfOk result (λ before. before ≡ place_in places.old key number) }
+    ensures entered { IfOk result (λ before. (k n : ℕ) → place_in places.new k n
+        ≡ (if (k == key) && (n == number) then Some (unwrap_or before place) else place_in places.old k n)) }
+    ensures kept { OnErr result (IsUnchanged places.old places.new) }
+{
+    match places.get(&(key, number)) {
+        Some(before) => Ok(Some(*before)),
+        None => {
+            places.insert((key, number), place)?;
+            Ok(None)
+        }
+    }
+}
+
+/// Why an audit says nothing of its input.
+#[derive(Clone, Copy, Debug, PartialEq, Eq, Error)]
+pub enum AuditStop {
+    /// The source failed.
+    #[error("source fault")]
+    SourceFault,
+    /// Out of memory.
+    #[error("no memory")]
+    NoMemory,
+}
+
+impl From<Failed> for AuditStop {
+    ghost from_gives = { λ _ e. e ≡ stops.SourceFault };
+
+    fn from(_failed: Failed) -> AuditStop {
+        AuditStop::SourceFault
+    }
+}
+
+impl From<NoMemory> for AuditStop {
+    ghost from_gives = { λ _ e. e ≡ stops.NoMemory };
+
+    fn from(_wanting: NoMemory) -> AuditStop {
+        AuditStop::NoMemory
+    }
 }

@@ -10,7 +10,7 @@ use Rattle.link_world.specs.Chunk.{deliveries, is_lost}
 use Rattle.record_io.specs.declared.answers.Answer.{Answer}
 use Rattle.record_io.specs.declared.code.TheConstants.{PROTECTED}
 use Rattle.record_io.specs.declared.item_cursor.Record.{Record}
-use Rattle.unit_drill.specs.declared.frames.TheConstants.{DRILL_LANES}
+use Rattle.unit_drill.specs.declared.records.TheConstants.{DRILL_LANES}
 use Rattle.unit_drill.specs.Frames.{open_task}
 
 -- ---- the link

@@ -5,7 +5,7 @@ use Rattle.record_io.specs.declared.answers.Answer.{Answer}
 use Rattle.record_io.specs.declared.code.TheConstants.{PROTECTED}
 use Rattle.record_io.specs.declared.reader.RecordKind.TheVariants.{Protect, Open}
 use Rattle.record_io.specs.declared.item_cursor.Record.{Record}
-use Rattle.unit_drill.specs.declared.frames.TheConstants.{FIELD_LENGTH, DRILL_LANES}
+use Rattle.unit_drill.specs.declared.records.TheConstants.{FIELD_LENGTH, DRILL_LANES}
 use Rattle.unit_drill.specs.declared.records.TheConstants.{CHUNK}
 
 -- an octet of the data field of a frame

@@ -4,7 +4,7 @@ use Rattle.record_io.specs.declared.answers.Answer.{Answer}
 use Rattle.record_io.specs.declared.code.TheConstants as codes_of
 use Rattle.counter_table.specs.declared.view.View.{View}
 use Rattle.run_promise.specs.Call.{Begin}
-use Rattle.unit_drill.specs.declared.arriving.TheConstants.{CHUNK_PLACES}
+use Rattle.unit_drill.specs.declared.chunk.TheConstants.{CHUNK_PLACES}
 use Rattle.unit_drill.specs.declared.counts.Counts.{Counts}
 use Rattle.unit_drill.specs.declared.records.TheConstants.{CHUNK}
 use Rattle.unit_drill.specs.Arriving.{arrived_frames, arrived_tasks, count_lost}

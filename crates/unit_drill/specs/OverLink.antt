@@ -10,7 +10,7 @@ use Rattle.record_io.specs.declared.code.TheConstants as codes_of
 use Rattle.record_io.specs.declared.status.TheConstants as statuses
 use Rattle.record_io.specs.Outcome.{Ends, line}
 use Rattle.record_io.specs.Places.{Place}
-use Rattle.unit_drill.specs.declared.arriving.TheConstants.{CHUNK_PLACES}
+use Rattle.unit_drill.specs.declared.chunk.TheConstants.{CHUNK_PLACES}
 use Rattle.unit_drill.specs.declared.counts.Counts.{Counts}
 use Rattle.unit_drill.specs.declared.records.TheConstants.{CHUNK}
 use Rattle.unit_drill.specs.Arriving.{arrived_frames, arrived_tasks, count_lost}

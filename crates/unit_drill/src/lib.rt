@@ -7,14 +7,9 @@
 //! delays them (crate `link_world`).
 #![tactic(auto)]
 
-mod arriving;
 mod chunk;
-mod counting;
 mod counts;
-mod frames;
-mod image;
 mod laws;
-mod line;
 mod records;
 mod running;
 mod unit;

@@ -1,22 +1,22 @@
-//! The drill, and the drill over a link.
-ghost use Rattle.std.specs.Prelude.{◌≡◌, ◌≢◌, ◌+◌, ◌*◌, ◌≤◌, min, List, [], IfErr, IfOk, codes};
+//! The drill, and the drill over a link, with the lines that they write.
+ghost use Rattle.std.specs.Prelude.{◌≡◌, ◌≢◌, ◌+◌, ◌*◌, ◌≤◌, min, List, [], IfErr, IfOk, codes, ◌++◌, decimal, OnOk};
 ghost use Rattle.sdls_outside.specs.Faults.{Rose};
 ghost use Rattle.record_io.specs.declared.answers.Answer.{Answer};
 ghost use Rattle.record_io.specs.Outcome.{Ends, line};
 ghost use Rattle.unit_drill.specs.declared.counts.Counts.{Counts};
 ghost use Rattle.unit_drill.specs.Chunks.{HandlesDrill};
 ghost use Rattle.unit_drill.specs.Drilled.{EndsDrill, IsDrilled};
-ghost use Rattle.unit_drill.specs.Line.{drill_text, link_text};
+ghost use Rattle.unit_drill.specs.Line.{drill_text, link_text, counted};
 ghost use Rattle.unit_drill.specs.LinkChunks.{HandlesLinkDrill};
 ghost use Rattle.unit_drill.specs.OverLink.{EndsLinkDrill, IsLinkDrilled};
 
 use crate::chunk::Pair;
 use crate::counts::Counts;
 use crate::laws::{drill_is_sound, link_drill_is_sound};
-use crate::line::{drill_line, link_line};
 use crate::records::CHUNK;
 use command_words::{MOST_FRAMES, end_with};
 use frame_workers::Gate;
+use itoa::Buffer;
 use record_io::Outcome;
 use record_io::status::{DONE, NO_MEMORY, SITE_FAULT};
 use sdls_base::NoMemory;
@@ -163,4 +163,60 @@ pub fn drill_link<R: Threads + Wait + Sync, O: Site, G: Gate + Sync>(
     ensures no_history { result.entries.items ≡ [] }
 {
     end_made(alloc, link_line_of(rt, alloc, number, gate), site)
+}
+
+fn add_text(line: &mut Vec<u8>, text: &[u8]) -> Result<(), NoMemory>
+    ensures { OnOk result (line.new.items ≡ line.old.items ++ text.now) }
+{
+    line.extend_from_slice(text)?;
+    Ok(())
+}
+
+fn add_number(line: &mut Vec<u8>, number: u64) -> Result<(), NoMemory>
+    ensures { OnOk result (line.new.items ≡ line.old.items ++ decimal number) }
+{
+    let mut buffer = Buffer::new();
+    add_text(line, buffer.format(number).as_bytes())
+}
+
+/// `drill N protected A accepted B rejected C`, and a line feed.
+#[tactic(auto, unfolding(crate::specs::Line::drill_text))]
+pub(crate) fn drill_line(alloc: Global, number: u64, counts: Counts) -> Result<Vec<u8>, NoMemory>
+    ensures { IfOk result (λ line. line.items ≡ drill_text number counts) }
+{
+    let mut line = Vec::new(alloc);
+    add_text(&mut line, b"drill ")?;
+    add_number(&mut line, number)?;
+    add_text(&mut line, b" protected ")?;
+    add_number(&mut line, counts.protected)?;
+    add_text(&mut line, b" accepted ")?;
+    add_number(&mut line, counts.accepted)?;
+    add_text(&mut line, b" rejected ")?;
+    add_number(&mut line, counts.rejected)?;
+    add_text(&mut line, b"\n")?;
+    Ok(line)
+}
+
+/// What is counted, and how many there are of it.
+#[tactic(auto, unfolding(crate::specs::Line::counted))]
+fn add_count(line: &mut Vec<u8>, what: &[u8], number: u64) -> Result<(), NoMemory>
+    ensures { OnOk result (line.new.items ≡ line.old.items ++ counted what.now number) }
+{
+    add_text(line, what)?;
+    add_number(line, number)
+}
+
+/// `drill link N protected A lost L accepted B rejected C`, and a line feed.
+#[tactic(auto, unfolding(crate::specs::Line::link_text))]
+pub(crate) fn link_line(alloc: Global, number: u64, counts: Counts) -> Result<Vec<u8>, NoMemory>
+    ensures { IfOk result (λ line. line.items ≡ link_text number counts) }
+{
+    let mut line = Vec::new(alloc);
+    add_count(&mut line, b"drill link ", number)?;
+    add_count(&mut line, b" protected ", counts.protected)?;
+    add_count(&mut line, b" lost ", counts.lost)?;
+    add_count(&mut line, b" accepted ", counts.accepted)?;
+    add_count(&mut line, b" rejected ", counts.rejected)?;
+    add_text(&mut line, b"\n")?;
+    Ok(line)
 }

@@ -1,5 +1,0 @@
-use Rattle.pair_audit.proofs.Repeating.{first_told}
-use Rattle.pair_audit.proofs.laws.first_told_is_first.Goals as goal
-
-pub returns : goal.returns
-returns c = first_told
