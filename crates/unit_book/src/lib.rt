@@ -14,12 +14,13 @@ mod accepting;
 mod book;
 mod commanding;
 mod fault;
+mod laws;
 mod opening_image;
 mod releasing;
 
 pub use book::Book;
-pub use fault::{
-    BookFault, marks_stand, needs_name_keys, serves_at_epoch, states_have_bounds,
-    states_serve_alike,
+pub use fault::BookFault;
+pub use laws::{
+    marks_stand, needs_name_keys, serves_at_epoch, states_have_bounds, states_serve_alike,
 };
 pub use unit_image::{write_content, write_content_two};

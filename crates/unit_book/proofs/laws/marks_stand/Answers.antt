@@ -1,6 +1,6 @@
 use Rattle.unit_book.proofs.Places.{by_key}
 use Rattle.unit_book.proofs.KeptLaws.{kept_places}
-use Rattle.unit_book.proofs.fault.marks_stand.Goals as goal
+use Rattle.unit_book.proofs.laws.marks_stand.Goals as goal
 
 pub returns-clause-places : goal.returns-clause-places
 returns-clause-places c = λ told book kept none. kept.marks none

@@ -1,7 +1,7 @@
 use Rattle.unit_book.specs.Epoch.{epoch_state}
 use Rattle.unit_book.proofs.EpochStates.{alike_served}
 use Rattle.unit_book.proofs.KeptLaws.{kept_still}
-use Rattle.unit_book.proofs.fault.serves_at_epoch.Goals as goal
+use Rattle.unit_book.proofs.laws.serves_at_epoch.Goals as goal
 
 pub returns-clause-still : goal.returns-clause-still
 returns-clause-still c = λ told book kept. kept_still told book kept
