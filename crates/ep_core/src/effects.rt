@@ -5,7 +5,8 @@ ghost use Rattle.sa_book.specs.SaRefusal.{set_number_refusal, set_window_refusal
 ghost use Rattle.unit_state.specs.State.{KeepsRules, association_row};
 ghost use Rattle.unit_state.specs.Taking.{least_with};
 ghost use Rattle.ep_codec.specs.declared.command.Command.TheVariants.{Inventory, ReadNumber, Status};
-ghost use Rattle.ep_codec.specs.{Command as commands, ReplyPdu as reply_pdu};
+ghost use Rattle.ep_codec.specs.Command as commands;
+ghost use Rattle.ep_codec.specs.ReplyPdu as reply_pdu;
 ghost use Rattle.ep_core.specs.Refusals.{refusal_of, from_associations, least_of, least_at, rekey_checks};
 ghost use Rattle.ep_core.specs.Seen.{word_of};
 ghost use Rattle.ep_core.specs.Step.{IsDone, IsPlain, IsStep, done, next_of};

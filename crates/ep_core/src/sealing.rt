@@ -12,7 +12,7 @@ ghost use Rattle.sdls_base.specs.Bounds.{IsKeyLength, IsKeyCount};
 ghost use Rattle.sdls_base.specs.Spelling.{item_octets};
 ghost use Rattle.unit_state.specs.State.{KeepsRules, key_row};
 ghost use Rattle.ep_codec.specs.declared.command.Command.TheVariants.{Verify, Compose};
-ghost use Rattle.ep_codec.specs.{Command as commands};
+ghost use Rattle.ep_codec.specs.Command as commands;
 ghost use Rattle.ep_codec.specs.ReplyPdu.{IsInBounds};
 ghost use Rattle.ep_core.specs.Refusals.{unless_known, by_state, unless_active, unless_usable, if_destroyed};
 ghost use Rattle.ep_core.specs.Refusals.{if_exhausted, is_master, master_checks, session_checks, verify_checks};

@@ -7,10 +7,10 @@ ghost use Rattle.record_io.specs.declared.code.TheConstants.{PROTECTED};
 ghost use Rattle.record_io.specs.declared.answers.Answer.{Answer};
 ghost use Rattle.record_io.specs.declared.item_cursor.Record.{Record};
 ghost use Rattle.record_io.specs.declared.reader.TheConstants.{LANES};
-ghost use Rattle.run_promise.specs.{Answers as told};
+ghost use Rattle.run_promise.specs.Answers as told;
 ghost use Rattle.run_promise.specs.Deed.{Deed};
 ghost use Rattle.law_workers.specs.Deeds.{deeds_of};
-ghost use Rattle.law_calls.specs.{Answering as answering};
+ghost use Rattle.law_calls.specs.Answering as answering;
 ghost use Rattle.frame_workers.specs.Bodies.{FitsIn};
 ghost use Rattle.frame_workers.specs.Lanes.{AreAmong, left_at, StopsAt};
 

@@ -5,7 +5,7 @@ ghost use Rattle.std.specs.List.{list_any};
 ghost use Rattle.frame_shield.specs.declared.protecting_frames.TheConstants.{FRAME_ROOM};
 ghost use Rattle.record_io.specs.declared.reader.RecordKind.TheVariants.{Monitor, Command};
 ghost use Rattle.record_io.specs.declared.item_cursor.Record.{Record};
-ghost use Rattle.record_io.specs.declared.reader.RecordKind.{TheVariants as kinds};
+ghost use Rattle.record_io.specs.declared.reader.RecordKind.TheVariants as kinds;
 ghost use Rattle.counter_table.specs.Worker.{view};
 ghost use Rattle.counter_table.specs.declared.view.Turn.{Turn};
 ghost use Rattle.law_workers.specs.Deeds.{Ascend};

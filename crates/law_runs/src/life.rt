@@ -21,7 +21,8 @@ ghost use Rattle.run_promise.specs.Account.{Account, begin_of, course_of, Answer
 ghost use Rattle.run_promise.specs.Account.{end_status};
 ghost use Rattle.run_promise.specs.Ends.{IsSoundCall, RunEnds};
 ghost use Rattle.run_promise.specs.OneLane.{OneLane};
-ghost use Rattle.run_promise.specs.declared.end.RunEnd.{RunEnd, TheVariants as ends};
+ghost use Rattle.run_promise.specs.declared.end.RunEnd.{RunEnd};
+ghost use Rattle.run_promise.specs.declared.end.RunEnd.TheVariants as ends;
 ghost use Rattle.unit_book.specs.Book.{BookView};
 ghost use Rattle.counter_table.specs.declared.view.View.{View};
 ghost use Rattle.law_runs.specs.Known.{IsBelowMarks, IsShown, IsWithinFloors, Knows, LeavesKnowing};

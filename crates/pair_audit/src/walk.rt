@@ -11,9 +11,9 @@ ghost use Rattle.pair_audit.specs.Audit.{KnowsAudit};
 ghost use Rattle.pair_audit.specs.Recording.{AuditFound, AuditSays, ReadsRuns, recording_beginning};
 ghost use Rattle.pair_audit.specs.Taking.{HasStopCause, Taking};
 ghost use Rattle.pair_audit.specs.Walk.{IsOutcome, NextSaid, RunSaid, StepSaid, earlier_of};
-ghost use Rattle.pair_audit.specs.declared.walk.RunFound.{TheVariants as ends};
+ghost use Rattle.pair_audit.specs.declared.walk.RunFound.TheVariants as ends;
 ghost use Rattle.pair_audit.specs.Places.{place_in};
-ghost use Rattle.pair_audit.specs.declared.walk.AuditStop.{TheVariants as stops};
+ghost use Rattle.pair_audit.specs.declared.walk.AuditStop.TheVariants as stops;
 
 use crate::audit::{Audit, Repeat};
 use record_io::{ANSWER_HEADER, known_head};

@@ -8,7 +8,7 @@ ghost use Rattle.record_io.specs.AnswerReading.{header_said, IsBehind, IsAnswerC
 ghost use Rattle.record_io.specs.AnswerReading.{UnknownInFront, is_answer_code};
 ghost use Rattle.record_io.specs.NextAnswer.{IfFault, Stands, StandsBehind};
 ghost use Rattle.record_io.specs.declared.answers.TheConstants.{ANSWER_HEADER};
-ghost use Rattle.record_io.specs.declared.answers.AnswerError.{TheVariants as errors};
+ghost use Rattle.record_io.specs.declared.answers.AnswerError.TheVariants as errors;
 
 use crate::code::AnswerCode;
 use crate::short_octets::ShortOctets;

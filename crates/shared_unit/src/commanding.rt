@@ -11,7 +11,7 @@ ghost use Rattle.shared_unit.specs.Going.{GoesUp};
 ghost use Rattle.shared_unit.specs.Sharing.{KnowsHeld};
 ghost use Rattle.shared_unit.specs.Told.{known_of_book};
 ghost use Rattle.shared_unit.specs.Turn.{FindsCovered, IsReady, Visits};
-ghost use Rattle.ep_core.specs.declared.judging.Need.{TheVariants as needs};
+ghost use Rattle.ep_core.specs.declared.judging.Need.TheVariants as needs;
 
 use crate::shared_book::SharedBook;
 use crate::unit::{Unit, Worker};

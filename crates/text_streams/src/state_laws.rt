@@ -2,7 +2,7 @@
 ghost use Rattle.std.specs.Prelude.{◌≡◌, ℕ, unwrap_or};
 ghost use Rattle.key_book.specs.declared.key_row.KeyRow.{KeyRow};
 ghost use Rattle.status_text.specs.Text.{association_line, key_line, slots_line};
-ghost use Rattle.text_streams.specs.declared.state_line.StateLine.{TheVariants as lines};
+ghost use Rattle.text_streams.specs.declared.state_line.StateLine.TheVariants as lines;
 ghost use Rattle.text_streams.specs.StateText.{state_text};
 ghost use Rattle.sa_book.specs.declared.sa_book.SaRow.{SaRow};
 

@@ -2,7 +2,7 @@
 ghost use Rattle.std.specs.Prelude.{◌≡◌, ◌≤◌, IsTrue, Ok, IfOk, IfErr, OnOk, MatchResult, [], vec_capacity, vec_len};
 ghost use Rattle.std.specs.Prelude.{◌∷◌, ◌++◌};
 ghost use Rattle.sdls_base.specs.declared.version.TheConstants.{CONTENT_LENGTH_TWO};
-ghost use Rattle.sdls_base.specs.declared.entry.Logged.{TheVariants as logged};
+ghost use Rattle.sdls_base.specs.declared.entry.Logged.TheVariants as logged;
 ghost use Rattle.sdls_outside.specs.Disk.{Leaves};
 ghost use Rattle.sdls_outside.specs.Moments.{EachMoment, Trace};
 ghost use Rattle.unit_plan.specs.Plan.{plan_of};

@@ -3,7 +3,7 @@ ghost use Rattle.std.specs.Prelude.{◌≡◌, ◌↔◌, ◌≤◌, IsTrue, is_
 ghost use Rattle.std.specs.Prelude.{IsSome};
 ghost use Rattle.std.specs.Option.{option_and_then};
 ghost use Rattle.sdls_outside.specs.Faults.{Rose};
-ghost use Rattle.key_book.specs.{KeyRow as key_rows};
+ghost use Rattle.key_book.specs.KeyRow as key_rows;
 ghost use Rattle.unit_state.specs.State.{KeepsRules, key_row};
 ghost use Rattle.unit_state.specs.Allows.{Allows};
 ghost use Rattle.unit_state.specs.Applied.{applied};

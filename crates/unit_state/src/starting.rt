@@ -2,8 +2,8 @@
 ghost use Rattle.std.specs.Prelude.{◌≡◌, nat_le, length, map, position, IfOk, All};
 ghost use Rattle.std.specs.List.{position_or_len};
 ghost use Rattle.sdls_base.specs.Bounds.{IsKeyLength};
-ghost use Rattle.unit_plan.specs.declared.plan_error.PlanError.{TheVariants as errors};
-ghost use Rattle.unit_plan.specs.declared.plan_error.PlanCause.{TheVariants as causes};
+ghost use Rattle.unit_plan.specs.declared.plan_error.PlanError.TheVariants as errors;
+ghost use Rattle.unit_plan.specs.declared.plan_error.PlanCause.TheVariants as causes;
 ghost use Rattle.unit_plan.specs.PlanError.{Gives};
 ghost use Rattle.unit_plan.specs.PlanRules.{IsAssociation};
 ghost use Rattle.unit_state.specs.State.{KeepsRules};
