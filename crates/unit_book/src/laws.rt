@@ -4,7 +4,7 @@ ghost use Rattle.unit_plan.specs.PlanLines.{PlanLines};
 ghost use Rattle.unit_state.specs.declared.state.State.{State};
 ghost use Rattle.unit_state.specs.State.{KeepsRules};
 ghost use Rattle.unit_state.specs.Restart.{still};
-ghost use Rattle.ep_core.specs.declared.need.Need.{Need};
+ghost use Rattle.ep_core.specs.declared.judging.Need.{Need};
 ghost use Rattle.run_promise.specs.Log.{entries_of};
 ghost use Rattle.unit_book.specs.Marks.{HasNoRelease, KeepsMarks};
 ghost use Rattle.run_promise.specs.Numbers.{mark_of};
