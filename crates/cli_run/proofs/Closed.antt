@@ -4,8 +4,8 @@ use Rattle.sdls_base.specs.declared.entry.Entry.{Entry}
 use Rattle.sdls_outside.specs.Disk.{Leaves}
 use Rattle.sdls_outside.specs.Moments.{Trace, EachMoment, clock}
 use Rattle.sdls_outside.proofs.Moments.{moment_now}
-use Rattle.counter_table.specs.declared.turns.Counters.{Counters}
-use Rattle.counter_table.specs.declared.turns.Worker.{Worker}
+use Rattle.counter_table.specs.declared.counters.Counters.{Counters}
+use Rattle.counter_table.specs.declared.counters.Worker.{Worker}
 use Rattle.counter_table.specs.declared.view.Opening as openings
 use Rattle.counter_table.specs.Numbers.{top}
 use Rattle.counter_table.specs.Worker.{view}

@@ -1,8 +1,8 @@
 -- What clauses say of the counters and of a worker.
 use Rattle.std.specs.Prelude.{◌≡◌, ℕ}
 use Rattle.counter_table.specs.declared.view.View.{View}
-use Rattle.counter_table.specs.declared.turns.Counters.{Counters}
-use Rattle.counter_table.specs.declared.turns.Worker.{Worker}
+use Rattle.counter_table.specs.declared.counters.Counters.{Counters}
+use Rattle.counter_table.specs.declared.counters.Worker.{Worker}
 use Rattle.counter_table.specs.declared.drawing.Arm.{Arm}
 use Rattle.counter_table.specs.declared.drawing.Arm.TheVariants.{Armed, Exhausted}
 

@@ -5,8 +5,8 @@ ghost use Rattle.counter_table.specs.Numbers.{arming, drawing, peeking, spending
 ghost use Rattle.counter_table.specs.Rule.{next_at, limit_at};
 ghost use Rattle.counter_table.specs.Worker.{view, rows_of, IsOf, KeepsTurn, MatchArm};
 
+use crate::counters::{Counters, Worker};
 use crate::rule::{Arms, Counted, Draws, Peeks, Told};
-use crate::turns::{Counters, Worker};
 use std::marker::{Brand, Model};
 
 // The words of each row, and those in front of the first row, so that no two rows share a cache line.

@@ -9,13 +9,14 @@
 //! specs/Rule.antt. Of the book this crate knows what `Counted` says.
 #![tactic(auto)]
 
+mod counters;
 mod drawing;
 mod rule;
 mod shares;
 mod turns;
 mod view;
 
+pub use counters::{Counters, Held, Worker};
 pub use drawing::{Arm, Armed, Funded, Ticket};
 pub use rule::{Counted, Rule};
-pub use turns::{Counters, Held, Worker};
 pub use view::{Known, Numbers, Opening, Trail, Turn, View};

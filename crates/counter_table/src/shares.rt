@@ -1,8 +1,8 @@
 //! The beginning and the end of the counters, and the shares of their workers.
-ghost use mathlib.Core.Option.{some};
-ghost use lib.ListN.{get_elem?};
 ghost use Rattle.std.specs.Prelude.{◌≡◌, ◌+◌, ◌*◌, ◌<◌, ◌≤◌, ℕ, false, true, Some, IfOk, replicate, slice_set};
 ghost use Rattle.std.specs.Prelude.{slice_index, length, vec_capacity, []};
+ghost use mathlib.Core.Option.{some};
+ghost use lib.ListN.{get_elem?};
 ghost use Rattle.std.specs.Mem.Slots.{slots_items, slots_len, IsFull};
 ghost use Rattle.sdls_base.specs.Numbers.{tally};
 ghost use Rattle.counter_table.specs.declared.drawing.TheConstants.{ROW_WORDS};
@@ -15,9 +15,10 @@ ghost use Rattle.counter_table.specs.Close.{ClosesCounters};
 ghost use Rattle.counter_table.specs.Whole.{IsWhole, Look, Meet};
 ghost use Rattle.counter_table.specs.Worker.{view, rows_of, IsOf, IsSame};
 
+use crate::counters::{Counters, Worker};
 use crate::drawing::{ROW_WORDS, next_word};
 use crate::rule::{Counted, Looks, Shares, Told};
-use crate::turns::{Counters, EPOCH, Worker};
+use crate::turns::EPOCH;
 use atomic_table::{Closed, Table};
 use sdls_base::NoMemory;
 use std::alloc::{AllocError, Global};

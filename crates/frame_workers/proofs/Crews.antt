@@ -6,7 +6,7 @@ use Rattle.std.specs.List.{slice_get, slice_index_or}
 use Rattle.std.proofs.lemmas.Option.{slice_get_within}
 use Rattle.frame_workers.specs.declared.lane.Lane.{Lane}
 use Rattle.record_io.specs.declared.item_cursor.Record.{Record}
-use Rattle.counter_table.specs.declared.turns.Worker.{Worker}
+use Rattle.counter_table.specs.declared.counters.Worker.{Worker}
 use Rattle.frame_workers.specs.Lanes.{HasRun, HaveRun}
 
 -- what stands at a place stands there still once more is added

@@ -22,7 +22,7 @@ use Rattle.unit_state.specs.contracts.state.State as State
 use Rattle.unit_state.proofs.state.State.TheSendSync as state
 use Rattle.disk_journal.specs.contracts.journal.Journal as Journal
 use Rattle.disk_journal.proofs.journal.Journal.TheSendSync as journal
-use Rattle.counter_table.proofs.turns.Counters.TheSendSync as counters
+use Rattle.counter_table.proofs.counters.Counters.TheSendSync as counters
 use Rattle.unit_book.specs.contracts.opening_image.Log as Log
 use Rattle.unit_book.specs.contracts.book.Book as Book
 use Rattle.unit_book.specs.contracts.book.Book.TheInside as BookFields

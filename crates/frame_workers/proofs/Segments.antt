@@ -9,7 +9,7 @@ use Rattle.std.proofs.lemmas.List.{take_all, drop_all, length-take, get_or_defau
 use Rattle.std.proofs.lemmas.List.Elements.{All-contains}
 use Rattle.sdls_base.specs.declared.TheConstants.{MOST_KEYS}
 use Rattle.sdls_base.specs.declared.entry.Logged.{Logged}
-use Rattle.counter_table.specs.declared.turns.Worker.{Worker}
+use Rattle.counter_table.specs.declared.counters.Worker.{Worker}
 use Rattle.counter_table.specs.declared.view.View.{View}
 use Rattle.counter_table.specs.Worker.{view}
 use Rattle.counter_table.specs.Numbers.{amount}

@@ -4,7 +4,7 @@ use Rattle.std.specs.Prelude.{if◌then◌else◌, length, take, slice_get, Some
 use Rattle.std.specs.List.{All, Contains, list_any, slice_index_or}
 use Rattle.std.specs.Vec.Iter.{into_iter_items}
 use Rattle.std.specs.declared.vec.IntoIter.{IntoIter}
-use Rattle.counter_table.specs.declared.turns.Worker.{Worker}
+use Rattle.counter_table.specs.declared.counters.Worker.{Worker}
 use Rattle.counter_table.specs.declared.view.Turn.{Turn}
 use Rattle.counter_table.specs.declared.view.View.{View}
 use Rattle.counter_table.specs.Worker.{view}

@@ -1,7 +1,7 @@
 -- One record, handled by the worker of a lane (profile).
 use Rattle.std.specs.Prelude.{◌≡◌, ℕ, Bool, Option}
-use Rattle.counter_table.specs.declared.turns.Counters.{Counters}
-use Rattle.counter_table.specs.declared.turns.Worker.{Worker}
+use Rattle.counter_table.specs.declared.counters.Counters.{Counters}
+use Rattle.counter_table.specs.declared.counters.Worker.{Worker}
 use Rattle.counter_table.specs.Worker.{view}
 use Rattle.record_io.specs.declared.answers.Answer.{Answer}
 use Rattle.record_io.specs.declared.item_cursor.Record.{Record}

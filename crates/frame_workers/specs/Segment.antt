@@ -3,7 +3,7 @@ use Rattle.std.specs.Prelude.{◌≡◌, ℕ, ◌<◌, ◌≤◌, Bool, true, Li
 use Rattle.std.specs.List.{All, AllPairs, list_any}
 use Rattle.std.specs.declared.vec.IntoIter.{IntoIter}
 use Rattle.sdls_base.specs.declared.TheConstants.{MOST_KEYS}
-use Rattle.counter_table.specs.declared.turns.Worker.{Worker}
+use Rattle.counter_table.specs.declared.counters.Worker.{Worker}
 use Rattle.counter_table.specs.declared.view.View.{View}
 use Rattle.counter_table.specs.Worker.{view}
 use Rattle.counter_table.specs.Whole.{IsWhole}

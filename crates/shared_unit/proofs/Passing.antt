@@ -5,8 +5,8 @@ use Rattle.std.proofs.Common.{ap, subst, ◌∙◌, append-nil, arith}
 use Rattle.unit_plan.specs.PlanLines.{PlanLines}
 use Rattle.counter_table.specs.declared.view.Opening.{Opening}
 use Rattle.counter_table.specs.declared.view.Turn.{Turn}
-use Rattle.counter_table.specs.declared.turns.Counters.{Counters}
-use Rattle.counter_table.specs.declared.turns.Worker.{Worker}
+use Rattle.counter_table.specs.declared.counters.Counters.{Counters}
+use Rattle.counter_table.specs.declared.counters.Worker.{Worker}
 use Rattle.counter_table.specs.Turn.{epoch_seen, loading, seeing}
 use Rattle.counter_table.specs.Worker.{view, IsSame}
 use Rattle.unit_book.specs.declared.fault.BookFault.{BookFault}

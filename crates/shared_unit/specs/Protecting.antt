@@ -11,8 +11,8 @@ use Rattle.counter_table.specs.declared.view.Turn.{Turn}
 use Rattle.counter_table.specs.declared.view.View.{View}
 use Rattle.counter_table.specs.Turn.{epoch_seen, loading}
 use Rattle.counter_table.specs.Worker.{view, IsSame}
-use Rattle.counter_table.specs.declared.turns.Counters.{Counters}
-use Rattle.counter_table.specs.declared.turns.Worker.{Worker}
+use Rattle.counter_table.specs.declared.counters.Counters.{Counters}
+use Rattle.counter_table.specs.declared.counters.Worker.{Worker}
 use Rattle.unit_book.specs.declared.fault.BookFault.{BookFault}
 use Rattle.run_promise.specs.Log.{entries_of}
 use Rattle.unit_book.specs.Book.{BookView}

@@ -15,8 +15,8 @@ use Rattle.counter_table.specs.Known.{known_mark}
 use Rattle.counter_table.specs.Numbers.{amount, top, ALL_SHARES}
 use Rattle.counter_table.specs.Whole.{IsWhole}
 use Rattle.counter_table.specs.Worker.{view}
-use Rattle.counter_table.specs.declared.turns.Counters.{Counters}
-use Rattle.counter_table.specs.declared.turns.Worker.{Worker}
+use Rattle.counter_table.specs.declared.counters.Counters.{Counters}
+use Rattle.counter_table.specs.declared.counters.Worker.{Worker}
 use Rattle.run_promise.specs.Call.{SiteSeen}
 use Rattle.unit_book.specs.Book.{BookView, IsKept, begun}
 use Rattle.run_promise.specs.Numbers.{mark_at}

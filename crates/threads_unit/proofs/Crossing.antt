@@ -16,8 +16,8 @@ use Rattle.sdls_outside.specs.contracts.history.History as History
 use Rattle.sdls_outside.specs.contracts.mem_site.Held as Held
 use Rattle.sdls_outside.proofs.mem_site.Held.TheSendSync as held
 use Rattle.sdls_outside.proofs.calls.Calls.TheSendSync as calls
-use Rattle.counter_table.specs.contracts.turns.Worker as TheWorker
-use Rattle.counter_table.proofs.turns.Worker.TheSendSync as worker
+use Rattle.counter_table.specs.contracts.counters.Worker as TheWorker
+use Rattle.counter_table.proofs.counters.Worker.TheSendSync as worker
 use Rattle.shared_unit.specs.contracts.shared_book.SharedBook as SharedBook
 use Rattle.shared_unit.specs.contracts.unit.Unit as TheUnit
 use Rattle.frame_workers.proofs.Crossing as crossing

@@ -1,5 +1,0 @@
-use Rattle.std.proofs.Common.{[]}
-use Rattle.counter_table.proofs.turns.Counters.raise_next.Given as goal
-
-abbrev pub ghosts-max_to_raise : goal.ghosts-max_to_raise
-ghosts-max_to_raise g a = record { of_row = a.row; number = a.number; marks = [] }
