@@ -14,7 +14,7 @@ use published::{
     refused_lengths,
 };
 use sdls_base::fecf;
-use std::alloc::{AllocError, Global};
+use std::alloc::Global;
 use std::{array, io};
 
 /// Counts a case that agrees.
@@ -125,49 +125,44 @@ fn ghash(h: u128, blocks: &[u128]) -> u128 {
 }
 
 /// The blocks of the octets, the last of them filled up with zeros.
-fn push_blocks(blocks: &mut Vec<u128>, octets: &[u8]) -> Result<(), AllocError> {
+fn push_blocks(blocks: &mut Vec<u128>, octets: &[u8]) -> io::Result<()> {
     for part in octets.chunks(16) {
         let mut block = [0u8; 16];
-        block[..part.len()].copy_from_slice(part);
+        let end = part.len().min(16);
+        block[..end].copy_from_slice(&part[..end]);
         blocks.push(u128::from_be_bytes(block))?;
     }
     Ok(())
 }
 
 /// The enciphered block that stands `count` after J0.
-fn pad(key: &Schedule, iv: &[u8; 12], count: u32) -> [u8; 16] {
+fn pad(key: &Schedule, count: u32) -> [u8; 16] {
     let mut block = [0u8; 16];
-    block[..12].copy_from_slice(iv);
+    block[..12].copy_from_slice(&IV);
     block[12..].copy_from_slice(&count.wrapping_add(1).to_be_bytes());
     key.encrypt(block)
 }
 
 /// Enciphers the text, and returns the tag: octet by octet, with each power of the hash subkey made afresh.
-fn plain_seal(
-    alloc: Global,
-    key: &Schedule,
-    iv: &[u8; 12],
-    aad: &[u8],
-    text: &mut [u8],
-) -> Result<[u8; 16], AllocError>
+fn plain_seal(alloc: Global, key: &Schedule, aad: &[u8], text: &mut [u8]) -> io::Result<[u8; 16]>
     requires aad { length aad.now ≤ 65536 }
     requires text { length text.old ≤ 65536 }
 {
     for i in 0..text.len() {
-        text[i] ^= pad(key, iv, (i / 16) as u32 + 1)[i % 16];
+        text[i] ^= pad(key, (i / 16) as u32 + 1)[i % 16];
     }
     let mut blocks = Vec::new(alloc);
     push_blocks(&mut blocks, aad)?;
     push_blocks(&mut blocks, text)?;
     blocks.push(((8 * aad.len() as u128) << 64) | (8 * text.len() as u128))?;
     let h = u128::from_be_bytes(key.encrypt([0; 16]));
-    let mask = u128::from_be_bytes(pad(key, iv, 0));
+    let mask = u128::from_be_bytes(pad(key, 0));
     Ok((ghash(h, &blocks) ^ mask).to_be_bytes())
 }
 
 /// Texts of 0 to 257 octets: those to 65 with additional data of each length from 0 to 33, and each longer one with
 /// additional data of one of these lengths.
-fn lengths(alloc: Global, key: &Schedule) -> Result<u32, AllocError> {
+fn lengths(alloc: Global, key: &Schedule) -> io::Result<u32> {
     let octets: [u8; 257] = array::from_fn(|i| (i % 256) as u8);
     let mut agreed = 0u32;
     for text_len in 0..258usize {
@@ -176,7 +171,7 @@ fn lengths(alloc: Global, key: &Schedule) -> Result<u32, AllocError> {
         for aad_len in least..=most {
             let (mut text, mut plain, aad) = (octets, octets, &octets[..aad_len]);
             let tag = seal_in_place(key, &IV, aad, &mut text[..text_len]);
-            let plain_tag = plain_seal(alloc, key, &IV, aad, &mut plain[..text_len])?;
+            let plain_tag = plain_seal(alloc, key, aad, &mut plain[..text_len])?;
             count(&mut agreed, tag == plain_tag && text == plain);
         }
     }
@@ -187,7 +182,7 @@ fn main(rt: HostRuntime) -> io::Result<()> {
     let Ok(key) = Schedule::new(&[5; 16]) else {
         return Err(io::ErrorKind::InvalidInput.into());
     };
-    let agreed = [
+    for (table, agreed) in [
         ("MACs by pieces", pieces(&key)),
         ("blocks by eight", eights(&key)),
         ("products", products()),
@@ -198,9 +193,8 @@ fn main(rt: HostRuntime) -> io::Result<()> {
         ("refused key lengths", refused_lengths()),
         ("published MACs", published_macs()),
         ("published MACs by pieces", published_macs_by_pieces()),
-    ];
-    for (table, cases) in agreed {
-        println!(rt; "{table}: {cases} agree")?;
+    ] {
+        println!(rt; "{table}: {agreed} agree")?;
     }
     Ok(())
 }

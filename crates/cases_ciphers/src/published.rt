@@ -174,34 +174,33 @@ const MACS_256: [(usize, u128); 4] = [
     (64, 0xe1992190549f6ed5696a2c056c315410),
 ];
 
-fn macs_under(key: &[u8], wanted: &[(usize, u128); 4]) -> u32 {
+/// How many MACs of the text's beginnings are those wanted, each made in pieces of these lengths. A length of 0 is one
+/// call of `mac`.
+fn macs_under(key: &[u8], wanted: &[(usize, u128); 4], pieces: &[usize]) -> u32 {
     let Ok(key) = Schedule::new(key) else {
         return 0;
     };
     let (octets, mut agreed) = (octets_of(&WORDS), 0u32);
     for (length, wanted) in *wanted {
-        let made = mac(&key, first(&octets, length));
-        count(&mut agreed, made == wanted.to_be_bytes());
+        let text = first(&octets, length);
+        for piece in pieces {
+            let made = match *piece {
+                0 => mac(&key, text),
+                piece => mac_by_pieces(&key, text, piece),
+            };
+            count(&mut agreed, made == wanted.to_be_bytes());
+        }
     }
     agreed
 }
 
 /// How many MACs are those of the standard.
 pub fn published_macs() -> u32 {
-    macs_under(&KEY_128.to_be_bytes(), &MACS_128).wrapping_add(macs_under(&KEY_256, &MACS_256))
+    let of_128 = macs_under(&KEY_128.to_be_bytes(), &MACS_128, &[0]);
+    of_128.wrapping_add(macs_under(&KEY_256, &MACS_256, &[0]))
 }
 
 /// The same of D.1, with each text in pieces of 1, 16, 17 and 64 octets.
 pub fn published_macs_by_pieces() -> u32 {
-    let Ok(key) = Schedule::new(&KEY_128.to_be_bytes()) else {
-        return 0;
-    };
-    let (octets, mut agreed) = (octets_of(&WORDS), 0u32);
-    for (length, wanted) in MACS_128 {
-        for piece in [1, 16, 17, 64] {
-            let made = mac_by_pieces(&key, first(&octets, length), piece);
-            count(&mut agreed, made == wanted.to_be_bytes());
-        }
-    }
-    agreed
+    macs_under(&KEY_128.to_be_bytes(), &MACS_128, &[1, 16, 17, 64])
 }
