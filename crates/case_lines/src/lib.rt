@@ -6,24 +6,16 @@
 //! the other, or a word at its place.
 #![tactic(auto)]
 
-mod answers;
-mod differences;
-mod digits;
-mod gathered;
-mod names;
 mod page;
 mod words;
 
-pub use answers::{Answers, Steps, Written, print_answer, print_answers, print_steps};
-pub use differences::Differences;
-pub use digits::{
-    Digits, decoded, number_in, number_of, octets, octets_at, part_at, piece, replace, set_octets,
-    set_octets_at, set_part_of,
+pub use page::{
+    Answers, Differences, Gathered, Page, Steps, Words, Written, print_answer, print_answers,
+    print_steps,
 };
-pub use gathered::Gathered;
-pub use names::{direction_name, key_state_name, sa_state_name, suite_name};
-pub use page::{Page, Words};
 pub use words::{
-    channel, cut, direction, flag, key, key_state, length_at, number, number_at, numbers, octet,
-    sa_state, short, spi, suite, word_at, words_of,
+    Digits, channel, cut, decoded, direction, direction_name, flag, key, key_state, key_state_name,
+    length_at, number, number_at, number_in, number_of, numbers, octet, octets, octets_at, part_at,
+    replace, sa_state, sa_state_name, set_octets, set_octets_at, short, spi, suite, suite_name,
+    word_at, words_of,
 };

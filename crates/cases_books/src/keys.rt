@@ -1,30 +1,32 @@
-// Calls on a key book, with their conditions looked at. Each has a function of its own, mostly without a clause: what
-// the clauses of several calls say together takes long to prove.
+//! Steps on a key book. `held ID SPI ..` says which associations hold which keys, for the steps behind it. Calls of the
+//! book have functions of their own, mostly without a clause: what the clauses of several say together takes long to
+//! prove.
 ghost use Rattle.std.specs.Prelude.{◌≡◌, IfOk, IfSome, All, length};
 
-use case_lines::Words;
-use key_book::{KeyBook, KeyRefusal, rows_may_follow};
-use sdls_base::{KeyId, KeyItem, KeyList, KeyState, NoMemory, Octets, Spi};
+use crate::{Changed, write_change};
+use case_lines::{Digits, Page, Words, decoded, key, key_state, number, short, spi};
+use key_book::{KeyBook, KeyRefusal, digest, rows_may_follow};
+use sdls_base::{KeyId, KeyItem, KeyList, NoMemory, Octets, Spi};
 use std::alloc::{AllocError, Global};
 
-/// A key of 16 octets, the first ones given and the others 0.
-fn item_of(id: KeyId, mut octets: Vec<u8>) -> Result<KeyItem, AllocError>
-    ensures { IfOk result (λ item. length item.bytes ≡ 16) }
-{
-    octets.resize(16, 0)?;
-    Ok(KeyItem {
-        id,
-        bytes: Octets::new(octets),
-    })
+/// A key book, and the keys that associations hold.
+#[derive(Drop)]
+pub struct KeyTable {
+    book: KeyBook,
+    held: Vec<(KeyId, Spi)>,
 }
 
-/// The key of the words: `ID FIRST`.
+/// A key of 16 octets, of which the first ones are given and the others are 0: `ID FIRST`.
 fn item(alloc: Global, words: &mut Words<'_>) -> Option<KeyItem>
     ensures { IfSome result (λ item. length item.bytes ≡ 16) }
 {
-    let id = case_lines::key(words)?;
-    let octets = hex::decode(alloc, words.next()?).ok()?;
-    item_of(id, octets).ok()
+    let id = key(words)?;
+    let mut octets = decoded(alloc, words.next()?).ok()?;
+    octets.resize(16, 0).ok()?;
+    Some(KeyItem {
+        id,
+        bytes: Octets::new(octets),
+    })
 }
 
 /// The keys of the words.
@@ -46,19 +48,11 @@ fn load(alloc: Global, book: &mut KeyBook, words: &mut Words<'_>) -> Result<(), 
     book.load(&items)
 }
 
-/// Loads one key, with its identifier as its first octets.
-fn load_one(alloc: Global, book: &mut KeyBook, id: KeyId) -> Result<(), KeyRefusal> {
-    let octets = Vec::from_slice(alloc, &id.get().to_be_bytes())?;
-    let item = item_of(id, octets)?;
-    book.load(&[item])
-}
-
-/// Loads the keys 1 to the number of the words, one at a time.
+/// Loads the keys 1 to the number of the words, one at a time. A key's first octets are its identifier.
 fn load_many(alloc: Global, book: &mut KeyBook, words: &mut Words<'_>) -> Result<(), KeyRefusal> {
-    for number in 1..=case_lines::short(words).unwrap_or(0) {
-        if let Some(id) = KeyId::new(number) {
-            load_one(alloc, book, id)?;
-        }
+    for number in 1..=short(words).unwrap_or(0) {
+        let line = format!(in alloc; "{number} {number:04x}")?;
+        load(alloc, book, &mut line.as_str().split_whitespace())?;
     }
     Ok(())
 }
@@ -67,49 +61,11 @@ fn load_many(alloc: Global, book: &mut KeyBook, words: &mut Words<'_>) -> Result
 fn ids(alloc: Global, words: &mut Words<'_>) -> Result<KeyList, AllocError> {
     let mut ids = Vec::new(alloc);
     for word in words {
-        if let Some(id) = case_lines::key(&mut word.split_whitespace()) {
+        if let Some(id) = key(&mut word.split_whitespace()) {
             ids.push(id)?;
         }
     }
     Ok(KeyList::new(ids))
-}
-
-/// Takes keys a state on.
-fn take_on(
-    alloc: Global,
-    book: &mut KeyBook,
-    to: KeyState,
-    words: &mut Words<'_>,
-    in_use: &[(KeyId, Spi)],
-) -> Result<(), KeyRefusal> {
-    let ids = ids(alloc, words)?;
-    book.set_state(&ids, to, in_use)
-}
-
-/// The same of the words: `STATE ID ..`.
-fn set_state(
-    alloc: Global,
-    book: &mut KeyBook,
-    words: &mut Words<'_>,
-    in_use: &[(KeyId, Spi)],
-) -> Option<Result<(), KeyRefusal>> {
-    let to = case_lines::key_state(words)?;
-    Some(take_on(alloc, book, to, words, in_use))
-}
-
-/// Makes the change of a word: `load`, `loads` or `state`.
-pub fn change(
-    alloc: Global,
-    book: &mut KeyBook,
-    word: &str,
-    words: &mut Words<'_>,
-    in_use: &[(KeyId, Spi)],
-) -> Option<Result<(), KeyRefusal>> {
-    match word {
-        "load" => Some(load(alloc, book, words)),
-        "loads" => Some(load_many(alloc, book, words)),
-        _ => set_state(alloc, book, words, in_use),
-    }
 }
 
 /// Raises the floor of a key, if the conditions hold.
@@ -119,10 +75,14 @@ fn raise_floor(book: &mut KeyBook, id: KeyId, floor: u64) {
     }
 }
 
-/// Sets mark and floor of a key, or raises them by the word `raise`, if the conditions hold: `ID MARK FLOOR`. The key.
-pub fn move_marks(book: &mut KeyBook, word: &str, words: &mut Words<'_>) -> Option<KeyId> {
-    let id = case_lines::key(words)?;
-    let (mark, floor) = (case_lines::number(words)?, case_lines::number(words)?);
+/// The key of the words: `ID`. Sets its mark and floor, or raises them by the word `raise`, if the conditions hold: `ID
+/// MARK FLOOR`. By the word `marks` these stay as they are.
+fn move_marks(book: &mut KeyBook, word: &str, words: &mut Words<'_>) -> Option<KeyId> {
+    let id = key(words)?;
+    if word == "marks" {
+        return Some(id);
+    }
+    let (mark, floor) = (number(words)?, number(words)?);
     if book.mark(id).is_none() || mark < 1 || mark > id.end() || floor >= id.end() {
         return None;
     }
@@ -136,16 +96,122 @@ pub fn move_marks(book: &mut KeyBook, word: &str, words: &mut Words<'_>) -> Opti
 }
 
 /// Whether two books have the same rows.
-pub fn same_rows(one: &KeyBook, other: &KeyBook) -> bool {
+fn same_rows(one: &KeyBook, other: &KeyBook) -> bool {
     one.rows() == other.rows()
 }
 
 /// The rows put into an empty book, in order.
-pub fn made_again(alloc: Global, book: &KeyBook) -> Result<KeyBook, NoMemory> {
+fn made_again(alloc: Global, book: &KeyBook) -> Result<KeyBook, NoMemory> {
     let mut again = KeyBook::new(alloc);
     rows_may_follow();
     for row in book.rows() {
         again.add_row(*row)?;
     }
     Ok(again)
+}
+
+impl KeyTable {
+    /// An empty book.
+    pub fn new(alloc: Global) -> KeyTable {
+        KeyTable {
+            book: KeyBook::new(alloc),
+            held: Vec::new(alloc),
+        }
+    }
+
+    fn hold(&mut self, words: &mut Words<'_>, page: &mut Page) {
+        self.held.clear();
+        for _ in 0..8 {
+            if let (Some(key), Some(spi)) = (key(words), spi(words)) {
+                page.check(self.held.push((key, spi)));
+            }
+        }
+        page.push_str("ok");
+    }
+
+    /// Makes the change of a word: `load`, `loads`, or `state STATE ID ..`.
+    fn changed(&mut self, alloc: Global, word: &str, words: &mut Words<'_>) -> Changed<KeyRefusal> {
+        match word {
+            "load" => Some(load(alloc, &mut self.book, words)),
+            "loads" => Some(load_many(alloc, &mut self.book, words)),
+            _ => {
+                let to = key_state(words)?;
+                let ids = ids(alloc, words).ok()?;
+                Some(self.book.set_state(&ids, to, &self.held))
+            }
+        }
+    }
+
+    /// Does a step that may be refused, and writes what the call answers.
+    fn change(&mut self, word: &str, words: &mut Words<'_>, page: &mut Page) {
+        let Ok(before) = self.book.copy() else {
+            return page.spoil();
+        };
+        let changed = self.changed(page.alloc(), word, words);
+        write_change(changed, same_rows(&self.book, &before), page);
+    }
+
+    /// Looks at mark and floor of a key, or moves them, and writes them.
+    fn move_marks(&mut self, word: &str, words: &mut Words<'_>, page: &mut Page) {
+        let Some(id) = move_marks(&mut self.book, word, words) else {
+            return page.push_str("no condition");
+        };
+        match (self.book.mark(id), self.book.receive_floor(id)) {
+            (Some(mark), Some(floor)) => write!(page, "mark {mark} floor {floor}"),
+            (None, None) => page.push_str("none"),
+            _ => page.push_str("one of two"),
+        }
+    }
+
+    /// Writes the row of a key: `ID`.
+    fn find(&self, words: &mut Words<'_>, page: &mut Page) {
+        match key(words).and_then(|id| self.book.find(id)) {
+            Some((place, row)) => {
+                let (octets, digest) = (Digits(row.bytes.as_slice()), Digits(&row.digest));
+                write!(page, "place {place} {row:?} ");
+                write!(page, "octets {octets} digest {digest}");
+            }
+            None => page.push_str("none"),
+        }
+    }
+
+    /// Writes the keys of a range: `FIRST LAST`.
+    fn list(&self, words: &mut Words<'_>, page: &mut Page) {
+        let (first, last) = (short(words).unwrap_or(0), short(words).unwrap_or(0));
+        let Ok(inventory) = self.book.inventory(first, last) else {
+            return page.spoil();
+        };
+        let rows = inventory.rows.as_slice();
+        write!(page, "{}, listed {}", inventory.total, rows.len());
+        for (id, state) in rows {
+            write!(page, ", {} {state:?}", id.get());
+        }
+    }
+
+    /// Writes whether the rows make an equal book.
+    fn make_again(&self, page: &mut Page) {
+        match made_again(page.alloc(), &self.book) {
+            Ok(again) => write!(page, "{}", same_rows(&again, &self.book)),
+            Err(_) => page.spoil(),
+        }
+    }
+
+    /// Does a step, and writes what it answers. Returns whether it is one on keys.
+    pub fn step(&mut self, word: &str, words: &mut Words<'_>, page: &mut Page) -> bool {
+        match word {
+            "load" | "loads" | "state" => self.change(word, words, page),
+            "raise" | "set" | "marks" => self.move_marks(word, words, page),
+            "find" => self.find(words, page),
+            "held" => self.hold(words, page),
+            "inventory" => self.list(words, page),
+            "keys" => write!(page, "{:?}", self.book),
+            "digest" => {
+                let octets = page.piece(words);
+                page.push_digits(&digest(&octets));
+            }
+            "keys_again" => self.make_again(page),
+            _ => return false,
+        }
+        true
+    }
 }

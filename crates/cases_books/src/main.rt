@@ -32,28 +32,33 @@
 //! `made` wrote.
 #![tactic(auto)]
 
-mod answers;
-mod association_steps;
 mod associations;
-mod bank;
-mod contents;
-mod drawn;
-mod key_steps;
 mod keys;
-mod plain;
 mod plans;
 mod rows;
-mod sequences;
-mod text;
 mod windows;
 
-use association_steps::AssociationTable;
-use bank::Bank;
-use case_lines::{Answers, Page, print_answers};
-use key_steps::KeyTable;
+use associations::AssociationTable;
+use case_lines::{Answers, Page, cut, print_answers};
+use keys::KeyTable;
+use plans::Text;
 use replay_window::Window;
+use rows::Bank;
 use std::alloc::Global;
-use text::Text;
+use std::fmt::Display;
+
+/// What a call answered that may be refused. It is none if no call has its word, its words are not there, or its
+/// conditions do not hold.
+pub type Changed<R> = Option<Result<(), R>>;
+
+/// Writes what a call answered that may be refused, and whether the rows are as they were.
+pub fn write_change<R: Display + Drop>(changed: Changed<R>, kept: bool, page: &mut Page) {
+    match changed {
+        Some(Ok(())) => page.push_str("ok"),
+        Some(Err(refusal)) => write!(page, "{refusal}; rows kept: {kept}"),
+        None => page.push_str("no condition"),
+    }
+}
 
 /// The two books, the text of a plan, a window, and a content.
 #[derive(Drop)]
@@ -66,17 +71,6 @@ struct Table {
 }
 
 impl Table {
-    /// Two empty books, an empty text, a window at 0 of width 1, and an empty content.
-    fn new(alloc: Global) -> Table {
-        Table {
-            keys: KeyTable::new(alloc),
-            associations: AssociationTable::new(alloc),
-            text: Text::new(alloc),
-            window: Window::new(0, 1),
-            bank: Bank::new(alloc),
-        }
-    }
-
     /// Empties both books, and begins an empty text.
     fn clear(&mut self, alloc: Global) {
         self.keys = KeyTable::new(alloc);
@@ -99,7 +93,7 @@ impl Table {
 
 impl Answers for Table {
     fn answer(&mut self, line: &str, page: &mut Page) {
-        let (word, rest) = line.split_once(' ').unwrap_or((line, ""));
+        let (word, rest) = cut(line);
         match word {
             "new" => self.clear(page.alloc()),
             ":" | ";" | "fill" => self.text.change(word, rest, page),
@@ -114,5 +108,13 @@ impl Answers for Table {
 }
 
 fn main(rt: HostRuntime) -> anyhow::Result<()> {
-    print_answers(&rt, &mut Table::new(rt.alloc()))
+    let alloc = rt.alloc();
+    let mut table = Table {
+        keys: KeyTable::new(alloc),
+        associations: AssociationTable::new(alloc),
+        text: Text::new(alloc),
+        window: Window::new(0, 1),
+        bank: Bank::new(alloc),
+    };
+    print_answers(&rt, &mut table)
 }

@@ -23,19 +23,12 @@
 //! are written as text, none as `-`.
 #![tactic(auto)]
 
-mod crashes;
-mod deaths;
-mod file;
 mod images;
-mod input;
-mod lives;
 mod outside;
-mod steps;
-mod takes;
 
-use case_lines::{Answers, Page, part_at, print_answer, set_part_of};
-use images::take_image;
+use case_lines::{Answers, Page, cut, octets_at, print_answer};
 use sdls_base::Version;
+use sdls_outside::{Source, StdSource};
 
 /// An image, and the one that was kept.
 #[derive(Drop)]
@@ -46,28 +39,15 @@ struct Table {
 }
 
 impl Table {
-    fn new(rt: HostRuntime) -> Table {
-        Table {
-            rt,
-            image: Vec::new(rt.alloc()),
-            kept: Vec::new(rt.alloc()),
-        }
-    }
-
-    /// Writes octets of a line over those of the image.
-    fn set(&mut self, line: &str, page: &mut Page) {
-        page.check(set_part_of(self.rt.alloc(), self.image.as_mut_slice(), line));
-    }
-
     /// Does a step on the images in memory, and writes what it answers.
     fn step_on_images(&mut self, step: &str, rest: &str, page: &mut Page) {
         match step {
-            "left" => deaths::leave(&mut self.image, rest, page),
-            "keep" => take_image(&mut self.kept, &self.image, page),
-            "back" => take_image(&mut self.image, &self.kept, page),
+            "left" => images::leave(&mut self.image, rest, page),
+            "keep" => self.kept = page.copy(&self.image),
+            "back" => self.image = page.copy(&self.kept),
             "open" => images::write_opened(&self.image, page),
             "zeros" => page.push_str(images::zeros(&self.image, rest)),
-            "dead" => deaths::write_each(&self.image, rest, page),
+            "dead" => images::write_each(&self.image, rest, page),
             _ => page.push_str("no step"),
         }
     }
@@ -75,25 +55,38 @@ impl Table {
 
 impl Answers for Table {
     fn answer(&mut self, line: &str, page: &mut Page) {
-        let (step, rest) = line.split_once(' ').unwrap_or((line, ""));
+        let (step, rest) = cut(line);
         match step {
             "create" => images::create_image(&mut self.image, Version::One, rest, page),
             "create_two" => images::create_image(&mut self.image, Version::Two, rest, page),
-            "set" => self.set(rest, page),
+            "set" => page.set_part_of(&mut self.image, rest),
             "cut" => self.image.truncate(rest.parse().unwrap_or(0)),
-            "at" => page.push_digits(part_at(&self.image, rest).unwrap_or(&[])),
+            "at" => page.push_digits(octets_at(&self.image, rest)),
             "outside" => outside::write_case(self.rt, rest, page),
             "append" | "turn" | "settle" | "migrate" => {
-                steps::write_step(&mut self.image, line, page)
+                images::write_step(&mut self.image, line, page)
             }
             _ => self.step_on_images(step, rest, page),
         }
     }
 }
 
+/// Takes a piece of the input, of 700 octets at most. Says whether there was one.
+fn take(source: &mut StdSource, octets: &mut Vec<u8>) -> anyhow::Result<bool> {
+    let mut piece = [b'~'; 700];
+    let count = source.take(&mut piece)?;
+    octets.extend_from_slice(&piece[..count])?;
+    Ok(count > 0)
+}
+
 /// Prints what each line of a text answers.
 fn print_lines(rt: HostRuntime, text: &str) -> anyhow::Result<()> {
-    let (mut table, mut page) = (Table::new(rt), Page::new(rt.alloc()));
+    let mut page = Page::new(rt.alloc());
+    let mut table = Table {
+        rt,
+        image: Vec::new(rt.alloc()),
+        kept: Vec::new(rt.alloc()),
+    };
     for line in text.lines() {
         print_answer(&rt, &mut table, line, &mut page)?;
     }
@@ -101,7 +94,11 @@ fn print_lines(rt: HostRuntime, text: &str) -> anyhow::Result<()> {
 }
 
 fn main(rt: HostRuntime) -> anyhow::Result<()> {
-    let mut octets = Vec::new(rt.alloc());
-    input::read_all(rt, &mut octets)?;
+    let (mut source, mut octets) = (StdSource::new(rt.stdin()), Vec::new(rt.alloc()));
+    for _ in 0..u64::MAX {
+        if !take(&mut source, &mut octets)? {
+            break;
+        }
+    }
     print_lines(rt, outside::text(&octets))
 }
