@@ -1,5 +1,5 @@
 //! Steps on one window, and sequences of steps on a window and on a plain list of all numbers that it accepted.
-ghost use Rattle.std.specs.Prelude.{◌<◌, ◌≤◌};
+ghost use Rattle.std.specs.Prelude.{◌<◌};
 ghost use Rattle.replay_window.specs.WindowField.{IsWindowField};
 
 use case_lines::{Page, Words, number};
@@ -105,12 +105,6 @@ impl Drawn {
             _ => any.min(u64::from(MOST_BACK)) as u8,
         }
     }
-
-    fn width(&mut self) -> u64
-        ensures { result ≤ 100 }
-    {
-        self.below(100) + 1
-    }
 }
 
 /// What came of the numbers that were offered.
@@ -140,7 +134,7 @@ struct Pair {
 
 impl Pair {
     fn drawn(alloc: Global, drawn: &mut Drawn) -> Pair {
-        let (base, width, back) = (drawn.below(300), drawn.width(), drawn.back());
+        let (base, width, back) = (drawn.below(300), drawn.below(100) + 1, drawn.back());
         Pair {
             window: Window::new(base, window_field(back, width)),
             high: base,
@@ -174,7 +168,7 @@ impl Pair {
     }
 
     fn set(&mut self, drawn: &mut Drawn) {
-        let (width, back) = (drawn.width(), drawn.back());
+        let (width, back) = (drawn.below(100) + 1, drawn.back());
         self.window.set_field(window_field(back, width));
         self.width = width;
         self.back = u64::from(back);

@@ -25,9 +25,13 @@ fn octet_of(word: &str) -> u8 {
     u8::from_str_radix(word, 16).unwrap_or(first.unwrap_or(0))
 }
 
-/// Takes the image of a plan, of this version, with a content of this octet alone: `SLOTS CONTENT PLAN`. The slots and
-/// the plan have to be within bounds.
-pub fn create_image(image: &mut Vec<u8>, version: Version, line: &str, page: &mut Page) {
+/// Takes the image of a plan, of version 1 or by `create_two` of version 2, with a content of this octet alone: `SLOTS
+/// CONTENT PLAN`. The slots and the plan have to be within bounds.
+pub fn create_image(image: &mut Vec<u8>, step: &str, line: &str, page: &mut Page) {
+    let version = match step {
+        "create_two" => Version::Two,
+        _ => Version::One,
+    };
     let (alloc, mut words) = (page.alloc(), line.split_whitespace());
     let slots = words.next().unwrap_or("").parse().unwrap_or(0);
     let octet = octet_of(words.next().unwrap_or(""));
@@ -55,44 +59,23 @@ fn at_rest(site: &mut MemSite) -> Result<Journal, JournalFault>
     Ok(journal)
 }
 
-/// Adds a record of this octet alone, if a slot is free.
-fn append(site: &mut MemSite, octet: u8) -> Result<(), JournalFault> {
-    let mut journal = at_rest(site)?;
-    if journal.used() == journal.slots() {
-        return Ok(());
-    }
-    journal.append(site, &[octet; BODY_LENGTH])
-}
-
-/// Writes a content of this octet alone by a turn, as long as the version has it.
-fn turn(site: &mut MemSite, octet: u8, page: &mut Page) -> Result<(), JournalFault> {
-    let mut journal = at_rest(site)?;
-    match vec![in page.alloc(); octet; journal.content_version().content_length()] {
-        Ok(content) => journal.turn(site, &content),
-        Err(_) => Ok(page.spoil()),
-    }
-}
-
-/// Migrates the image to a content of this octet alone, if it is of version 1.
-fn migrate(site: &mut MemSite, octet: u8, page: &mut Page) -> Result<(), JournalFault> {
-    let mut journal = at_rest(site)?;
-    if journal.content_version() == Version::Two {
-        return Ok(());
-    }
-    match vec![in page.alloc(); octet; CONTENT_LENGTH_TWO] {
-        Ok(content) => journal.migrate(site, &content),
-        Err(_) => Ok(page.spoil()),
-    }
-}
-
-/// Does a step on the site: `settle`, `append OCTET`, `turn OCTET` or `migrate OCTET`.
+/// Opens the image and brings it to rest. By `append OCTET` it adds a record of this octet alone, if a slot is free. By
+/// `turn OCTET` and `migrate OCTET` it writes a content of this octet alone, by a migration if the image is of version 1.
 fn does(site: &mut MemSite, line: &str, page: &mut Page) -> Result<(), JournalFault> {
-    let octet = octet_of(word_at(line, 1));
+    let (octet, mut journal) = (octet_of(word_at(line, 1)), at_rest(site)?);
     match word_at(line, 0) {
-        "append" => append(site, octet),
-        "turn" => turn(site, octet, page),
-        "migrate" => migrate(site, octet, page),
-        _ => at_rest(site).map(|_| ()),
+        "append" if journal.used() < journal.slots() => journal.append(site, &[octet; BODY_LENGTH]),
+        "turn" => match vec![in page.alloc(); octet; journal.content_version().content_length()] {
+            Ok(content) => journal.turn(site, &content),
+            Err(_) => Ok(page.spoil()),
+        },
+        "migrate" if journal.content_version() == Version::One => {
+            match vec![in page.alloc(); octet; CONTENT_LENGTH_TWO] {
+                Ok(content) => journal.migrate(site, &content),
+                Err(_) => Ok(page.spoil()),
+            }
+        }
+        _ => Ok(()),
     }
 }
 
@@ -201,8 +184,8 @@ pub fn leave(image: &mut Vec<u8>, line: &str, page: &mut Page) {
     *image = page.copy(site.crashed(how).image());
 }
 
-/// Does the step on a site that is dead from a call on, and writes what the image holds after it, at rest. Returns whether the
-/// step came to its end.
+/// Does the step on a site that is dead from a call on, and writes what the image holds after it, once it is at rest.
+/// Returns whether the step came to its end.
 fn write_death(mut site: MemSite, line: &str, page: &mut Page) -> bool {
     let is_whole = does(&mut site, line, page).is_ok();
     let mut site = site.crashed(crash_of(word_at(line, 2)));

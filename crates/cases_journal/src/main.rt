@@ -27,7 +27,6 @@ mod images;
 mod outside;
 
 use case_lines::{Answers, Page, cut, octets_at, print_answer};
-use sdls_base::Version;
 use sdls_outside::{Source, StdSource};
 
 /// An image, and the one that was kept.
@@ -38,35 +37,22 @@ struct Table {
     kept: Vec<u8>,
 }
 
-impl Table {
-    /// Does a step on the images in memory, and writes what it answers.
-    fn step_on_images(&mut self, step: &str, rest: &str, page: &mut Page) {
+impl Answers for Table {
+    fn answer(&mut self, line: &str, page: &mut Page) {
+        let (step, rest) = cut(line);
         match step {
+            "create" | "create_two" => images::create_image(&mut self.image, step, rest, page),
+            "set" => page.set_part_of(&mut self.image, rest),
+            "cut" => self.image.truncate(rest.parse().unwrap_or(0)),
+            "at" => page.push_digits(octets_at(&self.image, rest)),
+            "outside" => outside::write_case(self.rt, rest, page),
             "left" => images::leave(&mut self.image, rest, page),
             "keep" => self.kept = page.copy(&self.image),
             "back" => self.image = page.copy(&self.kept),
             "open" => images::write_opened(&self.image, page),
             "zeros" => page.push_str(images::zeros(&self.image, rest)),
             "dead" => images::write_each(&self.image, rest, page),
-            _ => page.push_str("no step"),
-        }
-    }
-}
-
-impl Answers for Table {
-    fn answer(&mut self, line: &str, page: &mut Page) {
-        let (step, rest) = cut(line);
-        match step {
-            "create" => images::create_image(&mut self.image, Version::One, rest, page),
-            "create_two" => images::create_image(&mut self.image, Version::Two, rest, page),
-            "set" => page.set_part_of(&mut self.image, rest),
-            "cut" => self.image.truncate(rest.parse().unwrap_or(0)),
-            "at" => page.push_digits(octets_at(&self.image, rest)),
-            "outside" => outside::write_case(self.rt, rest, page),
-            "append" | "turn" | "settle" | "migrate" => {
-                images::write_step(&mut self.image, line, page)
-            }
-            _ => self.step_on_images(step, rest, page),
+            _ => images::write_step(&mut self.image, line, page),
         }
     }
 }
