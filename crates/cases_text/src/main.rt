@@ -14,18 +14,41 @@
 //! or at none for `-`. In a line `\` and two hexadecimal digits stand for an octet.
 #![tactic(auto)]
 
-mod answers;
-mod checking;
-mod ends;
-mod items;
-mod lines;
+ghost use Rattle.input_text.specs.Line.{IsLine};
+
 mod plans;
-mod states;
 mod streams;
 
-use answer_text::Form;
-use case_lines::{Steps, cut, print_steps};
-use std::alloc::Global;
+use case_lines::{Answers, Page, cut, print_answers};
+use input_text::{Line, LineError, put_item, read_line};
+
+/// Writes the octets of the item that a line says.
+fn write_item(line: &Line, page: &mut Page)
+    requires { IsLine line.now }
+{
+    let mut octets = Vec::new(page.alloc());
+    page.check(put_item(page.alloc(), &mut octets, line));
+    page.push_digits(&octets);
+}
+
+/// Reads a line, and writes the octets of its item, or why there is none.
+fn read(text: &[u8], page: &mut Page) {
+    match read_line(page.alloc(), text) {
+        Ok(Some(line)) => write_item(&line, page),
+        Ok(None) => page.push_str("skipped"),
+        Err(LineError::Fault(fault)) => write!(page, "{fault}"),
+        Err(LineError::NoMemory) => page.spoil(),
+    }
+}
+
+/// The same of a line in which `\r` at the end stands for a carriage return.
+fn read_case(case: &str, page: &mut Page) {
+    let mut text = page.copy(case.strip_suffix("\\r").unwrap_or(case).as_bytes());
+    if text.len() < case.len() {
+        page.check(text.push(b'\r'));
+    }
+    read(&text, page);
+}
 
 /// The text of a plan.
 #[derive(Drop)]
@@ -33,18 +56,17 @@ struct Table {
     plan: Vec<u8>,
 }
 
-impl Steps for Table {
-    fn step(&mut self, alloc: Global, line: &str, answer: &mut String) -> anyhow::Result<()> {
+impl Answers for Table {
+    fn answer(&mut self, line: &str, page: &mut Page) {
         let (word, case) = cut(line);
         match word {
-            "line" => Ok(lines::answer(alloc, case, answer)?),
-            "items" => items::answer(alloc, case, answer),
-            "answers" => answers::answer(alloc, Form::Words, case, answer),
-            "json" => answers::answer(alloc, Form::Json, case, answer),
-            "state" => Ok(states::answer(alloc, case, answer)?),
-            "stream" => streams::answer(alloc, case, answer),
-            "plan" => Ok(plans::answer(alloc, &mut self.plan, case, answer)?),
-            _ => Ok(answer.push_str("no case")?),
+            "line" => read_case(case, page),
+            "items" => streams::answer_items(case, page),
+            "answers" | "json" => streams::answer_answers(word, case, page),
+            "stream" => streams::answer_stream(case, page),
+            "state" => streams::answer_state(case, page),
+            "plan" => plans::answer(&mut self.plan, case, page),
+            _ => page.push_str("no case"),
         }
     }
 }
@@ -53,5 +75,5 @@ fn main(rt: HostRuntime) -> anyhow::Result<()> {
     let mut table = Table {
         plan: Vec::new(rt.alloc()),
     };
-    print_steps(&rt, &mut table)
+    print_answers(&rt, &mut table)
 }

@@ -1,69 +1,55 @@
 // The steps of the text of a plan.
-use crate::checking::{Faults, check};
-use case_lines::{Written, cut};
-use std::alloc::{AllocError, Global};
+use crate::streams::check_plan;
+use case_lines::{Page, cut};
 
 /// Adds the octet of two digits, and what stands behind them.
-fn push_digits(text: &mut Vec<u8>, part: &str) -> Result<(), AllocError> {
+fn push_digits(text: &mut Vec<u8>, part: &str, page: &mut Page) {
     let (digits, rest) = part.split_at_checked(2).unwrap_or(("", part));
     if let Ok(octet) = u8::from_str_radix(digits, 16) {
-        text.push(octet)?;
+        page.check(text.push(octet));
     }
-    text.extend_from_slice(rest.as_bytes())
+    page.check(text.extend_from_slice(rest.as_bytes()));
 }
 
 /// Adds the octets of a line, in which `\` and two digits stand for one.
-fn push_line(text: &mut Vec<u8>, line: &str) -> Result<(), AllocError> {
+fn push_line(text: &mut Vec<u8>, line: &str, page: &mut Page) {
     let mut parts = line.split('\\');
-    text.extend_from_slice(parts.next().unwrap_or("").as_bytes())?;
+    let front = parts.next().unwrap_or("");
+    page.check(text.extend_from_slice(front.as_bytes()));
     for part in parts {
-        push_digits(text, part)?;
+        push_digits(text, part, page);
     }
-    Ok(())
-}
-
-/// Adds a line and its line feed.
-fn push_whole_line(text: &mut Vec<u8>, line: &str) -> Result<(), AllocError> {
-    push_line(text, line)?;
-    text.extend_from_slice(b"\n")
 }
 
 /// Adds a text so many times: `N TEXT`.
-fn push_times(text: &mut Vec<u8>, line: &str) -> Result<(), AllocError> {
+fn push_times(text: &mut Vec<u8>, line: &str, page: &mut Page) {
     let (count, line) = cut(line);
-    let count: u32 = count.parse().unwrap_or(0);
-    for _ in 0..count {
-        push_line(text, line)?;
+    for _ in 0..count.parse().unwrap_or(0u32) {
+        push_line(text, line, page);
     }
-    Ok(())
 }
 
-/// Writes what the check prints of the text with this line behind it.
-fn check_with(alloc: Global, text: &mut Vec<u8>, line: &str, answer: &mut String) -> Written {
+/// Writes what the check says of the text with this line behind it.
+fn check_with(text: &mut Vec<u8>, line: &str, page: &mut Page) {
     let before = text.len();
-    push_line(text, line)?;
-    check(alloc, text.as_slice(), Faults::none(4_096), answer)?;
+    push_line(text, line, page);
+    check_plan(text, "", page);
     text.truncate(before);
-    Ok(())
 }
 
 /// Writes what a step on the text of a plan answers, and nothing if it adds to the text alone.
-pub fn answer(alloc: Global, text: &mut Vec<u8>, step: &str, answer: &mut String) -> Written {
+pub fn answer(text: &mut Vec<u8>, step: &str, page: &mut Page) {
     let (word, rest) = cut(step);
     match word {
-        "new" => {
-            text.clear();
-            Ok(())
+        "new" => text.clear(),
+        ":" => {
+            push_line(text, rest, page);
+            page.check(text.push(b'\n'));
         }
-        ":" => push_whole_line(text, rest),
-        "x" => push_times(text, rest),
-        "line" => check_with(alloc, text, rest, answer),
-        "check" => check(alloc, text.as_slice(), Faults::none(4_096), answer),
-        "pieces" => {
-            let faults = Faults::none(rest.parse().unwrap_or(1));
-            check(alloc, text.as_slice(), faults, answer)
-        }
-        "fails" => check(alloc, text.as_slice(), Faults::of(rest), answer),
-        _ => answer.push_str("no step"),
+        "x" => push_times(text, rest, page),
+        "line" => check_with(text, rest, page),
+        "check" | "fails" => check_plan(text, step, page),
+        "pieces" => check_plan(text, rest, page),
+        _ => page.push_str("no step"),
     }
 }
