@@ -1,5 +1,5 @@
 //! What arrives over a link, and the fates of the frames of a chunk.
-use case_lines::Page;
+use case_lines::{Page, cut};
 use link_world::{Fate, LinkEvent, fate, link_run};
 
 /// The event that a word names.
@@ -24,17 +24,9 @@ fn write_frames(frames: &[u32], page: &mut Page) {
     }
 }
 
-/// Writes what arrives of so many frames.
-fn write_arrived(count: u32, events: &[LinkEvent], page: &mut Page) {
-    match link_run(page.alloc(), count, events) {
-        Ok(frames) => write_frames(frames.as_slice(), page),
-        Err(_) => page.spoil(),
-    }
-}
-
 /// Writes what arrives: `COUNT EVENTS`.
 pub fn answer_link(line: &str, page: &mut Page) {
-    let (count, words) = line.split_once(' ').unwrap_or((line, ""));
+    let (count, words) = cut(line);
     let mut events = Vec::new(page.alloc());
     for word in words.split_whitespace() {
         match event_of(word) {
@@ -42,7 +34,10 @@ pub fn answer_link(line: &str, page: &mut Page) {
             None => return page.push_str("no event"),
         }
     }
-    write_arrived(count.parse().unwrap_or(0), &events, page);
+    match link_run(page.alloc(), count.parse().unwrap_or(0), &events) {
+        Ok(frames) => write_frames(&frames, page),
+        Err(_) => page.spoil(),
+    }
 }
 
 /// How many of the first frames have this fate.

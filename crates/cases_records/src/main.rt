@@ -30,34 +30,27 @@
 //! often it stands there.
 #![tactic(auto)]
 
-mod asking;
-mod auditing;
-mod inputs;
 mod linking;
-mod noting;
-mod recordings;
-mod sources;
-mod writing;
+mod logs;
+mod reading;
 
-use case_lines::{Answers, Differences, Page, print_answers};
+use case_lines::{Answers, Page, cut, print_answers};
 use fsr_log::Log;
 
-/// A log, a recording, and what was answered before.
+/// A log, and a recording.
 #[derive(Drop)]
 struct Table {
     log: Log,
     recording: Vec<u8>,
-    differences: Differences,
 }
 
 impl Answers for Table {
     fn answer(&mut self, line: &str, page: &mut Page) {
-        let (subject, step) = line.split_once(' ').unwrap_or((line, ""));
-        let differences = &mut self.differences;
+        let (subject, step) = cut(line);
         match subject {
-            "input" => inputs::answer(differences, step, page),
-            "log" => asking::answer(&mut self.log, step, page),
-            "recording" => recordings::answer(&mut self.recording, differences, step, page),
+            "input" => reading::answer_input(step, page),
+            "recording" => reading::answer_recording(&mut self.recording, step, page),
+            "log" => logs::answer(&mut self.log, step, page),
             "link" => linking::answer_link(step, page),
             "fates" => linking::answer_fates(step, page),
             _ => page.push_str("no step"),
@@ -69,7 +62,6 @@ fn main(rt: HostRuntime) -> anyhow::Result<()> {
     let mut table = Table {
         log: Log::new(rt.alloc())?,
         recording: Vec::new(rt.alloc()),
-        differences: Differences::new(rt.alloc()),
     };
     print_answers(&rt, &mut table)
 }
