@@ -16,12 +16,11 @@
 #![tactic(auto)]
 
 mod table;
-mod texts;
 mod unit;
 
-use case_lines::print_steps;
+use case_lines::print_answers;
 use table::Table;
 
 fn main(rt: HostRuntime) -> anyhow::Result<()> {
-    print_steps(&rt, &mut Table::new(rt.alloc()))
+    print_answers(&rt, &mut Table::new(rt.alloc()))
 }

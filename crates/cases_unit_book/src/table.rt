@@ -1,33 +1,15 @@
 //! The steps, and what they answer.
 
-use crate::texts::write_open_fault;
 use crate::unit::Unit;
 use case_lines::{
-    Gathered, Steps, Written, cut, decoded, length_at, number_at, numbers, replace, set_octets_at,
+    Answers, Digits, Gathered, Page, cut, length_at, number_at, numbers, octets_at, replace,
+    set_octets_at, word_at,
 };
-use case_units::{image_after, image_of, image_of_version_one, write_octets, write_part};
+use case_units::{crash_of, image_of, image_of_version_one};
 use sdls_outside::MemSite;
 use std::alloc::Global;
 use std::mem;
 use unit_image::OpenFault;
-
-/// A call of the unit.
-fn call(
-    unit: &mut Unit<MemSite>,
-    word: &str,
-    link: u8,
-    octets: &mut [u8],
-    answer: &mut String,
-) -> Written {
-    match word {
-        "protect" => unit.protect(link, octets, answer),
-        "accept" => unit.accept(link, octets, answer),
-        "do" => unit.command(octets, answer),
-        "put" => unit.put(octets, answer),
-        "release" => unit.release(answer),
-        _ => unit.tell(answer),
-    }
-}
 
 /// The lines of a plan and of a life that were gathered, the image as it lies and the one that was kept, the calls that
 /// are to fail, and the unit that is open.
@@ -54,167 +36,150 @@ impl Table {
         }
     }
 
+    fn write_length(&self, page: &mut Page) {
+        write!(page, "image of {}", self.image.len());
+    }
+
     /// Takes the image that was made of the plan, or none.
-    fn create(&mut self, alloc: Global, word: &str, answer: &mut String) -> Written {
+    fn create(&mut self, word: &str, page: &mut Page) {
         let text = self.plan.as_str().as_bytes();
         let image = match word {
-            "create" => image_of(alloc, text),
-            _ => image_of_version_one(alloc, text),
+            "create" => image_of(page.alloc(), text),
+            _ => image_of_version_one(page.alloc(), text),
         };
-        self.image = image.unwrap_or(Vec::new(alloc));
+        self.image = image.unwrap_or(Vec::new(page.alloc()));
         self.plan.clear();
-        self.write_length(answer)
-    }
-
-    fn write_length(&self, answer: &mut String) -> Written {
-        let length = self.image.len();
-        write!(answer, "image of {length}")
-    }
-
-    fn open(&mut self, alloc: Global, answer: &mut String) -> Written {
-        let image = Vec::from_slice(alloc, self.image.as_slice())?;
-        let failing = mem::replace(&mut self.failing, Vec::new(alloc));
-        match Unit::open(alloc, MemSite::new(alloc, image, failing, None)) {
-            Ok(unit) => {
-                self.unit = Some(unit);
-                answer.push_str("opened")
-            }
-            Err((fault, site)) => self.write_refusal(&fault, site.image(), answer),
-        }
+        self.write_length(page);
     }
 
     /// Why the image was not opened, and whether the site holds it still.
-    fn write_refusal(&self, fault: &OpenFault, held: &[u8], answer: &mut String) -> Written {
-        write_open_fault(fault, answer)?;
+    fn write_refusal(&self, fault: OpenFault, held: &[u8], page: &mut Page) {
+        match fault {
+            OpenFault::SiteFault(count) => write!(page, "site fault {count}"),
+            OpenFault::Image(offset) => write!(page, "image {offset}"),
+            OpenFault::NoMemory => page.push_str("no memory"),
+        }
         let is_same = held == self.image.as_slice();
-        answer.push_str(if is_same { ", unchanged" } else { ", changed" })
+        page.push_str(if is_same { ", unchanged" } else { ", changed" });
     }
 
-    fn close(&mut self, answer: &mut String) -> Written {
+    fn open(&mut self, page: &mut Page) {
+        let failing = mem::replace(&mut self.failing, Vec::new(page.alloc()));
+        let site = MemSite::new(page.alloc(), page.copy(&self.image), failing, None);
+        match Unit::open(site, page) {
+            Ok(unit) => {
+                self.unit = Some(unit);
+                page.push_str("opened");
+            }
+            Err((fault, site)) => self.write_refusal(fault, site.image(), page),
+        }
+    }
+
+    /// Ends the run, by a crash or without one, and takes the image that it leaves.
+    fn end(&mut self, word: &str, crash: &str, page: &mut Page) {
         let Some(unit) = self.unit.take() else {
-            return answer.push_str("no unit");
+            return page.push_str("no unit");
         };
         let (site, entries) = unit.into_site();
-        self.take(&site, entries, answer)
-    }
-
-    /// Takes the image of a site, and says what it has sunk.
-    fn take(&mut self, site: &MemSite, entries: usize, answer: &mut String) -> Written {
-        replace(&mut self.image, site.image())?;
-        write!(answer, "closed after {entries}, sunk ")?;
-        write_octets(site.sunk(), answer)
-    }
-
-    fn crash(&mut self, alloc: Global, rest: &str, answer: &mut String) -> Written {
-        let Some(unit) = self.unit.take() else {
-            return answer.push_str("no unit");
-        };
-        let (site, entries) = unit.into_site();
-        self.image = image_after(alloc, site, rest)?;
-        write!(answer, "crashed after {entries}")
+        if word == "close" {
+            let sunk = Digits(site.sunk());
+            write!(page, "closed after {entries}, sunk {sunk}");
+            return page.check(replace(&mut self.image, site.image()));
+        }
+        write!(page, "crashed after {entries}");
+        let site = site.crashed(crash_of(crash));
+        page.check(replace(&mut self.image, site.image()));
     }
 
     /// Calls the unit: with the octets that a line ends with, if there are any.
-    fn call(&mut self, alloc: Global, word: &str, rest: &str, answer: &mut String) -> Written {
+    fn call(&mut self, word: &str, rest: &str, page: &mut Page) {
         let Some(unit) = &mut self.unit else {
-            return answer.push_str("no unit");
+            return page.push_str("no unit");
         };
-        let link = u8::try_from(number_at(rest, 0)).unwrap_or(255);
-        let mut octets = decoded(alloc, rest.split_whitespace().last().unwrap_or(""))?;
-        call(unit, word, link, octets.as_mut_slice(), answer)
+        let link = word_at(rest, 0).parse().unwrap_or(255);
+        let last = rest.split_whitespace().last().unwrap_or("");
+        let mut octets = page.octets_at(last, 0);
+        match word {
+            "protect" => unit.protect(link, &octets, page),
+            "accept" => unit.accept(link, octets.as_mut_slice(), page),
+            "do" => unit.command(&octets, page),
+            "put" => unit.put(&octets, page),
+            "release" => unit.release(page),
+            _ => unit.tell(page),
+        }
     }
 
     /// Does a step on the unit. What is none is printed as it is.
-    fn take_unit_step(&mut self, alloc: Global, line: &str, answer: &mut String) -> Written {
+    fn take_unit_step(&mut self, line: &str, page: &mut Page) {
         let (word, rest) = cut(line);
         match word {
-            "open" => self.open(alloc, answer),
-            "close" => self.close(answer),
-            "crash" => self.crash(alloc, rest, answer),
-            "protect" | "accept" | "do" | "release" | "put" | "tell" => {
-                self.call(alloc, word, rest, answer)
-            }
-            _ => answer.push_str(line),
+            "open" => self.open(page),
+            "close" | "crash" => self.end(word, rest, page),
+            "protect" | "accept" | "do" | "release" | "put" | "tell" => self.call(word, rest, page),
+            _ => page.push_str(line),
+        }
+    }
+
+    /// Lists the calls that are to fail.
+    fn take_failing(&mut self, line: &str, page: &mut Page) {
+        match numbers(page.alloc(), line) {
+            Ok(failing) => self.failing = failing,
+            Err(_) => page.spoil(),
         }
     }
 
     /// Does a step on what was gathered, or another one.
-    fn take_step(&mut self, alloc: Global, line: &str, answer: &mut String) -> Written {
+    fn take_step(&mut self, line: &str, page: &mut Page) {
         let (word, rest) = cut(line);
-        let word = match word {
-            "keep" => {
-                replace(&mut self.kept, self.image.as_slice())?;
-                "kept"
-            }
-            "back" => {
-                replace(&mut self.image, self.kept.as_slice())?;
-                word
-            }
-            "failing" => {
-                self.failing = numbers(alloc, rest)?;
-                word
-            }
-            "forget" => {
-                self.life.clear();
-                "forgotten"
-            }
+        match word {
+            "create" | "create_one" => return self.create(word, page),
+            "octets" => return page.push_digits(octets_at(&self.image, rest)),
             "cut" => {
                 self.image.truncate(length_at(rest, 0));
-                return self.write_length(answer);
+                return self.write_length(page);
             }
-            "create" | "create_one" => return self.create(alloc, word, answer),
-            "set" => {
-                set_octets_at(alloc, self.image.as_mut_slice(), rest)?;
-                word
-            }
-            "octets" => return write_part(self.image.as_slice(), rest, answer),
-            _ => return self.take_unit_step(alloc, line, answer),
-        };
-        answer.push_str(word)
+            "keep" => page.check(replace(&mut self.kept, &self.image)),
+            "back" => page.check(replace(&mut self.image, &self.kept)),
+            "set" => page.check(set_octets_at(page.alloc(), self.image.as_mut_slice(), rest)),
+            "failing" => self.take_failing(rest, page),
+            "forget" => self.life.clear(),
+            _ => return self.take_unit_step(line, page),
+        }
+        page.push_str(match word {
+            "keep" => "kept",
+            "forget" => "forgotten",
+            _ => word,
+        });
     }
 
     /// Does a step so often, and leaves the last answer: `COUNT STEP`.
-    fn repeat(&mut self, alloc: Global, rest: &str, answer: &mut String) -> Written {
+    fn repeat(&mut self, rest: &str, page: &mut Page) {
         let (_, step) = cut(rest);
         for _ in 0..number_at(rest, 0) {
-            answer.clear();
-            self.take_step(alloc, step, answer)?;
+            page.clear();
+            self.take_step(step, page);
         }
-        Ok(())
     }
 
-    /// Does these steps, and writes each answer in a line.
-    fn take_steps(&mut self, alloc: Global, steps: &str, answer: &mut String) -> Written {
-        for (i, step) in steps.lines().enumerate() {
-            if i > 0 {
-                answer.push_str("\n")?;
-            }
-            self.take_step(alloc, step, answer)?;
+    /// Does the steps of the life, and writes each answer in a line.
+    fn live(&mut self, page: &mut Page) {
+        let life = mem::replace(&mut self.life, Gathered::new(page.alloc()));
+        for step in life.as_str().lines() {
+            page.begin_line();
+            self.take_step(step, page);
         }
-        Ok(())
-    }
-
-    /// Does the steps of the life.
-    fn live(&mut self, alloc: Global, answer: &mut String) -> Written {
-        let life = String::from_str(alloc, self.life.as_str())?;
-        self.take_steps(alloc, life.as_str(), answer)
-    }
-
-    /// Gathers a line, or does what it says.
-    fn take_line(&mut self, alloc: Global, line: &str, answer: &mut String) -> Written {
-        match cut(line) {
-            ("plan", text) => self.plan.push(text),
-            ("life", step) => self.life.push(step),
-            ("times", rest) => self.repeat(alloc, rest, answer),
-            ("live", _) => self.live(alloc, answer),
-            _ => self.take_step(alloc, line, answer),
-        }
+        self.life = life;
     }
 }
 
-impl Steps for Table {
-    fn step(&mut self, alloc: Global, line: &str, answer: &mut String) -> anyhow::Result<()> {
-        self.take_line(alloc, line, answer)?;
-        Ok(())
+impl Answers for Table {
+    fn answer(&mut self, line: &str, page: &mut Page) {
+        match cut(line) {
+            ("plan", text) => page.check(self.plan.push(text)),
+            ("life", step) => page.check(self.life.push(step)),
+            ("times", rest) => self.repeat(rest, page),
+            ("live", _) => self.live(page),
+            _ => self.take_step(line, page),
+        }
     }
 }

@@ -3,16 +3,16 @@
 ghost use Rattle.std.specs.Prelude.{◌≡◌, ◌≤◌, ℕ, ◌<◌, None, true, length, slice_index};
 ghost use Rattle.frame_shield.specs.Binding.{IsBinding, clear_fault};
 
-use crate::texts::{write_association, write_book_fault, write_key};
-use case_lines::Written;
-use case_units::{write_octets, write_open_reply, write_reply, write_shield_fault};
+use case_lines::{Digits, Page, direction_name, key_state_name, sa_state_name, suite_name};
+use case_units::{open_reply_text, reply_text, shield_fault_text};
 use ep_codec::{command_without_fault, one_command};
 use ep_core::Need;
 use frame_shield::{Binding, fits, shield};
 use key_book::KeyRow;
+use sa_book::SaRow;
 use sdls_base::{KeyId, Seen};
 use sdls_outside::Site;
-use std::alloc::Global;
+use std::alloc::AllocError;
 use std::marker::Model;
 use unit_book::{Book, BookFault};
 use unit_image::OpenFault;
@@ -21,7 +21,6 @@ use unit_image::OpenFault;
 pub struct Unit<O: Site> {
     book: Book<O>,
     next: Vec<u64>,
-    handled: u64,
 }
 
 impl<O: Site> Model for Unit<O> {
@@ -60,63 +59,84 @@ fn are_words(next: &[u64], rows: usize) -> bool
     true
 }
 
-/// The marks of the rows that have no word yet.
-fn push_marks(next: &mut Vec<u64>, rows: &[KeyRow]) {
-    let done = next.len();
-    for row in rows.iter().skip(done) {
-        let _pushed = next.push(row.mark);
+/// Adds the marks of the rows that have no word yet.
+fn push_marks(next: &mut Vec<u64>, rows: &[KeyRow], page: &mut Page) {
+    for row in rows.iter().skip(next.len()) {
+        page.check(next.push(row.mark));
     }
 }
 
+/// Writes a text, if there was memory for it.
+fn push_text(text: Result<String, AllocError>, page: &mut Page) {
+    match text {
+        Ok(text) => page.push_str(text.as_str()),
+        Err(AllocError) => page.spoil(),
+    }
+}
+
+/// Writes why a call on the book is refused.
+fn write_fault(fault: BookFault, page: &mut Page) {
+    match fault {
+        BookFault::SiteFault(count) => write!(page, "site fault {count}"),
+        BookFault::Stopped(count) => write!(page, "stopped {count}"),
+        BookFault::SessionFull => page.push_str("session full"),
+        BookFault::NoMemory => page.push_str("no memory"),
+    }
+}
+
+/// Writes what was done, or why the call on the book is refused.
+fn write_done(done: Result<(), BookFault>, word: &str, page: &mut Page) {
+    match done {
+        Ok(()) => page.push_str(word),
+        Err(fault) => write_fault(fault, page),
+    }
+}
+
+fn write_key(row: &KeyRow, page: &mut Page) {
+    let state = key_state_name(row.state);
+    let (id, mark, floor) = (row.id.get(), row.mark, row.floor);
+    write!(page, "; key {id} {state} mark {mark} floor {floor}");
+}
+
+fn write_association(row: &SaRow, page: &mut Page) {
+    let (direction, suite) = (direction_name(row.direction), suite_name(row.suite));
+    let (state, key) = (sa_state_name(row.state), row.key.map_or(0, |key| key.get()));
+    let (spi, high, width) = (row.spi.get(), row.window.high, row.window.width);
+    write!(
+        page,
+        "; sa {spi} {direction} {suite} {state} key {key} high {high} width {width}"
+    );
+}
+
 /// Writes the frame protected under the number that was drawn, with index, key and number.
-fn write_frame(binding: &Binding, number: u64, clear: &[u8], answer: &mut String) -> Written
+fn write_frame(binding: &Binding, number: u64, clear: &[u8], page: &mut Page)
     requires binding { IsBinding binding.now }
     requires fits { clear_fault binding.now clear.now ≡ None }
 {
     if number == 0 || number >= binding.key.end() {
-        return answer.push_str("no number");
+        return page.push_str("no number");
     }
     let mut out = [0; 2_048];
     let count = shield(binding, number, clear, &mut out);
     let (spi, key) = (binding.spi.get(), binding.key.get());
-    write!(answer, "protected {spi} {key} {number} ")?;
-    write_octets(out.get(..count).unwrap_or(&[]), answer)
+    let frame = Digits(out.get(..count).unwrap_or(&[]));
+    write!(page, "protected {spi} {key} {number} {frame}");
 }
 
 impl<O: Site> Unit<O> {
     /// The unit of an image. Each key's next number is its mark.
-    pub fn open(alloc: Global, site: O) -> Result<Unit<O>, (OpenFault, O)> {
-        let book = Book::open(alloc, site)?;
-        let mut unit = Unit {
-            book,
-            next: Vec::new(alloc),
-            handled: 0,
-        };
-        unit.meet();
-        Ok(unit)
+    pub fn open(site: O, page: &mut Page) -> Result<Unit<O>, (OpenFault, O)> {
+        let book = Book::open(page.alloc(), site)?;
+        let mut next = Vec::new(page.alloc());
+        push_marks(&mut next, book.state().keys.rows(), page);
+        Ok(Unit { book, next })
     }
 
-    /// Gives each key that has none its next number, as far as there is memory.
-    fn meet(&mut self) {
-        push_marks(&mut self.next, self.book.state().keys.rows());
-    }
-
-    /// Ends the run.
+    /// Ends the run: the site, and how many entries it has.
     pub fn into_site(self) -> (O, usize) {
-        let Unit {
-            book,
-            next: _,
-            handled: _,
-        } = self;
+        let Unit { book, next: _ } = self;
         let (site, entries) = book.into_site();
         (site, entries.len())
-    }
-
-    /// The number of the record that is handled now.
-    fn index(&mut self) -> u64 {
-        let index = self.handled;
-        self.handled = index.saturating_add(1);
-        index
     }
 
     /// The next number of a key, 0 where it has none.
@@ -144,48 +164,43 @@ impl<O: Site> Unit<O> {
         if self.book.state().keys.find(key).is_none() {
             return Ok(Seen::Nothing);
         }
-        match self.book.reserve(key, number) {
-            Ok(_) => Ok(Seen::Number(number)),
-            Err(fault) => Err(fault),
-        }
+        self.book.reserve(key, number)?;
+        Ok(Seen::Number(number))
     }
 
     /// Writes the protected frame, with index, key and number, or why there is none.
-    fn protect_with(&mut self, binding: &Binding, clear: &[u8], answer: &mut String) -> Written
+    fn protect_with(&mut self, binding: &Binding, clear: &[u8], page: &mut Page)
         requires { IsBinding binding.now }
     {
         if let Err(fault) = fits(binding, clear) {
-            return write_shield_fault(fault, answer);
+            return push_text(shield_fault_text(page.alloc(), fault), page);
         }
         match self.draw(binding.key) {
-            Ok(Seen::Number(number)) => write_frame(binding, number, clear, answer),
-            Ok(Seen::Exhausted(number)) => {
-                let key = binding.key.get();
-                write!(answer, "exhausted {key} {number}")
-            }
-            Ok(Seen::Nothing | Seen::Word(_)) => answer.push_str("no number"),
-            Err(fault) => write_book_fault(&fault, answer),
+            Ok(Seen::Number(number)) => write_frame(binding, number, clear, page),
+            Ok(Seen::Exhausted(number)) => write!(page, "exhausted {} {number}", binding.key.get()),
+            Ok(Seen::Nothing | Seen::Word(_)) => page.push_str("no number"),
+            Err(fault) => write_fault(fault, page),
         }
     }
 
     /// Protects a frame.
-    pub fn protect(&mut self, link: u8, clear: &[u8], answer: &mut String) -> Written {
+    pub fn protect(&mut self, link: u8, clear: &[u8], page: &mut Page) {
         match self.book.binding(link, clear) {
-            Ok(Some(binding)) => self.protect_with(&binding, clear, answer),
-            Ok(None) => answer.push_str("clear"),
-            Err(fault) => write_shield_fault(fault, answer),
+            Ok(Some(binding)) => self.protect_with(&binding, clear, page),
+            Ok(None) => page.push_str("clear"),
+            Err(fault) => push_text(shield_fault_text(page.alloc(), fault), page),
         }
     }
 
-    /// Opens a frame.
-    pub fn accept(&mut self, link: u8, frame: &mut [u8], answer: &mut String) -> Written {
-        let index = self.index();
+    /// Opens a frame. Its record has as its number how many entries there are.
+    pub fn accept(&mut self, link: u8, frame: &mut [u8], page: &mut Page) {
+        let index = self.book.count();
         match self.book.accept(index, link, frame) {
             Ok((reply, position)) => {
-                write_open_reply(reply, frame, answer)?;
-                write!(answer, " at {position}")
+                push_text(open_reply_text(page.alloc(), reply, frame), page);
+                write!(page, " at {position}");
             }
-            Err(fault) => write_book_fault(&fault, answer),
+            Err(fault) => write_fault(fault, page),
         }
     }
 
@@ -204,73 +219,63 @@ impl<O: Site> Unit<O> {
     }
 
     /// Handles a message with what was seen, where that is what it needs.
-    fn answered(&mut self, index: u64, message: &[u8], seen: Seen, answer: &mut String) -> Written {
+    fn answered(&mut self, message: &[u8], seen: Seen, page: &mut Page) {
         let Ok(need) = self.book.need(message) else {
-            return answer.push_str("no memory");
+            return page.push_str("no memory");
         };
         if !case_units::fits(self.book.state(), &need, seen) {
-            return answer.push_str("unfit");
+            return page.push_str("unfit");
         }
         one_command();
         command_without_fault();
+        let index = self.book.count();
         match self.book.command(index, message, seen) {
             Ok((reply, position)) => {
-                write_reply(&reply, answer)?;
-                write!(answer, " at {position}")
+                push_text(reply_text(page.alloc(), &reply), page);
+                write!(page, " at {position}");
             }
-            Err(fault) => write_book_fault(&fault, answer),
+            Err(fault) => write_fault(fault, page),
         }
     }
 
-    /// Does what a message asks.
-    pub fn command(&mut self, message: &[u8], answer: &mut String) -> Written {
+    /// Does what a message asks. Its record has as its number how many entries there are.
+    pub fn command(&mut self, message: &[u8], page: &mut Page) {
         let Ok(need) = self.book.need(message) else {
-            return answer.push_str("no memory");
+            return page.push_str("no memory");
         };
         match self.seen_for(&need) {
-            Ok(seen) => {
-                let index = self.index();
-                self.answered(index, message, seen, answer)?;
-            }
-            Err(fault) => write_book_fault(&fault, answer)?,
+            Ok(seen) => self.answered(message, seen, page),
+            Err(fault) => write_fault(fault, page),
         }
-        self.meet();
-        Ok(())
+        push_marks(&mut self.next, self.book.state().keys.rows(), page);
     }
 
     /// Releases what was not used.
-    pub fn release(&mut self, answer: &mut String) -> Written {
+    pub fn release(&mut self, page: &mut Page) {
         if !are_words(self.next.as_slice(), self.book.rows()) {
-            return answer.push_str("no words");
+            return page.push_str("no words");
         }
-        match self.book.release(self.next.as_slice()) {
-            Ok(()) => answer.push_str("released"),
-            Err(fault) => write_book_fault(&fault, answer),
-        }
+        write_done(self.book.release(self.next.as_slice()), "released", page);
     }
 
     /// Hands octets to the sink.
-    pub fn put(&mut self, octets: &[u8], answer: &mut String) -> Written {
-        match self.book.put(octets) {
-            Ok(()) => answer.push_str("put"),
-            Err(fault) => write_book_fault(&fault, answer),
-        }
+    pub fn put(&mut self, octets: &[u8], page: &mut Page) {
+        write_done(self.book.put(octets), "put", page);
     }
 
     /// What the book shows.
-    pub fn tell(&self, answer: &mut String) -> Written {
+    pub fn tell(&self, page: &mut Page) {
         let (used, slots) = (self.book.used(), self.book.plan().slots());
         let (entries, changes) = (self.book.count(), self.book.changes());
         write!(
-            answer,
+            page,
             "slots {used} of {slots}, entries {entries}, changes {changes}"
-        )?;
+        );
         for row in self.book.state().keys.rows() {
-            write_key(row, answer)?;
+            write_key(row, page);
         }
         for row in self.book.state().associations.rows() {
-            write_association(row, answer)?;
+            write_association(row, page);
         }
-        Ok(())
     }
 }
