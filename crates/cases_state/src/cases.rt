@@ -1,8 +1,14 @@
 // Cases of frames, security headers and plain types, which depend on no state.
-use crate::{headers, names, reading, sealed, shielding};
-use case_lines::{Page, Words, flag, short, suite};
+use crate::changes::load_of;
+use crate::{reading, shielding};
+use case_lines::{Digits, Page, Words, channel, flag, key, number, short, spi, suite};
 use frame_shield::AnyLayout;
-use sdls_base::{Suite, TcLayout, fecf, same_octets};
+use sdls_base::{
+    Change, Direction, FrameFault, KeyRows, KeyState, NoMemory, SaState, Suite, TcLayout, fecf,
+    same_octets,
+};
+use sdls_header::{SecurityHeader, Split, Vector, masked, read_spi, split, write_header};
+use std::fmt::Display;
 
 /// The layout of TC frames that the words say, with the most octets of a frame.
 fn tc_layout(words: &mut Words<'_>) -> AnyLayout {
@@ -23,10 +29,68 @@ fn layout_of(kind: &str, words: &mut Words<'_>) -> Option<AnyLayout> {
     }
 }
 
-/// Writes the parts of a room: `SUITE OCTETS`.
+/// Writes a value, or that there is none.
+fn write_found<D: Display + Drop>(found: Option<D>, page: &mut Page) {
+    match found {
+        Some(value) => write!(page, "{value}"),
+        None => page.push_str("none"),
+    }
+}
+
+fn write_split(pieces: &Split<'_>, page: &mut Page) {
+    write!(page, "header {} vector ", Digits(pieces.header));
+    match &pieces.vector {
+        Vector::Sequence(number) => write!(page, "{number}"),
+        Vector::Wide { device, number } => write!(page, "{}:{number}", Digits(device)),
+    }
+    let (field, mac) = (Digits(pieces.field), Digits(pieces.mac));
+    write!(page, " field {field} mac {mac}");
+}
+
+/// Writes a room taken apart: `SUITE OCTETS`.
 fn answer_room(words: &mut Words<'_>, page: &mut Page) {
     let suite = suite(words).unwrap_or(Suite::Cmac);
-    headers::write_room(suite, &page.octets(words), page);
+    match split(&page.octets(words), suite) {
+        Some(pieces) => write_split(&pieces, page),
+        None => page.push_str("none"),
+    }
+}
+
+/// Writes a header as it is written into 15 octets of 55: `SUITE SPI NUMBER`.
+fn answer_header(words: &mut Words<'_>, page: &mut Page) {
+    let suite = suite(words);
+    let Some(spi) = spi(words) else {
+        return page.push_str("no index");
+    };
+    let number = number(words).unwrap_or(0);
+    let vector = match suite {
+        Some(Suite::Gcm) => Vector::Wide {
+            device: [0xD0, 0, 0, 1],
+            number,
+        },
+        _ => Vector::Sequence(u32::try_from(number).unwrap_or(0)),
+    };
+    let mut out = [0x55; 15];
+    let count = write_header(&SecurityHeader { spi, vector }, &mut out);
+    write!(page, "{count} of {}", Digits(&out));
+}
+
+/// Writes a prefix under a mask.
+fn write_masked(mask: &[u8], prefix: &[u8], page: &mut Page) {
+    let Ok(mut out) = vec![in page.alloc(); 0x55; prefix.len()] else {
+        return page.spoil();
+    };
+    masked(prefix, mask, out.as_mut_slice());
+    page.push_digits(&out);
+}
+
+/// Writes a prefix under a mask, or whether two texts of octets are the same.
+fn answer_pair(word: &str, words: &mut Words<'_>, page: &mut Page) {
+    let (left, right) = (page.piece(words), page.piece(words));
+    match word {
+        "mask" => write_masked(&left, &right, page),
+        _ => write!(page, "{}", same_octets(&left, &right)),
+    }
 }
 
 /// Writes the error control field of octets.
@@ -35,24 +99,91 @@ fn answer_fecf(words: &mut Words<'_>, page: &mut Page) {
     write!(page, "{field:04x}");
 }
 
-/// Writes a prefix under a mask, or whether two texts of octets are the same.
-fn answer_pair(word: &str, words: &mut Words<'_>, page: &mut Page) {
-    let (left, right) = (page.piece(words), page.piece(words));
+/// Writes what a key serves for, and the first number that it does not.
+fn answer_key(words: &mut Words<'_>, page: &mut Page) {
+    match key(words) {
+        Some(key) => write!(page, "{:?} below {}", key.class(), key.end()),
+        None => page.push_str("none"),
+    }
+}
+
+/// Writes a load of keys, and whether it is its copy.
+fn write_load(load: &Change, page: &mut Page) {
+    let Ok(copy) = load.clone() else {
+        return page.spoil();
+    };
+    let same = copy == *load;
+    if let Change::Load(items) = load {
+        write!(page, "{items:?} {load:?} same {same}");
+    }
+}
+
+/// Writes a key that is to be loaded, as it is printed.
+fn answer_printed(words: &mut Words<'_>, page: &mut Page) {
+    match key(words) {
+        Some(id) => {
+            let octets = page.octets(words);
+            write_load(&load_of(id, octets, page), page);
+        }
+        None => page.push_str("none"),
+    }
+}
+
+/// Writes how many rows there are, whether their copy is the same, and how many it gives back.
+fn write_rows(rows: &KeyRows, page: &mut Page) {
+    let Ok(copy) = rows.clone() else {
+        return page.spoil();
+    };
+    let count = rows.as_slice().len();
+    let same = copy == *rows;
+    let back = copy.into_vec().len();
+    write!(page, "{count} same {same} back {back}");
+}
+
+/// Writes a list of one row, which is of an active key, its copy, and its items given back.
+fn answer_rows(words: &mut Words<'_>, page: &mut Page) {
+    let Some(id) = key(words) else {
+        return page.push_str("none");
+    };
+    let mut rows = Vec::new(page.alloc());
+    page.check(rows.push((id, KeyState::Active)));
+    write_rows(&KeyRows::new(rows), page);
+}
+
+/// Writes the numbers of the last states, direction, suite and frame fault, and two faults as texts.
+fn answer_numbers(page: &mut Page) {
+    let (key, sa) = (KeyState::Destroyed as u8, SaState::Operational as u8);
+    let (direction, suite) = (Direction::Receive as u8, Suite::Gcm as u8);
+    let (fault, spare) = (FrameFault::Fecf as u8, FrameFault::Spare);
+    write!(
+        page,
+        "{key} {sa} {direction} {suite} {fault}; {spare}; {NoMemory}"
+    );
+}
+
+/// Writes what a case of plain types answers.
+fn answer_plain(word: &str, words: &mut Words<'_>, page: &mut Page) {
     match word {
-        "mask" => headers::write_masked(&left, &right, page),
-        _ => write!(page, "{}", same_octets(&left, &right)),
+        "spi" => write_found(spi(words).map(|spi| spi.get()), page),
+        "channel" => write_found(channel(words).map(|channel| channel.get()), page),
+        "key" => answer_key(words, page),
+        "numbers" => answer_numbers(page),
+        "printed" => answer_printed(words, page),
+        "rows" => answer_rows(words, page),
+        _ => page.push_str("no case"),
     }
 }
 
 /// Writes what a case answers that is none of a frame alone.
 fn answer_word(word: &str, words: &mut Words<'_>, page: &mut Page) {
     match word {
-        "protect" | "open" | "bits" => sealed::answer(word, words, page),
-        "index" => headers::write_index(&page.octets(words), page),
-        "fecf" => answer_fecf(words, page),
-        "mask" | "same" => answer_pair(word, words, page),
+        "protect" | "open" | "bits" => shielding::answer(word, words, page),
+        "index" => write_found(read_spi(&page.octets(words)), page),
         "room" => answer_room(words, page),
-        _ => names::answer(word, words, page),
+        "header" => answer_header(words, page),
+        "mask" | "same" => answer_pair(word, words, page),
+        "fecf" => answer_fecf(words, page),
+        _ => answer_plain(word, words, page),
     }
 }
 

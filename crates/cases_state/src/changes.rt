@@ -3,7 +3,7 @@
 ghost use Rattle.std.specs.Prelude.{IfSome};
 ghost use Rattle.unit_state.specs.Restart.{IsLight};
 
-use case_lines::{Page, Words, direction, key, key_state, number, octet, sa_state, spi};
+use case_lines::{Page, Words, cut, direction, key, key_state, number, octet, sa_state, spi};
 use sdls_base::{Change, KeyId, KeyItem, KeyItems, KeyList, NewSa, Octets, Suite};
 use std::alloc::Global;
 
@@ -79,47 +79,40 @@ fn create(alloc: Global, words: &mut Words<'_>) -> Option<Change> {
     }))
 }
 
-fn rekey(words: &mut Words<'_>) -> Option<Change> {
-    Some(Change::Rekey {
-        spi: spi(words)?,
-        key: key(words)?,
-        number: number(words)?,
-    })
-}
-
-fn take_state(words: &mut Words<'_>) -> Option<Change> {
-    Some(Change::SaTo {
-        spi: spi(words)?,
-        to: sa_state(words)?,
-    })
-}
-
-fn set_number(words: &mut Words<'_>) -> Option<Change> {
-    Some(Change::SetNumber {
-        spi: spi(words)?,
-        number: number(words)?,
-    })
-}
-
-fn set_window(words: &mut Words<'_>) -> Option<Change> {
-    Some(Change::SetWindow {
-        spi: spi(words)?,
-        window: number(words)?,
-    })
+/// The change of an association: `SPI` and what the word says of it.
+fn of_association(word: &str, words: &mut Words<'_>) -> Option<Change> {
+    let spi = spi(words)?;
+    match word {
+        "rekey" => Some(Change::Rekey {
+            spi,
+            key: key(words)?,
+            number: number(words)?,
+        }),
+        "sa" => Some(Change::SaTo {
+            spi,
+            to: sa_state(words)?,
+        }),
+        "number" => Some(Change::SetNumber {
+            spi,
+            number: number(words)?,
+        }),
+        _ => Some(Change::SetWindow {
+            spi,
+            window: number(words)?,
+        }),
+    }
 }
 
 /// Reads a change.
 pub fn read(text: &str, page: &mut Page) -> Option<Change> {
-    let mut words = text.split_whitespace();
-    match words.next()? {
+    let (word, rest) = cut(text);
+    let mut words = rest.split_whitespace();
+    match word {
         "marks" => marks(&mut words),
         "load" => load(&mut words, page),
         "states" => key_states(page.alloc(), &mut words),
         "create" => create(page.alloc(), &mut words),
-        "rekey" => rekey(&mut words),
-        "sa" => take_state(&mut words),
-        "number" => set_number(&mut words),
-        "window" => set_window(&mut words),
+        "rekey" | "sa" | "number" | "window" => of_association(word, &mut words),
         "accepted" => accepted(&mut words),
         "nothing" => Some(Change::Nothing),
         _ => None,

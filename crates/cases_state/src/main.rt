@@ -19,16 +19,10 @@
 
 mod cases;
 mod changes;
-mod commands;
-mod frames;
-mod headers;
 mod messages;
-mod names;
 mod reading;
 mod scenario;
-mod sealed;
 mod shielding;
-mod showing;
 mod table;
 
 use case_lines::print_answers;

@@ -1,66 +1,52 @@
 //! Messages, read and written back.
-ghost use Rattle.ep_codec.specs.Command.{IsInBounds};
-ghost use Rattle.ep_codec.specs.ReplyPdu.{IsInBounds as IsReplyInBounds};
-
-use case_lines::Page;
-use ep_codec::{Command, PduError, ReplyPdu, read_pdu, read_reply, write_pdu, write_reply};
+use case_lines::{Page, cut};
+use ep_codec::{PduError, read_pdu, read_reply, write_pdu, write_reply};
+use sdls_base::{NoMemory, Octets};
 use std::alloc::Global;
+use std::fmt::Debug;
 
-/// Writes a command that was read, and whether its octets are written again.
-fn write_command(command: &Command, octets: &[u8], page: &mut Page)
-    requires { IsInBounds command.now }
-{
-    match write_pdu(page.alloc(), command) {
+/// Writes a message that was read, and whether its octets are written again.
+fn write_message<M: Debug>(
+    message: &M,
+    again: Result<Octets, NoMemory>,
+    octets: &[u8],
+    page: &mut Page,
+) {
+    match again {
         Ok(again) => write!(
             page,
-            "{command:?}, written again: {}",
+            "{message:?}, written again: {}",
             again.as_slice() == octets
         ),
-        Err(_) => page.spoil(),
+        Err(NoMemory) => page.spoil(),
     }
 }
 
 /// Writes what is read of a command, and whether its octets are written again, or the first fault.
 fn read_command(octets: &[u8], page: &mut Page) {
     match read_pdu(page.alloc(), octets) {
-        Ok(command) => write_command(&command, octets, page),
+        Ok(command) => {
+            let again = write_pdu(page.alloc(), &command);
+            write_message(&command, again, octets, page);
+        }
         Err(error) => write!(page, "{error}"),
-    }
-}
-
-/// The same of a reply that was read.
-fn write_again(reply: &ReplyPdu, octets: &[u8], page: &mut Page)
-    requires { IsReplyInBounds reply.now }
-{
-    match write_reply(page.alloc(), reply) {
-        Ok(again) => write!(
-            page,
-            "{reply:?}, written again: {}",
-            again.as_slice() == octets
-        ),
-        Err(_) => page.spoil(),
     }
 }
 
 /// The same of a reply.
 fn read_again(octets: &[u8], page: &mut Page) {
     match read_reply(page.alloc(), octets) {
-        Ok(reply) => write_again(&reply, octets, page),
+        Ok(reply) => {
+            let again = write_reply(page.alloc(), &reply);
+            write_message(&reply, again, octets, page);
+        }
         Err(error) => write!(page, "{error}"),
     }
 }
 
-/// The octet of the first fault of a command, none where there is none.
-fn command_fault(alloc: Global, octets: &[u8]) -> Option<u32> {
-    match read_pdu(alloc, octets) {
-        Err(PduError::Fault(at)) => Some(at),
-        _ => None,
-    }
-}
-
-/// The same of a reply.
-fn reply_fault(alloc: Global, octets: &[u8]) -> Option<u32> {
-    match read_reply(alloc, octets) {
+/// The octet of the first fault of what was read, none where there is none.
+fn fault_of<M: Drop>(read: Result<M, PduError>) -> Option<u32> {
+    match read {
         Err(PduError::Fault(at)) => Some(at),
         _ => None,
     }
@@ -70,7 +56,8 @@ fn reply_fault(alloc: Global, octets: &[u8]) -> Option<u32> {
 fn count_cuts(octets: &[u8], page: &mut Page) {
     let mut reported: u32 = 0;
     for end in 0..octets.len() {
-        if command_fault(page.alloc(), &octets[..end]).is_some_and(|at| at as usize == end) {
+        let fault = fault_of(read_pdu(page.alloc(), &octets[..end]));
+        if fault.is_some_and(|at| at as usize == end) {
             reported = reported.saturating_add(1);
         }
     }
@@ -87,9 +74,9 @@ fn is_allowed(alloc: Global, tag: u8, length: u16, room: &mut [u8]) -> bool {
     message[1] = high;
     message[2] = low;
     let fault = if tag < 0x80 {
-        command_fault(alloc, message)
+        fault_of(read_pdu(alloc, message))
     } else {
-        reply_fault(alloc, message)
+        fault_of(read_reply(alloc, message))
     };
     fault != Some(1)
 }
@@ -107,7 +94,7 @@ fn write_lengths(tag: u8, greatest: u16, room: &mut [u8], page: &mut Page) {
 /// Writes the lengths up to a greatest one that messages of a tag may have whose data are octets of 1: `TAG GREATEST`,
 /// the tag in hexadecimal.
 fn answer_lengths(text: &str, page: &mut Page) {
-    let (tag, greatest) = text.split_once(' ').unwrap_or((text, ""));
+    let (tag, greatest) = cut(text);
     let tag = u8::from_str_radix(tag, 16).unwrap_or(0);
     let greatest: u16 = greatest.parse().unwrap_or(0);
     match vec![in page.alloc(); 1; usize::from(greatest) + 3] {

@@ -8,19 +8,85 @@ ghost use Rattle.unit_state.specs.Restart.{IsLight};
 ghost use Rattle.unit_state.specs.State.{KeepsRules};
 ghost use Rattle.frame_shield.specs.Binding.{IsBinding};
 
-use crate::showing::push_text;
-use case_lines::Page;
-use case_units::{fits, reply_text};
-use ep_codec::Command;
+use crate::shielding::protected;
+use case_lines::{
+    Digits, Page, Words, direction_name, key_state_name, number, number_at, sa_state_name, word_at,
+};
+use case_units::{fits, open_reply_text, reply_text, shield_fault_text};
+use ep_codec::{Command, read_pdu};
 use ep_core::{Need, Reply, judge, plan_change};
 use frame_checks::{OpenReply, binding, open_frame};
 use frame_shield::{Binding, ShieldFault};
 use key_book::KeyRow;
 use sa_book::SaRow;
 use sdls_base::{Change, KeyId, Seen};
+use std::alloc::AllocError;
 use std::marker::Model;
 use unit_plan::Plan;
 use unit_state::{State, rules_stay};
+
+/// Writes a text, if there was memory for it.
+fn push_text(text: Result<String, AllocError>, page: &mut Page) {
+    match text {
+        Ok(text) => page.push_str(text.as_str()),
+        Err(AllocError) => page.spoil(),
+    }
+}
+
+fn write_key(row: &KeyRow, page: &mut Page) {
+    let state = key_state_name(row.state);
+    let (id, octets) = (row.id.get(), row.bytes.as_slice().len());
+    let (mark, floor) = (row.mark, row.floor);
+    page.begin_line();
+    write!(
+        page,
+        "key {id} {state} octets {octets} mark {mark} floor {floor}"
+    );
+}
+
+/// Writes an association, with its back window if there is one.
+fn write_association(row: &SaRow, page: &mut Page) {
+    let (direction, state) = (direction_name(row.direction), sa_state_name(row.state));
+    let (spi, key) = (row.spi.get(), row.key.map_or(0, |key| key.get()));
+    let (high, width, back) = (row.window.high, row.window.width, row.window.back);
+    page.begin_line();
+    write!(
+        page,
+        "sa {spi} {direction} {state} key {key} high {high} window {width}"
+    );
+    if back > 0 {
+        write!(page, " back {back}");
+    }
+}
+
+/// What was seen of a key's numbers: `-`, or a word with a number.
+fn seen(words: &mut Words<'_>) -> Seen {
+    let word = words.next().unwrap_or("-");
+    let number = number(words).unwrap_or(0);
+    match word {
+        "word" => Seen::Word(number),
+        "number" => Seen::Number(number),
+        "exhausted" => Seen::Exhausted(number),
+        _ => Seen::Nothing,
+    }
+}
+
+/// Writes the frame protected under a binding, with index and key, or why it is not.
+fn write_protected(binding: &Binding, number: u64, clear: &[u8], page: &mut Page)
+    requires { IsBinding binding.now }
+{
+    let (spi, key) = (binding.spi.get(), binding.key.get());
+    match protected(binding, number, clear, page) {
+        Ok(Some(frame)) => write!(page, "protected {spi} {key} {}", Digits(&frame)),
+        Ok(None) => page.push_str("no number"),
+        Err(fault) => push_text(shield_fault_text(page.alloc(), fault), page),
+    }
+}
+
+/// The link that a line begins with.
+fn link_of(line: &str) -> u8 {
+    word_at(line, 0).parse().unwrap_or(255)
+}
 
 /// Writes what was needed.
 fn write_need(need: Need, page: &mut Page) {
@@ -63,14 +129,14 @@ impl Scenario {
         Scenario { plan, state }
     }
 
-    /// The rows of the keys.
-    pub fn keys(&self) -> &[KeyRow] {
-        self.state.keys.rows()
-    }
-
-    /// The rows of the associations.
-    pub fn associations(&self) -> &[SaRow] {
-        self.state.associations.rows()
+    /// Writes the rows of the state, a line each.
+    pub fn write_rows(&self, page: &mut Page) {
+        for row in self.state.keys.rows() {
+            write_key(row, page);
+        }
+        for row in self.state.associations.rows() {
+            write_association(row, page);
+        }
     }
 
     /// Takes an equal state.
@@ -79,11 +145,13 @@ impl Scenario {
             Ok(copy) => self.state = copy,
             Err(_) => page.spoil(),
         }
+        page.push_str("copied");
     }
 
     /// Leaves what a restart leaves.
-    pub fn restart(&mut self) {
+    pub fn restart(&mut self, page: &mut Page) {
         self.state.restart();
+        page.push_str("restarted");
     }
 
     /// Makes a change where the state allows it, and returns whether it does.
@@ -118,7 +186,7 @@ impl Scenario {
     }
 
     /// Writes what a command needs, and what it is answered with what was seen. The state is changed as it says.
-    pub fn obey(&mut self, command: &Command, seen: Seen, page: &mut Page)
+    fn handle(&mut self, command: &Command, seen: Seen, page: &mut Page)
         requires { IsInBounds command.now }
     {
         let need = judge(&self.state, command);
@@ -128,6 +196,15 @@ impl Scenario {
         }
         match plan_change(page.alloc(), &self.state, command, &seen) {
             Ok((change, reply)) => self.carry_out(&change, &reply, page),
+            Err(_) => page.spoil(),
+        }
+    }
+
+    /// Writes what a message needs, and what it is answered: `MESSAGE SEEN`.
+    pub fn obey(&mut self, line: &str, page: &mut Page) {
+        let mut words = line.split_whitespace();
+        match read_pdu(page.alloc(), &page.piece(&mut words)) {
+            Ok(command) => self.handle(&command, seen(&mut words), page),
             Err(_) => page.spoil(),
         }
     }
@@ -142,7 +219,7 @@ impl Scenario {
     }
 
     /// Opens a frame in place, and takes its number where it is accepted.
-    pub fn open(&mut self, link: u8, frame: &mut [u8]) -> OpenReply {
+    fn open(&mut self, link: u8, frame: &mut [u8]) -> OpenReply {
         let reply = self.open_only(link, frame);
         if let OpenReply::Accepted {
             spi,
@@ -161,13 +238,30 @@ impl Scenario {
         reply
     }
 
+    /// Writes what a frame is answered: `LINK FRAME`.
+    pub fn receive(&mut self, line: &str, page: &mut Page) {
+        let mut frame = page.octets_at(line, 1);
+        let reply = self.open(link_of(line), frame.as_mut_slice());
+        push_text(open_reply_text(page.alloc(), reply, &frame), page);
+    }
+
     /// What a clear frame is to be protected under.
-    pub fn bind(&self, link: u8, clear: &[u8]) -> Result<Option<Binding>, ShieldFault>
+    fn bind(&self, link: u8, clear: &[u8]) -> Result<Option<Binding>, ShieldFault>
         ensures { IfOk result (λ found. IfSome found IsBinding) }
     {
         match binding(&self.plan, &self.state, link, clear)? {
             Some(found) => Ok(Some(found.binding)),
             None => Ok(None),
+        }
+    }
+
+    /// Writes what a clear frame is answered: `LINK NUMBER FRAME`.
+    pub fn send(&self, line: &str, page: &mut Page) {
+        let clear = page.octets_at(line, 2);
+        match self.bind(link_of(line), &clear) {
+            Ok(Some(binding)) => write_protected(&binding, number_at(line, 1), &clear, page),
+            Ok(None) => page.push_str("clear"),
+            Err(fault) => push_text(shield_fault_text(page.alloc(), fault), page),
         }
     }
 }

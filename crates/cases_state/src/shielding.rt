@@ -1,25 +1,23 @@
-// Bindings on links, and frames protected and opened under them.
-ghost use Rattle.std.specs.Prelude.{◌≡◌, ◌≤◌, ◌+◌, true, take, IfSome};
+// Bindings on links, and frames protected and opened under them, with each bit of their headers turned too.
+ghost use Rattle.std.specs.Prelude.{◌≡◌, ◌≤◌, true, take, IfSome};
 ghost use Rattle.std.specs.Int.{w16, to_be_bytes};
 ghost use Rattle.sdls_base.specs.Link.{IsLink};
 ghost use Rattle.frame_shield.specs.Binding.{IsBinding};
 ghost use Rattle.frame_shield.specs.Opens.{CarriesIndex};
 
 use aes_block::Schedule;
-use case_lines::Words;
+use case_lines::{Digits, Page, Words};
 use frame_shield::{
-    AnyLayout, Binding, FRAME_ROOM, Link, Mask, Opened, ShieldFault, fits, shield, unshield,
+    AnyLayout, Binding, FRAME_ROOM, Link, Mask, Opened, ShieldFault, body_of, fault_of, fits,
+    shield, unshield,
 };
-use sdls_base::{AosLayout, KeyId, Spi, Suite, TcLayout, TmLayout};
+use sdls_base::{AosLayout, KeyId, Spi, Suite, TcLayout, TmLayout, fecf};
 use sdls_header::read_spi;
 
 /// The key of the examples of SP 800-38B.
 const CMAC_KEY: [u8; 16] = *b"\x2b\x7e\x15\x16\x28\xae\xd2\xa6\xab\xf7\x15\x88\x09\xcf\x4f\x3c";
 
 const GCM_KEY: [u8; 16] = *b"\x00\x01\x02\x03\x04\x05\x06\x07\x08\x09\x0a\x0b\x0c\x0d\x0e\x0f";
-
-/// What stands in octets that are not written.
-pub const UNTOUCHED: u8 = 0x55;
 
 fn tc_link(words: &mut Words<'_>) -> Link
     ensures { IsLink result }
@@ -106,7 +104,7 @@ fn link(words: &mut Words<'_>) -> Option<Link>
 }
 
 /// The binding that the words say: suite, index and link.
-pub fn binding(words: &mut Words<'_>, device: [u8; 4]) -> Option<Binding>
+fn binding(words: &mut Words<'_>, device: [u8; 4]) -> Option<Binding>
     ensures { IfSome result IsBinding }
 {
     let suite = case_lines::suite(words).unwrap_or(Suite::Cmac);
@@ -130,21 +128,22 @@ pub fn binding(words: &mut Words<'_>, device: [u8; 4]) -> Option<Binding>
     })
 }
 
-/// Writes the clear frame protected under the number, and returns how many octets it has. None if the number is none of
-/// the key.
-pub fn write_frame(
+/// The clear frame protected under the number, none if the number is none of the key.
+pub fn protected(
     binding: &Binding,
     number: u64,
     clear: &[u8],
-    out: &mut [u8; FRAME_ROOM],
-) -> Result<Option<usize>, ShieldFault>
+    page: &mut Page,
+) -> Result<Option<Vec<u8>>, ShieldFault>
     requires { IsBinding binding.now }
 {
     fits(binding, clear)?;
     if number == 0 || number >= binding.key.end() {
         return Ok(None);
     }
-    Ok(Some(shield(binding, number, clear, out)))
+    let mut out = [0; FRAME_ROOM];
+    let count = shield(binding, number, clear, &mut out);
+    Ok(Some(page.copy(out.get(..count).unwrap_or(&[]))))
 }
 
 /// Whether the room begins with the index.
@@ -157,60 +156,118 @@ fn has_index(room: &[u8], spi: Spi) -> bool
     }
 }
 
-/// Whether the octets are a TC frame of the layout, with the index.
-fn is_tc(binding: &Binding, layout: &TcLayout, frame: &[u8]) -> bool
-    requires { binding.now.link.layout ≡ AnyLayout.Tc layout.now }
-    ensures { result ≡ true → CarriesIndex binding.now frame.now }
-{
-    match tc_frame::read(frame, layout) {
-        Ok(parts) => has_index(parts.room, binding.spi),
-        Err(_) => false,
-    }
-}
-
-/// The same of a TM frame.
-fn is_tm(binding: &Binding, layout: &TmLayout, frame: &[u8]) -> bool
-    requires layout { binding.now.link.layout ≡ AnyLayout.Tm layout.now }
-    requires bounds { 12 ≤ layout.now.length }
-    ensures { result ≡ true → CarriesIndex binding.now frame.now }
-{
-    match tm_frame::read(frame, layout) {
-        Ok(parts) => has_index(parts.room, binding.spi),
-        Err(_) => false,
-    }
-}
-
-/// The same of an AOS frame.
-fn is_aos(binding: &Binding, layout: &AosLayout, frame: &[u8]) -> bool
-    requires layout { binding.now.link.layout ≡ AnyLayout.Aos layout.now }
-    requires bounds { 12 + layout.now.insert ≤ layout.now.length }
-    ensures { result ≡ true → CarriesIndex binding.now frame.now }
-{
-    match aos_frame::read(frame, layout) {
-        Ok(parts) => has_index(parts.room, binding.spi),
-        Err(_) => false,
-    }
-}
-
 /// Whether the octets are a frame of the binding's link, with its index.
 fn carries_index(binding: &Binding, frame: &[u8]) -> bool
     requires { IsBinding binding.now }
     ensures { result ≡ true → CarriesIndex binding.now frame.now }
 {
-    match &binding.link.layout {
-        AnyLayout::Tc(layout) => is_tc(binding, layout, frame),
-        AnyLayout::Tm(layout) => is_tm(binding, layout, frame),
-        AnyLayout::Aos(layout) => is_aos(binding, layout, frame),
+    match fault_of(frame, &binding.link.layout) {
+        Some(_) => false,
+        None => has_index(body_of(frame, &binding.link.layout).room, binding.spi),
     }
 }
 
 /// What opening answers, none where the frame has not its layout, or another index.
-pub fn opened(binding: &Binding, frame: &mut [u8]) -> Option<Opened>
+fn opened(binding: &Binding, frame: &mut [u8]) -> Option<Opened>
     requires { IsBinding binding.now }
 {
     if carries_index(binding, frame) {
         Some(unshield(binding, frame))
     } else {
         None
+    }
+}
+
+/// Turns a bit of the frame, counted from the most significant, and makes its frame error control field anew.
+fn turn(frame: &mut [u8], bit: usize, has_fecf: bool) {
+    if let Some(octet) = frame.get_mut(bit / 8) {
+        *octet ^= 0x80 >> (bit % 8);
+    }
+    if has_fecf && frame.len() >= 2 {
+        let (front, field) = frame.split_at_mut(frame.len() - 2);
+        field.copy_from_slice(&fecf(front).to_be_bytes());
+    }
+}
+
+/// What opening answers to the frame with a bit turned.
+fn opened_turned(binding: &Binding, frame: &mut [u8], bit: usize) -> &'static str
+    requires { IsBinding binding.now }
+{
+    turn(frame, bit, binding.link.layout.has_fecf());
+    match opened(binding, frame) {
+        Some(Opened::Field { .. }) => "o",
+        Some(Opened::BadMac) => "x",
+        None => "-",
+    }
+}
+
+/// Writes what opening answers to each bit of the first six octets turned.
+fn write_bits(binding: &Binding, frame: &[u8], page: &mut Page)
+    requires { IsBinding binding.now }
+{
+    for bit in 0..48usize {
+        let mut turned = page.copy(frame);
+        page.push_str(opened_turned(binding, turned.as_mut_slice(), bit));
+        if bit % 8 == 7 && bit < 47 {
+            page.push_str(" ");
+        }
+    }
+}
+
+/// Protects a clear frame, and writes what opening answers to each bit of its first six octets turned.
+fn turn_bits(binding: &Binding, clear: &[u8], page: &mut Page)
+    requires { IsBinding binding.now }
+{
+    match protected(binding, 1, clear, page) {
+        Ok(Some(frame)) => write_bits(binding, &frame, page),
+        Ok(None) | Err(_) => page.push_str("does not fit"),
+    }
+}
+
+/// Writes the protected frame of a clear one, or why it does not fit.
+fn protect(binding: &Binding, number: u64, clear: &[u8], page: &mut Page)
+    requires { IsBinding binding.now }
+{
+    match protected(binding, number, clear, page) {
+        Ok(Some(frame)) => page.push_digits(&frame),
+        Ok(None) => page.push_str("no number"),
+        Err(fault) => write!(page, "{fault:?}"),
+    }
+}
+
+/// Writes number, place and octets of the data field of a protected frame.
+fn open(binding: &Binding, frame: &mut [u8], page: &mut Page)
+    requires { IsBinding binding.now }
+{
+    match opened(binding, frame) {
+        Some(Opened::Field { number, from, to }) => {
+            let field = Digits(frame.get(from..to).unwrap_or(&[]));
+            write!(page, "number {number} from {from} to {to} field {field}");
+        }
+        Some(Opened::BadMac) => page.push_str("bad MAC"),
+        None => page.push_str("no frame with the index"),
+    }
+}
+
+/// Writes what a case of this kind answers under the binding.
+fn answer_under(binding: &Binding, kind: &str, words: &mut Words<'_>, page: &mut Page)
+    requires { IsBinding binding.now }
+{
+    match kind {
+        "protect" => {
+            let number = case_lines::number(words).unwrap_or(0);
+            protect(binding, number, &page.octets(words), page);
+        }
+        "open" => open(binding, page.octets(words).as_mut_slice(), page),
+        _ => turn_bits(binding, &page.octets(words), page),
+    }
+}
+
+/// Writes what a case of this kind answers: `protect`, `bits`, or `open`, which is on a unit of another device.
+pub fn answer(kind: &str, words: &mut Words<'_>, page: &mut Page) {
+    let device: u32 = if kind == "open" { 0 } else { 0xD000_0001 };
+    match binding(words, device.to_be_bytes()) {
+        Some(binding) => answer_under(&binding, kind, words, page),
+        None => page.push_str("no binding"),
     }
 }

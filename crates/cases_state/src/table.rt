@@ -4,8 +4,8 @@ ghost use Rattle.std.specs.Prelude.{IfSome};
 ghost use Rattle.unit_state.specs.Restart.{IsLight};
 
 use crate::scenario::Scenario;
-use crate::{cases, changes, commands, frames, messages, showing};
-use case_lines::{Answers, Gathered, Page, number_at};
+use crate::{cases, changes, messages};
+use case_lines::{Answers, Gathered, Page, cut, number_at, word_at};
 use sdls_base::Change;
 use std::alloc::Global;
 use unit_plan::{Plan, PlanError};
@@ -44,9 +44,8 @@ fn load_eight(scenario: &mut Scenario, first: u16, page: &mut Page) -> bool {
 /// Makes so many loads of eight keys each, the first from this key on, and writes how many the state allows: `FIRST
 /// COUNT`.
 fn load_eights(scenario: &mut Scenario, words: &str, page: &mut Page) {
-    let mut first = u16::try_from(number_at(words, 0)).unwrap_or(0);
-    let wanted = number_at(words, 1);
-    let mut count = 0u32;
+    let mut first: u16 = word_at(words, 0).parse().unwrap_or(0);
+    let (wanted, mut count) = (number_at(words, 1), 0u32);
     for _ in 0..wanted {
         if load_eight(scenario, first, page) {
             count = count.wrapping_add(1);
@@ -56,30 +55,20 @@ fn load_eights(scenario: &mut Scenario, words: &str, page: &mut Page) {
     write!(page, "{count} loads of {wanted}");
 }
 
-fn copy(scenario: &mut Scenario, page: &mut Page) {
-    scenario.take_copy(page);
-    page.push_str("copied");
-}
-
-fn restart(scenario: &mut Scenario, page: &mut Page) {
-    scenario.restart();
-    page.push_str("restarted");
-}
-
 /// Does a step on a state, and writes what it answers.
 fn step_on_state(scenario: &mut Scenario, word: &str, rest: &str, page: &mut Page) {
     let mut words = rest.split_whitespace();
     match word {
-        "do" => commands::obey(scenario, rest, page),
-        "receive" => frames::answer_frame(scenario, rest, page),
-        "send" => frames::answer_clear(scenario, rest, page),
+        "do" => scenario.obey(rest, page),
+        "receive" => scenario.receive(rest, page),
+        "send" => scenario.send(rest, page),
         "change" => make(scenario, rest, page),
         "loads" => load_eights(scenario, rest, page),
         "marks" => move_numbers(scenario, changes::marks(&mut words), page),
         "accepted" => move_numbers(scenario, changes::accepted(&mut words), page),
-        "copy" => copy(scenario, page),
-        "restart" => restart(scenario, page),
-        _ => showing::write_state(scenario, page),
+        "copy" => scenario.take_copy(page),
+        "restart" => scenario.restart(page),
+        _ => scenario.write_rows(page),
     }
 }
 
@@ -131,21 +120,18 @@ impl Table {
     }
 }
 
-/// Writes a case, and what it answers.
-fn answer_case(line: &str, word: &str, rest: &str, page: &mut Page) {
-    write!(page, "{line}: ");
-    cases::answer(word, rest, page);
-}
-
 impl Answers for Table {
     fn answer(&mut self, line: &str, page: &mut Page) {
-        let (word, rest) = line.split_once(' ').unwrap_or((line, ""));
+        let (word, rest) = cut(line);
         match word {
             "plan" => page.check(self.plan.push(rest)),
             "begin" => self.begin(page),
             "command" | "reply" | "cuts" | "lengths" => messages::answer(word, rest, page),
             _ if STEPS_ON_STATE.contains(&word) => self.step_on_scenario(word, rest, page),
-            _ => answer_case(line, word, rest, page),
+            _ => {
+                write!(page, "{line}: ");
+                cases::answer(word, rest, page);
+            }
         }
     }
 }
