@@ -98,9 +98,8 @@ fn read_segments(source: &mut MemSource, page: &mut Page) {
 
 fn write_repeat(repeat: &Repeat, page: &mut Page) {
     let kind = if repeat.pair { "pair" } else { "accept" };
-    let (key, number) = (repeat.key, repeat.number);
-    let (first, second) = (repeat.first, repeat.second);
-    write!(page, "repeat {kind} {key} {number} at {first} {second}");
+    write!(page, "repeat {kind} {} {}", repeat.key, repeat.number);
+    write!(page, " at {} {}", repeat.first, repeat.second);
 }
 
 /// Writes what the audit of what a source has says.

@@ -1,33 +1,13 @@
 // Cases of frames, security headers and plain types, which depend on no state.
 use crate::changes::load_of;
 use crate::{reading, shielding};
-use case_lines::{Digits, Page, Words, channel, flag, key, number, short, spi, suite};
-use frame_shield::AnyLayout;
+use case_lines::{Digits, Page, Words, channel, key, number, spi, suite};
 use sdls_base::{
-    Change, Direction, FrameFault, KeyRows, KeyState, NoMemory, SaState, Suite, TcLayout, fecf,
+    Change, Direction, FrameFault, KeyId, KeyRows, KeyState, NoMemory, SaState, Suite, fecf,
     same_octets,
 };
 use sdls_header::{SecurityHeader, Split, Vector, masked, read_spi, split, write_header};
 use std::fmt::Display;
-
-/// The layout of TC frames that the words say, with the most octets of a frame.
-fn tc_layout(words: &mut Words<'_>) -> AnyLayout {
-    AnyLayout::Tc(TcLayout {
-        segment: flag(words),
-        fecf: flag(words),
-        most: short(words).unwrap_or(0),
-    })
-}
-
-/// The layout that the words say, none if the kind is none of frames.
-fn layout_of(kind: &str, words: &mut Words<'_>) -> Option<AnyLayout> {
-    match kind {
-        "tc" => Some(tc_layout(words)),
-        "tm" => Some(AnyLayout::Tm(shielding::tm_layout(words))),
-        "aos" => Some(AnyLayout::Aos(shielding::aos_layout(words))),
-        _ => None,
-    }
-}
 
 /// Writes a value, or that there is none.
 fn write_found<D: Display + Drop>(found: Option<D>, page: &mut Page) {
@@ -99,14 +79,6 @@ fn answer_fecf(words: &mut Words<'_>, page: &mut Page) {
     write!(page, "{field:04x}");
 }
 
-/// Writes what a key serves for, and the first number that it does not.
-fn answer_key(words: &mut Words<'_>, page: &mut Page) {
-    match key(words) {
-        Some(key) => write!(page, "{:?} below {}", key.class(), key.end()),
-        None => page.push_str("none"),
-    }
-}
-
 /// Writes a load of keys, and whether it is its copy.
 fn write_load(load: &Change, page: &mut Page) {
     let Ok(copy) = load.clone() else {
@@ -115,17 +87,6 @@ fn write_load(load: &Change, page: &mut Page) {
     let same = copy == *load;
     if let Change::Load(items) = load {
         write!(page, "{items:?} {load:?} same {same}");
-    }
-}
-
-/// Writes a key that is to be loaded, as it is printed.
-fn answer_printed(words: &mut Words<'_>, page: &mut Page) {
-    match key(words) {
-        Some(id) => {
-            let octets = page.octets(words);
-            write_load(&load_of(id, octets, page), page);
-        }
-        None => page.push_str("none"),
     }
 }
 
@@ -141,13 +102,19 @@ fn write_rows(rows: &KeyRows, page: &mut Page) {
 }
 
 /// Writes a list of one row, which is of an active key, its copy, and its items given back.
-fn answer_rows(words: &mut Words<'_>, page: &mut Page) {
-    let Some(id) = key(words) else {
-        return page.push_str("none");
-    };
+fn answer_rows(id: KeyId, page: &mut Page) {
     let mut rows = Vec::new(page.alloc());
     page.check(rows.push((id, KeyState::Active)));
     write_rows(&KeyRows::new(rows), page);
+}
+
+/// Writes what a key serves for and the first number that it does not, a list of it, or its load as it is printed.
+fn answer_key(word: &str, id: KeyId, octets: Vec<u8>, page: &mut Page) {
+    match word {
+        "key" => write!(page, "{:?} below {}", id.class(), id.end()),
+        "rows" => answer_rows(id, page),
+        _ => write_load(&load_of(id, octets, page), page),
+    }
 }
 
 /// Writes the numbers of the last states, direction, suite and frame fault, and two faults as texts.
@@ -155,10 +122,8 @@ fn answer_numbers(page: &mut Page) {
     let (key, sa) = (KeyState::Destroyed as u8, SaState::Operational as u8);
     let (direction, suite) = (Direction::Receive as u8, Suite::Gcm as u8);
     let (fault, spare) = (FrameFault::Fecf as u8, FrameFault::Spare);
-    write!(
-        page,
-        "{key} {sa} {direction} {suite} {fault}; {spare}; {NoMemory}"
-    );
+    write!(page, "{key} {sa} {direction} {suite} {fault}");
+    write!(page, "; {spare}; {NoMemory}");
 }
 
 /// Writes what a case of plain types answers.
@@ -166,10 +131,11 @@ fn answer_plain(word: &str, words: &mut Words<'_>, page: &mut Page) {
     match word {
         "spi" => write_found(spi(words).map(|spi| spi.get()), page),
         "channel" => write_found(channel(words).map(|channel| channel.get()), page),
-        "key" => answer_key(words, page),
         "numbers" => answer_numbers(page),
-        "printed" => answer_printed(words, page),
-        "rows" => answer_rows(words, page),
+        "key" | "printed" | "rows" => match key(words) {
+            Some(id) => answer_key(word, id, page.octets(words), page),
+            None => page.push_str("none"),
+        },
         _ => page.push_str("no case"),
     }
 }
@@ -190,8 +156,8 @@ fn answer_word(word: &str, words: &mut Words<'_>, page: &mut Page) {
 /// Writes what a case answers.
 pub fn answer(word: &str, rest: &str, page: &mut Page) {
     let mut words = rest.split_whitespace();
-    match layout_of(word, &mut words) {
-        Some(layout) => reading::answer(&layout, &mut words, page),
+    match shielding::layout_of(word, &mut words) {
+        Some(layout) => reading::answer(layout, &mut words, page),
         None => answer_word(word, &mut words, page),
     }
 }

@@ -23,10 +23,9 @@ mod messages;
 mod reading;
 mod scenario;
 mod shielding;
-mod table;
 
 use case_lines::print_answers;
-use table::Table;
+use scenario::Table;
 
 fn main(rt: HostRuntime) -> anyhow::Result<()> {
     print_answers(&rt, &mut Table::new(rt.alloc()))

@@ -1,5 +1,5 @@
 //! Messages, read and written back.
-use case_lines::{Page, cut};
+use case_lines::{Page, cut, set_octets};
 use ep_codec::{PduError, read_pdu, read_reply, write_pdu, write_reply};
 use sdls_base::{NoMemory, Octets};
 use std::alloc::Global;
@@ -13,11 +13,10 @@ fn write_message<M: Debug>(
     page: &mut Page,
 ) {
     match again {
-        Ok(again) => write!(
-            page,
-            "{message:?}, written again: {}",
-            again.as_slice() == octets
-        ),
+        Ok(again) => {
+            let is_same = again.as_slice() == octets;
+            write!(page, "{message:?}, written again: {is_same}");
+        }
         Err(NoMemory) => page.spoil(),
     }
 }
@@ -70,9 +69,7 @@ fn is_allowed(alloc: Global, tag: u8, length: u16, room: &mut [u8]) -> bool {
     let Some(message) = room.get_mut(..usize::from(length) + 3) else {
         return false;
     };
-    message[0] = tag;
-    message[1] = high;
-    message[2] = low;
+    set_octets(message, 0, &[tag, high, low]);
     let fault = if tag < 0x80 {
         fault_of(read_pdu(alloc, message))
     } else {

@@ -1,16 +1,17 @@
-//! A state, and what changes, messages and frames make of it.
+//! A state, what changes, messages and frames make of it, and the steps of scenarios.
 //!
 //! Each function makes few of the calls that are tested: what the clauses of several say together takes long to prove.
 
 ghost use Rattle.std.specs.Prelude.{IfOk, IfSome};
 ghost use Rattle.ep_codec.specs.Command.{IsInBounds};
 ghost use Rattle.unit_state.specs.Restart.{IsLight};
-ghost use Rattle.unit_state.specs.State.{KeepsRules};
 ghost use Rattle.frame_shield.specs.Binding.{IsBinding};
 
 use crate::shielding::protected;
+use crate::{cases, changes, messages};
 use case_lines::{
-    Digits, Page, Words, direction_name, key_state_name, number, number_at, sa_state_name, word_at,
+    Answers, Digits, Gathered, Page, Words, cut, direction_name, key_state_name, number, number_at,
+    sa_state_name, word_at,
 };
 use case_units::{fits, open_reply_text, reply_text, shield_fault_text};
 use ep_codec::{Command, read_pdu};
@@ -20,9 +21,9 @@ use frame_shield::{Binding, ShieldFault};
 use key_book::KeyRow;
 use sa_book::SaRow;
 use sdls_base::{Change, KeyId, Seen};
-use std::alloc::AllocError;
+use std::alloc::{AllocError, Global};
 use std::marker::Model;
-use unit_plan::Plan;
+use unit_plan::{Plan, PlanError};
 use unit_state::{State, rules_stay};
 
 /// Writes a text, if there was memory for it.
@@ -38,10 +39,8 @@ fn write_key(row: &KeyRow, page: &mut Page) {
     let (id, octets) = (row.id.get(), row.bytes.as_slice().len());
     let (mark, floor) = (row.mark, row.floor);
     page.begin_line();
-    write!(
-        page,
-        "key {id} {state} octets {octets} mark {mark} floor {floor}"
-    );
+    write!(page, "key {id} {state} octets {octets}");
+    write!(page, " mark {mark} floor {floor}");
 }
 
 /// Writes an association, with its back window if there is one.
@@ -50,10 +49,8 @@ fn write_association(row: &SaRow, page: &mut Page) {
     let (spi, key) = (row.spi.get(), row.key.map_or(0, |key| key.get()));
     let (high, width, back) = (row.window.high, row.window.width, row.window.back);
     page.begin_line();
-    write!(
-        page,
-        "sa {spi} {direction} {state} key {key} high {high} window {width}"
-    );
+    write!(page, "sa {spi} {direction} {state} key {key}");
+    write!(page, " high {high} window {width}");
     if back > 0 {
         write!(page, " back {back}");
     }
@@ -100,7 +97,7 @@ fn write_need(need: Need, page: &mut Page) {
 
 /// A plan, and a state that keeps the rules.
 #[derive(Drop)]
-pub struct Scenario {
+struct Scenario {
     plan: Plan,
     state: State,
 }
@@ -122,15 +119,8 @@ impl Model for Scenario {
 }
 
 impl Scenario {
-    /// A plan with the state that its lines make.
-    pub fn new(plan: Plan, state: State) -> Scenario
-        requires { KeepsRules state }
-    {
-        Scenario { plan, state }
-    }
-
     /// Writes the rows of the state, a line each.
-    pub fn write_rows(&self, page: &mut Page) {
+    fn write_rows(&self, page: &mut Page) {
         for row in self.state.keys.rows() {
             write_key(row, page);
         }
@@ -140,7 +130,7 @@ impl Scenario {
     }
 
     /// Takes an equal state.
-    pub fn take_copy(&mut self, page: &mut Page) {
+    fn take_copy(&mut self, page: &mut Page) {
         match self.state.copy() {
             Ok(copy) => self.state = copy,
             Err(_) => page.spoil(),
@@ -149,13 +139,13 @@ impl Scenario {
     }
 
     /// Leaves what a restart leaves.
-    pub fn restart(&mut self, page: &mut Page) {
+    fn restart(&mut self, page: &mut Page) {
         self.state.restart();
         page.push_str("restarted");
     }
 
     /// Makes a change where the state allows it, and returns whether it does.
-    pub fn apply(&mut self, change: &Change, page: &mut Page) -> bool {
+    fn apply(&mut self, change: &Change, page: &mut Page) -> bool {
         let allowed = self.state.allows(change);
         if allowed {
             rules_stay();
@@ -165,7 +155,7 @@ impl Scenario {
     }
 
     /// The same for a change that moves numbers alone. Takes no memory.
-    pub fn apply_here(&mut self, change: &Change) -> bool
+    fn apply_here(&mut self, change: &Change) -> bool
         requires { IsLight change.now }
     {
         let allowed = self.state.allows(change);
@@ -201,7 +191,7 @@ impl Scenario {
     }
 
     /// Writes what a message needs, and what it is answered: `MESSAGE SEEN`.
-    pub fn obey(&mut self, line: &str, page: &mut Page) {
+    fn obey(&mut self, line: &str, page: &mut Page) {
         let mut words = line.split_whitespace();
         match read_pdu(page.alloc(), &page.piece(&mut words)) {
             Ok(command) => self.handle(&command, seen(&mut words), page),
@@ -239,7 +229,7 @@ impl Scenario {
     }
 
     /// Writes what a frame is answered: `LINK FRAME`.
-    pub fn receive(&mut self, line: &str, page: &mut Page) {
+    fn receive(&mut self, line: &str, page: &mut Page) {
         let mut frame = page.octets_at(line, 1);
         let reply = self.open(link_of(line), frame.as_mut_slice());
         push_text(open_reply_text(page.alloc(), reply, &frame), page);
@@ -256,12 +246,137 @@ impl Scenario {
     }
 
     /// Writes what a clear frame is answered: `LINK NUMBER FRAME`.
-    pub fn send(&self, line: &str, page: &mut Page) {
+    fn send(&self, line: &str, page: &mut Page) {
         let clear = page.octets_at(line, 2);
         match self.bind(link_of(line), &clear) {
             Ok(Some(binding)) => write_protected(&binding, number_at(line, 1), &clear, page),
             Ok(None) => page.push_str("clear"),
             Err(fault) => push_text(shield_fault_text(page.alloc(), fault), page),
+        }
+    }
+}
+
+fn allowed_word(allowed: bool) -> &'static str {
+    if allowed { "allowed" } else { "not allowed" }
+}
+
+/// Makes a change of numbers, if there is one that the state allows.
+fn move_numbers(scenario: &mut Scenario, change: Option<Change>, page: &mut Page)
+    requires { IfSome change IsLight }
+{
+    let allowed = match change {
+        Some(change) => scenario.apply_here(&change),
+        None => false,
+    };
+    page.push_str(allowed_word(allowed));
+}
+
+/// Makes a change in words, if the state allows it.
+fn make(scenario: &mut Scenario, words: &str, page: &mut Page) {
+    let made = match changes::read(words, page) {
+        Some(change) => allowed_word(scenario.apply(&change, page)),
+        None => "no change",
+    };
+    write!(page, "{words}: {made}");
+}
+
+/// Loads eight keys, the first with this number, if the state allows it, and returns whether it does.
+fn load_eight(scenario: &mut Scenario, first: u16, page: &mut Page) -> bool {
+    let load = changes::eight_keys(first, page);
+    scenario.apply(&load, page)
+}
+
+/// Makes so many loads of eight keys each, the first from this key on, and writes how many the state allows: `FIRST
+/// COUNT`.
+fn load_eights(scenario: &mut Scenario, words: &str, page: &mut Page) {
+    let mut first: u16 = word_at(words, 0).parse().unwrap_or(0);
+    let (wanted, mut count) = (number_at(words, 1), 0u32);
+    for _ in 0..wanted {
+        if load_eight(scenario, first, page) {
+            count = count.wrapping_add(1);
+        }
+        first = first.wrapping_add(8);
+    }
+    write!(page, "{count} loads of {wanted}");
+}
+
+/// Does a step on a state, and writes what it answers.
+fn step_on_state(scenario: &mut Scenario, word: &str, rest: &str, page: &mut Page) {
+    let mut words = rest.split_whitespace();
+    match word {
+        "do" => scenario.obey(rest, page),
+        "receive" => scenario.receive(rest, page),
+        "send" => scenario.send(rest, page),
+        "change" => make(scenario, rest, page),
+        "loads" => load_eights(scenario, rest, page),
+        "marks" => move_numbers(scenario, changes::marks(&mut words), page),
+        "accepted" => move_numbers(scenario, changes::accepted(&mut words), page),
+        "copy" => scenario.take_copy(page),
+        "restart" => scenario.restart(page),
+        _ => scenario.write_rows(page),
+    }
+}
+
+/// The words of the steps that need a state.
+const STEPS_ON_STATE: [&str; 10] = [
+    "change", "loads", "marks", "accepted", "copy", "restart", "show", "do", "receive", "send",
+];
+
+/// The lines of a plan that were gathered, and the scenario that was begun.
+#[derive(Drop)]
+pub struct Table {
+    plan: Gathered,
+    scenario: Option<Scenario>,
+}
+
+impl Table {
+    /// A table of which nothing was read.
+    pub fn new(alloc: Global) -> Table {
+        Table {
+            plan: Gathered::new(alloc),
+            scenario: None,
+        }
+    }
+
+    /// Makes the scenario of the lines that were gathered. After an error there is none.
+    fn take_plan(&mut self, alloc: Global) -> Result<(), PlanError> {
+        self.scenario = None;
+        let plan = Plan::read(alloc, self.plan.as_str().as_bytes())?;
+        let state = State::initial(alloc, &plan)?;
+        self.scenario = Some(Scenario { plan, state });
+        Ok(())
+    }
+
+    /// Begins a scenario, and writes what is wrong with the lines if there is none.
+    fn begin(&mut self, page: &mut Page) {
+        match self.take_plan(page.alloc()) {
+            Ok(()) => page.push_str("begun"),
+            Err(fault) => write!(page, "{fault}"),
+        }
+        self.plan.clear();
+    }
+
+    /// Does a step on the state, and writes what it answers, or that there is none.
+    fn step_on_scenario(&mut self, word: &str, rest: &str, page: &mut Page) {
+        match &mut self.scenario {
+            Some(scenario) => step_on_state(scenario, word, rest, page),
+            None => write!(page, "{word}: no state"),
+        }
+    }
+}
+
+impl Answers for Table {
+    fn answer(&mut self, line: &str, page: &mut Page) {
+        let (word, rest) = cut(line);
+        match word {
+            "plan" => page.check(self.plan.push(rest)),
+            "begin" => self.begin(page),
+            "command" | "reply" | "cuts" | "lengths" => messages::answer(word, rest, page),
+            _ if STEPS_ON_STATE.contains(&word) => self.step_on_scenario(word, rest, page),
+            _ => {
+                write!(page, "{line}: ");
+                cases::answer(word, rest, page);
+            }
         }
     }
 }

@@ -1,7 +1,7 @@
 // Bindings on links, and frames protected and opened under them, with each bit of their headers turned too.
 ghost use Rattle.std.specs.Prelude.{◌≡◌, ◌≤◌, true, take, IfSome};
 ghost use Rattle.std.specs.Int.{w16, to_be_bytes};
-ghost use Rattle.sdls_base.specs.Link.{IsLink};
+ghost use Rattle.sdls_base.specs.Link.{IsInBounds, IsLink};
 ghost use Rattle.frame_shield.specs.Binding.{IsBinding};
 ghost use Rattle.frame_shield.specs.Opens.{CarriesIndex};
 
@@ -19,56 +19,16 @@ const CMAC_KEY: [u8; 16] = *b"\x2b\x7e\x15\x16\x28\xae\xd2\xa6\xab\xf7\x15\x88\x
 
 const GCM_KEY: [u8; 16] = *b"\x00\x01\x02\x03\x04\x05\x06\x07\x08\x09\x0a\x0b\x0c\x0d\x0e\x0f";
 
-fn tc_link(words: &mut Words<'_>) -> Link
-    ensures { IsLink result }
-{
-    let segment = case_lines::flag(words);
-    Link {
-        layout: AnyLayout::Tc(TcLayout {
-            segment,
-            fecf: case_lines::flag(words),
-            most: 1024,
-        }),
-        mask: Mask::usual_tc(segment),
-    }
-}
-
 /// The layout of TM frames that the words say: `LENGTH FECF`.
-pub fn tm_layout(words: &mut Words<'_>) -> TmLayout {
+fn tm_layout(words: &mut Words<'_>) -> TmLayout {
     TmLayout {
         length: case_lines::short(words).unwrap_or(0),
         fecf: case_lines::flag(words),
     }
 }
 
-fn tm_link(words: &mut Words<'_>) -> Option<Link>
-    ensures { IfSome result IsLink }
-{
-    let layout = tm_layout(words);
-    if layout.length < 48 || layout.length > 2048 {
-        return None;
-    }
-    Some(Link {
-        layout: AnyLayout::Tm(layout),
-        mask: Mask::usual_tm(),
-    })
-}
-
-/// The usual mask of AOS frames, or `whole`, which has each bit.
-fn aos_mask(word: Option<&str>) -> Mask
-    ensures { result.length ≤ 6 }
-{
-    match word {
-        Some("whole") => Mask {
-            octets: [0xFF; 6],
-            length: 6,
-        },
-        _ => Mask::usual_aos(),
-    }
-}
-
 /// The layout of AOS frames that the words say: `LENGTH INSERT OCF FECF`.
-pub fn aos_layout(words: &mut Words<'_>) -> AosLayout {
+fn aos_layout(words: &mut Words<'_>) -> AosLayout {
     AosLayout {
         length: case_lines::short(words).unwrap_or(0),
         insert: case_lines::octet(words).unwrap_or(0),
@@ -77,29 +37,59 @@ pub fn aos_layout(words: &mut Words<'_>) -> AosLayout {
     }
 }
 
-fn aos_link(words: &mut Words<'_>) -> Option<Link>
-    ensures { IfSome result IsLink }
-{
-    let layout = aos_layout(words);
-    let mask = aos_mask(words.next());
-    if layout.insert > 64 || layout.length > 2048 || layout.length < 48 + u16::from(layout.insert) {
-        return None;
+/// The layout that the words say of frames of a kind, none if the kind is none of frames. A TC frame has 1,024 octets
+/// at most.
+pub fn layout_of(kind: &str, words: &mut Words<'_>) -> Option<AnyLayout> {
+    match kind {
+        "tc" => Some(AnyLayout::Tc(TcLayout {
+            segment: case_lines::flag(words),
+            fecf: case_lines::flag(words),
+            most: 1024,
+        })),
+        "tm" => Some(AnyLayout::Tm(tm_layout(words))),
+        "aos" => Some(AnyLayout::Aos(aos_layout(words))),
+        _ => None,
     }
-    Some(Link {
-        layout: AnyLayout::Aos(layout),
-        mask,
-    })
+}
+
+/// The usual mask of such frames. Of AOS frames a word says it, or `whole` one that has each bit.
+fn mask_of(layout: &AnyLayout, words: &mut Words<'_>) -> Mask
+    ensures { result.length ≤ 6 }
+{
+    match layout {
+        AnyLayout::Tc(layout) => Mask::usual_tc(layout.segment),
+        AnyLayout::Tm(_) => Mask::usual_tm(),
+        AnyLayout::Aos(_) if words.next() == Some("whole") => Mask {
+            octets: [0xFF; 6],
+            length: 6,
+        },
+        AnyLayout::Aos(_) => Mask::usual_aos(),
+    }
+}
+
+fn is_in_bounds(layout: &AnyLayout) -> bool
+    ensures { result ≡ true → IsInBounds layout.now }
+{
+    match layout {
+        AnyLayout::Tc(layout) => layout.most == 1024,
+        AnyLayout::Tm(layout) => layout.length >= 48 && layout.length <= 2048,
+        AnyLayout::Aos(layout) => {
+            let least = 48 + u16::from(layout.insert);
+            layout.insert <= 64 && layout.length >= least && layout.length <= 2048
+        }
+    }
 }
 
 /// The link that the words say, none where it lies outside the bounds.
 fn link(words: &mut Words<'_>) -> Option<Link>
     ensures { IfSome result IsLink }
 {
-    match words.next() {
-        Some("tc") => Some(tc_link(words)),
-        Some("tm") => tm_link(words),
-        Some("aos") => aos_link(words),
-        _ => None,
+    let layout = layout_of(words.next()?, words)?;
+    let mask = mask_of(&layout, words);
+    if is_in_bounds(&layout) {
+        Some(Link { layout, mask })
+    } else {
+        None
     }
 }
 

@@ -102,10 +102,8 @@ fn write_association(row: &SaRow, page: &mut Page) {
     let (direction, suite) = (direction_name(row.direction), suite_name(row.suite));
     let (state, key) = (sa_state_name(row.state), row.key.map_or(0, |key| key.get()));
     let (spi, high, width) = (row.spi.get(), row.window.high, row.window.width);
-    write!(
-        page,
-        "; sa {spi} {direction} {suite} {state} key {key} high {high} width {width}"
-    );
+    write!(page, "; sa {spi} {direction} {suite} {state} key {key}");
+    write!(page, " high {high} width {width}");
 }
 
 /// Writes the frame protected under the number that was drawn, with index, key and number.
@@ -267,10 +265,8 @@ impl<O: Site> Unit<O> {
     pub fn tell(&self, page: &mut Page) {
         let (used, slots) = (self.book.used(), self.book.plan().slots());
         let (entries, changes) = (self.book.count(), self.book.changes());
-        write!(
-            page,
-            "slots {used} of {slots}, entries {entries}, changes {changes}"
-        );
+        write!(page, "slots {used} of {slots}");
+        write!(page, ", entries {entries}, changes {changes}");
         for row in self.book.state().keys.rows() {
             write_key(row, page);
         }
