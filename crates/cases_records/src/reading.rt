@@ -151,18 +151,12 @@ fn read_cuts(case: Case<'_>, page: &mut Page) {
 }
 
 /// Writes what is answered if call by call fails, where that changes. The source gives at most 16 octets a call.
-fn read_failures(case: Case<'_>, page: &mut Page) {
-    let (mut differences, piece) = (Differences::new(page.alloc()), FAILING_PIECE);
+fn read_failures(mut case: Case<'_>, page: &mut Page) {
+    let mut differences = Differences::new(page.alloc());
+    case.piece = FAILING_PIECE;
     for call in 0..MOST_CALLS {
-        let failing = Some(call);
-        read(
-            Case {
-                piece,
-                failing,
-                ..case
-            },
-            differences.next(),
-        );
+        case.failing = Some(call);
+        read(case, differences.next());
         write_next(&mut differences, call, page);
     }
 }

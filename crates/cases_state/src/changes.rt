@@ -11,11 +11,8 @@ use std::alloc::Global;
 pub fn marks(words: &mut Words<'_>) -> Option<Change>
     ensures { IfSome result IsLight }
 {
-    Some(Change::Marks {
-        key: key(words)?,
-        mark: number(words)?,
-        floor: number(words)?,
-    })
+    let (key, mark, floor) = (key(words)?, number(words)?, number(words)?);
+    Some(Change::Marks { key, mark, floor })
 }
 
 /// The change that a frame makes: `SPI KEY NUMBER FLOOR`.
@@ -57,11 +54,8 @@ pub fn eight_keys(first: u16, page: &mut Page) -> Change {
 
 fn key_states(alloc: Global, words: &mut Words<'_>) -> Option<Change> {
     let to = key_state(words)?;
-    let ids = vec![in alloc; key(words)?].ok()?;
-    Some(Change::KeyStates {
-        ids: KeyList::new(ids),
-        to,
-    })
+    let ids = KeyList::new(vec![in alloc; key(words)?].ok()?);
+    Some(Change::KeyStates { ids, to })
 }
 
 /// A CMAC association of one channel.
@@ -88,18 +82,9 @@ fn of_association(word: &str, words: &mut Words<'_>) -> Option<Change> {
             key: key(words)?,
             number: number(words)?,
         }),
-        "sa" => Some(Change::SaTo {
-            spi,
-            to: sa_state(words)?,
-        }),
-        "number" => Some(Change::SetNumber {
-            spi,
-            number: number(words)?,
-        }),
-        _ => Some(Change::SetWindow {
-            spi,
-            window: number(words)?,
-        }),
+        "sa" => sa_state(words).map(|to| Change::SaTo { spi, to }),
+        "number" => number(words).map(|number| Change::SetNumber { spi, number }),
+        _ => number(words).map(|window| Change::SetWindow { spi, window }),
     }
 }
 

@@ -21,10 +21,9 @@ const GCM_KEY: [u8; 16] = *b"\x00\x01\x02\x03\x04\x05\x06\x07\x08\x09\x0a\x0b\x0
 
 /// The layout of TM frames that the words say: `LENGTH FECF`.
 fn tm_layout(words: &mut Words<'_>) -> TmLayout {
-    TmLayout {
-        length: case_lines::short(words).unwrap_or(0),
-        fecf: case_lines::flag(words),
-    }
+    let (length, fecf) = (case_lines::short(words), case_lines::flag(words));
+    let length = length.unwrap_or(0);
+    TmLayout { length, fecf }
 }
 
 /// The layout of AOS frames that the words say: `LENGTH INSERT OCF FECF`.
