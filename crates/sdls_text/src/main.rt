@@ -66,19 +66,6 @@ const MOVED: &str = "\
 under CMAC a bit that the mask of a TM link leaves out moves the header: give the link the mask fffe00008000, \
 or never use a key under a second SPI";
 
-/// What the words ask for.
-#[derive(Clone, Copy)]
-enum Mode {
-    Records,
-    Show,
-    Answers(Form),
-    State,
-    Plan,
-    Recording,
-    Help,
-    Version,
-}
-
 /// The words after the program's name. Words that are not text are no command, so they are read as no words.
 fn words<R: Env + AllocGlobal>(rt: &R) -> Result<Vec<String>, AllocError> {
     match env::args(rt) {
@@ -88,71 +75,54 @@ fn words<R: Env + AllocGlobal>(rt: &R) -> Result<Vec<String>, AllocError> {
     }
 }
 
-/// What is asked for by the one word that there is to be; `answers` may have an option behind it, and `recording` has
-/// names of files.
-fn asked(words: &[String]) -> Option<Mode> {
-    if words.len() == 2 && words[0].as_str() == "answers" && words[1].as_str() == "--json" {
-        return Some(Mode::Answers(Form::Json));
-    }
-    if words.len() > 1 && words[0].as_str() == "recording" {
-        return Some(Mode::Recording);
-    }
-    if words.len() != 1 {
-        return None;
-    }
-    match words[0].as_str() {
-        "records" => Some(Mode::Records),
-        "show" => Some(Mode::Show),
-        "answers" => Some(Mode::Answers(Form::Words)),
-        "state" => Some(Mode::State),
-        "plan" => Some(Mode::Plan),
-        "--help" => Some(Mode::Help),
-        "--version" => Some(Mode::Version),
-        _ => None,
-    }
-}
-
 /// Says on standard error why the run ends, and answers its status.
-fn print_end(rt: &HostRuntime, end: End) -> io::Result<u8> {
-    match end {
-        End::Done => return Ok(0),
-        End::LineFault(line, fault) => eprintln!(rt; "sdls_text: line {line}, {fault}")?,
-        End::LongLine(line) => eprintln!(rt; "sdls_text: line {line}: more than 8192 octets")?,
-        End::CutAnswer(offset) => eprintln!(rt; "sdls_text: the answer at octet {offset} is cut")?,
-        End::NoAnswer(offset) => eprintln!(rt; "sdls_text: no answer at octet {offset}")?,
-        End::NoItem(offset) => eprintln!(rt; "sdls_text: no item at octet {offset}")?,
-        End::SourceFault => eprintln!(rt; "sdls_text: standard input could not be read")?,
-        End::OutputFault => eprintln!(rt; "sdls_text: standard output could not be written")?,
-        End::NoMemory => eprintln!(rt; "sdls_text: out of memory")?,
-    }
-    Ok(end.status())
-}
-
-/// How the run of `state` ends, if another run can end so.
-fn common_end(end: StateEnd) -> Option<End> {
-    match end {
-        StateEnd::Done => Some(End::Done),
-        StateEnd::NoLine(_) => None,
-        StateEnd::LongLine(line) => Some(End::LongLine(line)),
-        StateEnd::SourceFault => Some(End::SourceFault),
-        StateEnd::OutputFault => Some(End::OutputFault),
-        StateEnd::NoMemory => Some(End::NoMemory),
-    }
-}
-
-/// Says on standard error which line `stat` does not print, and answers the status.
-fn print_no_line(rt: &HostRuntime, end: StateEnd) -> u8 {
-    if let StateEnd::NoLine(line) = end {
-        let _ = eprintln!(rt; "sdls_text: line {line}: not what `sdls stat` prints, or cut off");
-    }
+fn print_end(rt: &HostRuntime, end: End) -> u8 {
+    let _ = match end {
+        End::Done => Ok(()),
+        End::LineFault(line, fault) => eprintln!(rt; "sdls_text: line {line}, {fault}"),
+        End::LongLine(line) => eprintln!(rt; "sdls_text: line {line}: more than 8192 octets"),
+        End::CutAnswer(offset) => eprintln!(rt; "sdls_text: the answer at octet {offset} is cut"),
+        End::NoAnswer(offset) => eprintln!(rt; "sdls_text: no answer at octet {offset}"),
+        End::NoItem(offset) => eprintln!(rt; "sdls_text: no item at octet {offset}"),
+        End::SourceFault => eprintln!(rt; "sdls_text: standard input could not be read"),
+        End::OutputFault => eprintln!(rt; "sdls_text: standard output could not be written"),
+        End::NoMemory => eprintln!(rt; "sdls_text: out of memory"),
+    };
     end.status()
 }
 
-/// Notes on standard error the line of an association whose frames can be changed into others, if there is one.
-fn note_moved(rt: &HostRuntime, moved: Option<u32>) {
-    if let Some(line) = moved {
-        let _ = eprintln!(rt; "sdls_text: note: line {line}: {MOVED}");
-    }
+/// The same of the run of `state`, with the line that `stat` does not print.
+fn print_state_end(rt: &HostRuntime, end: StateEnd) -> u8 {
+    let common = match end {
+        StateEnd::Done => End::Done,
+        StateEnd::NoLine(line) => {
+            let _ = eprintln!(rt;
+                "sdls_text: line {line}: not what `sdls stat` prints, or cut off"
+            );
+            return end.status();
+        }
+        StateEnd::LongLine(line) => End::LongLine(line),
+        StateEnd::SourceFault => End::SourceFault,
+        StateEnd::OutputFault => End::OutputFault,
+        StateEnd::NoMemory => End::NoMemory,
+    };
+    print_end(rt, common)
+}
+
+/// The same of the run of `plan`. It notes the line of an association whose frames can be changed into others.
+fn print_plan_end(rt: &HostRuntime, end: PlanEnd) -> u8 {
+    let common = match end {
+        PlanEnd::Plan(None) => End::Done,
+        PlanEnd::Plan(Some(line)) => {
+            let _ = eprintln!(rt; "sdls_text: note: line {line}: {MOVED}");
+            End::Done
+        }
+        PlanEnd::NoPlan => return end.status(),
+        PlanEnd::SourceFault => End::SourceFault,
+        PlanEnd::OutputFault => End::OutputFault,
+        PlanEnd::NoMemory => End::NoMemory,
+    };
+    print_end(rt, common)
 }
 
 /// Prints a page on standard output, and answers the status.
@@ -163,45 +133,43 @@ fn print_page(rt: &HostRuntime, page: &str) -> u8 {
     }
 }
 
+/// Whether the words behind `answers` ask for JSON.
+fn is_json(further: &[String]) -> bool {
+    further.len() == 1 && further[0].as_str() == "--json"
+}
+
+/// Runs what the first word asks for, and answers the status. Behind it stands nothing, but for `answers` perhaps an
+/// option, and for `recording` the names of files.
+fn run(rt: HostRuntime, word: &str, further: &[String]) -> u8 {
+    let alone = further.is_empty();
+    let alloc = rt.alloc();
+    let mut source = StdSource::new(rt.stdin());
+    // of this site nothing but its sink is used, which is standard output
+    let mut site = FileSite::new(rt);
+    let end = match word {
+        "records" if alone => put_records(alloc, &mut source, &mut site),
+        "show" if alone => put_lines(alloc, &mut source, &mut site),
+        "answers" if alone => put_answers(alloc, Form::Words, &mut source, &mut site),
+        "answers" if is_json(further) => put_answers(alloc, Form::Json, &mut source, &mut site),
+        "state" if alone => {
+            return print_state_end(&rt, put_state_objects(alloc, &mut source, &mut site));
+        }
+        "plan" if alone => return print_plan_end(&rt, put_plan(alloc, &mut source, &mut site)),
+        "recording" if !alone => return put_recording(rt, &mut site, further),
+        "--help" if alone => return print_page(&rt, HELP),
+        "--version" if alone => return print_page(&rt, VERSION),
+        _ => {
+            let _ = eprintln!(rt; "{HELP}");
+            return 2;
+        }
+    };
+    print_end(&rt, end)
+}
+
 fn main(rt: HostRuntime) -> ExitCode {
     let Ok(words) = words(&rt) else {
         return ExitCode::from(6);
     };
-    let Some(mode) = asked(words.as_slice()) else {
-        let _ = eprintln!(rt; "{HELP}");
-        return ExitCode::from(2);
-    };
-    let alloc = rt.alloc();
-    let mut source = StdSource::new(rt.stdin());
-    let end = match mode {
-        Mode::Help => return ExitCode::from(print_page(&rt, HELP)),
-        Mode::Version => return ExitCode::from(print_page(&rt, VERSION)),
-        Mode::Recording => return ExitCode::from(put_recording(rt, words.as_slice())),
-        // of this site nothing but its sink is used, which is standard output
-        Mode::Records => put_records(alloc, &mut source, &mut FileSite::new(rt)),
-        Mode::Show => put_lines(alloc, &mut source, &mut FileSite::new(rt)),
-        Mode::Answers(form) => put_answers(alloc, form, &mut source, &mut FileSite::new(rt)),
-        Mode::State => {
-            let end = put_state_objects(alloc, &mut source, &mut FileSite::new(rt));
-            match common_end(end) {
-                Some(end) => end,
-                None => return ExitCode::from(print_no_line(&rt, end)),
-            }
-        }
-        Mode::Plan => match put_plan(alloc, &mut source, &mut FileSite::new(rt)) {
-            PlanEnd::Plan(moved) => {
-                note_moved(&rt, moved);
-                End::Done
-            }
-            end @ PlanEnd::NoPlan => return ExitCode::from(end.status()),
-            PlanEnd::SourceFault => End::SourceFault,
-            PlanEnd::OutputFault => End::OutputFault,
-            PlanEnd::NoMemory => End::NoMemory,
-        },
-    };
-    let status = end.status();
-    match print_end(&rt, end) {
-        Ok(status) => ExitCode::from(status),
-        Err(_) => ExitCode::from(status),
-    }
+    let word = words.first().map_or("", |word| word.as_str());
+    ExitCode::from(run(rt, word, words.get(1..).unwrap_or(&[])))
 }

@@ -128,13 +128,12 @@ fn put_files(rt: &HostRuntime, sink: &mut FileSite, names: &[String]) -> u8 {
     DONE
 }
 
-/// Writes the recording of the runs whose outputs the files have that stand behind the first word, in this order, and
-/// returns the status. Nothing is written before each of them was read. A file is held whole while it is written.
-pub fn put_recording(rt: HostRuntime, words: &[String]) -> u8 {
-    let names = words.get(1..).unwrap_or(&[]);
+/// Writes the recording of the runs whose outputs the files have, in this order, and returns the status. Nothing is
+/// written before each of them was read. A file is held whole while it is written.
+pub fn put_recording(rt: HostRuntime, sink: &mut FileSite, names: &[String]) -> u8 {
     let status = judge_files(&rt, names);
     if status != DONE {
         return status;
     }
-    put_files(&rt, &mut FileSite::new(rt), names)
+    put_files(&rt, sink, names)
 }
