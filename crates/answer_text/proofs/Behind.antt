@@ -6,8 +6,8 @@ use Rattle.std.specs.Prelude.{codes}
 use Rattle.sdls_base.specs.Places.{number_at}
 use Rattle.record_io.specs.declared.code.AnswerCode.{AnswerCode}
 use Rattle.record_io.specs.declared.code.AnswerCode.TheVariants.{End}
-use Rattle.answer_text.specs.declared.form.Form.{Form}
-use Rattle.answer_text.specs.declared.form.Form.TheVariants.{Words, Json}
+use Rattle.answer_text.specs.declared.putting.Form.{Form}
+use Rattle.answer_text.specs.declared.putting.Form.TheVariants.{Words, Json}
 use Rattle.record_io.specs.declared.answers.Answer.{Answer}
 use Rattle.ep_codec.specs.declared.reply_pdu.ReplyPdu.{ReplyPdu}
 use Rattle.text_words.specs.Members.{member, quoted}

@@ -29,8 +29,8 @@ use Rattle.record_io.specs.Codes.{code_at}
 use Rattle.answer_text.specs.Part.{Part, word_of_code}
 use Rattle.answer_text.specs.Part.Part.{named, number, word}
 use Rattle.answer_text.specs.Reply.{reply_name, reply_values}
-use Rattle.text_words.specs.declared.names.MessageName.{MessageName}
-use Rattle.text_words.specs.declared.names.MessageName.TheVariants as monitoring
+use Rattle.text_words.specs.declared.words.MessageName.{MessageName}
+use Rattle.text_words.specs.declared.words.MessageName.TheVariants as monitoring
 use Rattle.answer_text.specs.declared.monitor.TheConstants.{EVENT}
 use Rattle.sdls_base.specs.Places.{octet_at}
 use Rattle.answer_text.specs.Monitor.{monitor_reply}

@@ -7,9 +7,9 @@ use Rattle.record_io.specs.declared.code.AnswerCode.TheVariants.{Protected, Acce
 use Rattle.record_io.specs.declared.code.AnswerCode.TheVariants.{MonitorFault, Layout, Channel, Spi, Direction, State}
 use Rattle.record_io.specs.declared.code.AnswerCode.TheVariants.{Coverage, Mac, Number, Exhausted, SiteFault, Stopped}
 use Rattle.record_io.specs.declared.code.AnswerCode.TheVariants.{NoMemory, End}
-use Rattle.answer_text.specs.declared.error.TextError.{TextError}
-use Rattle.answer_text.specs.declared.error.TextError.TheVariants as errors
-use Rattle.answer_text.specs.declared.form.Form.{Form}
+use Rattle.answer_text.specs.declared.line.TextError.{TextError}
+use Rattle.answer_text.specs.declared.line.TextError.TheVariants as errors
+use Rattle.answer_text.specs.declared.putting.Form.{Form}
 use Rattle.answer_text.specs.Part.{Part}
 use Rattle.answer_text.specs.Part.Part.{named, number, word}
 use Rattle.answer_text.specs.Code.{word_of, layout_details, state_details, refusal_details, end_numbers}

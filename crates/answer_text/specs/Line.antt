@@ -11,10 +11,10 @@ use Rattle.record_io.specs.declared.code.AnswerCode.TheVariants.{Protected, Acce
 use Rattle.record_io.specs.declared.code.AnswerCode.TheVariants.{Monitored, MonitorFault}
 use Rattle.record_io.specs.declared.code.AnswerCode.TheVariants.{Channel, Spi, Direction, State, Coverage, Mac, Number}
 use Rattle.record_io.specs.declared.code.AnswerCode.TheVariants.{Exhausted, SiteFault, Stopped, NoMemory, End}
-use Rattle.answer_text.specs.declared.error.TextError.{TextError}
-use Rattle.answer_text.specs.declared.error.TextError.TheVariants as errors
-use Rattle.answer_text.specs.declared.form.Form.{Form}
-use Rattle.answer_text.specs.declared.form.Form.TheVariants as forms
+use Rattle.answer_text.specs.declared.line.TextError.{TextError}
+use Rattle.answer_text.specs.declared.line.TextError.TheVariants as errors
+use Rattle.answer_text.specs.declared.putting.Form.{Form}
+use Rattle.answer_text.specs.declared.putting.Form.TheVariants as forms
 use Rattle.answer_text.specs.Code.{code_word, layout_details, state_details, refusal_details, end_numbers}
 use Rattle.record_io.specs.Codes.{code_at}
 use Rattle.answer_text.specs.Code.{word_of}
@@ -23,7 +23,7 @@ use Rattle.answer_text.specs.Part.{Part, parts_text}
 use Rattle.text_words.specs.Words.{spaced}
 use Rattle.answer_text.specs.Part.Part.{named, number, word, octets}
 use Rattle.answer_text.specs.Reply.{reply_name, reply_values}
-use Rattle.text_words.specs.declared.names.MessageName.{MessageName}
+use Rattle.text_words.specs.declared.words.MessageName.{MessageName}
 use Rattle.text_words.specs.Names.{message_word}
 use Rattle.answer_text.specs.Monitor.{monitor_reply, monitor_values}
 
@@ -111,6 +111,10 @@ HasValues End answer P = IsBare answer × (answer.detail ≤ SESSION_FULL)
     × (let known = named (codes "status") answer.detail ∷ named (codes "entries") answer.position ∷ [] in
     MatchOption (word_of end_numbers answer.detail) ((answer.number ≡ 0) × P known)
     (λ name. P (known ++ named name answer.number ∷ [])))
+
+-- The answer is one of this code, and the parts that its line says were put in this form.
+abbrev pub PutsValues : AnswerCode → Answer → Form → List ℕ → List ℕ → Type 0
+PutsValues code answer form old new = HasValues code answer (λ values. new ≡ old ++ parts_text form values)
 
 -- the answer is one of the formats
 abbrev pub IsOfFormats : Answer → Type 0

@@ -5,11 +5,11 @@ use Rattle.record_io.specs.declared.answers.Answer.{Answer}
 use Rattle.record_io.specs.declared.answers.TheConstants.{ANSWER_HEADER}
 use Rattle.record_io.specs.declared.code.TheConstants.{END}
 use Rattle.record_io.specs.Answers.{Cut, EndsWith, answer_octets}
-use Rattle.answer_text.specs.declared.listing.AnswersEnd.{AnswersEnd}
-use Rattle.answer_text.specs.declared.listing.AnswersEnd.TheVariants.{Whole, CutAt, NoAnswerAt, SourceFault, NoMemory}
+use Rattle.answer_text.specs.declared.line.AnswersEnd.{AnswersEnd}
+use Rattle.answer_text.specs.declared.line.AnswersEnd.TheVariants.{Whole, CutAt, NoAnswerAt, SourceFault, NoMemory}
 use Rattle.record_io.specs.declared.answers.NextAnswer.TheVariants.{Long}
 use Rattle.record_io.specs.NextAnswer.{Stands}
-use Rattle.answer_text.specs.declared.form.Form.{Form}
+use Rattle.answer_text.specs.declared.putting.Form.{Form}
 use Rattle.answer_text.specs.Line.{HasLine, IsOfFormats}
 
 -- how far a listing has come: the number of the next answer's record, and how many octets stand before it

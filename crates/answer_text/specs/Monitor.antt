@@ -5,9 +5,9 @@ use Rattle.sdls_base.specs.Places.{octet_at, word_at}
 use Rattle.fsr_log.specs.declared.messages.TheConstants.{PING, LOG_STATUS, DUMP_LOG, ERASE_LOG, SELF_TEST, ALARM_RESET}
 use Rattle.fsr_log.specs.declared.messages.TheConstants.{REPLY, REPORT_WORD}
 use Rattle.fsr_log.specs.Kinds.{is_event}
-use Rattle.text_words.specs.declared.names.MessageName.{MessageName}
-use Rattle.text_words.specs.declared.names.MessageName.TheVariants.{Ping, LogStatus, DumpLog, EraseLog, SelfTest}
-use Rattle.text_words.specs.declared.names.MessageName.TheVariants.{AlarmReset}
+use Rattle.text_words.specs.declared.words.MessageName.{MessageName}
+use Rattle.text_words.specs.declared.words.MessageName.TheVariants.{Ping, LogStatus, DumpLog, EraseLog, SelfTest}
+use Rattle.text_words.specs.declared.words.MessageName.TheVariants.{AlarmReset}
 use Rattle.answer_text.specs.declared.monitor.TheConstants.{EVENT, MOST}
 use Rattle.answer_text.specs.Part.{Part}
 use Rattle.answer_text.specs.Part.Part.{events, named, octets}

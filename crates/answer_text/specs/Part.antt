@@ -10,8 +10,8 @@ use Rattle.fsr_log.specs.declared.kinds.Event.{Event}
 use Rattle.record_io.specs.declared.code.AnswerCode.{AnswerCode}
 use Rattle.answer_text.specs.Code.{code_word}
 use Rattle.record_io.specs.Codes.{code_at}
-use Rattle.answer_text.specs.declared.form.Form.{Form}
-use Rattle.answer_text.specs.declared.form.Form.TheVariants.{Words, Json}
+use Rattle.answer_text.specs.declared.putting.Form.{Form}
+use Rattle.answer_text.specs.declared.putting.Form.TheVariants.{Words, Json}
 
 -- A part of what a line says: a number by its name; a number or a word whose name the form of words leaves out; octets
 -- by their name; the number that was drawn for a command, with its key; the rows of an inventory, keys and states; so

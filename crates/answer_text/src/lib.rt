@@ -5,20 +5,11 @@
 #![tactic(auto)]
 
 mod codes;
-mod details;
-mod error;
-mod form;
-mod laws;
 mod line;
-mod listing;
 mod monitor;
 mod putting;
 mod reply;
-mod rows;
 mod values;
 
-pub use error::TextError;
-pub use form::Form;
-pub use laws::strings_need_no_escape;
-pub use line::put_answer;
-pub use listing::{AnswersEnd, Listing};
+pub use line::{AnswersEnd, Listing, TextError, put_answer, strings_need_no_escape};
+pub use putting::Form;

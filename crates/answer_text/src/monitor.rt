@@ -1,26 +1,22 @@
 //! The replies to monitoring messages.
 ghost use Rattle.std.specs.Prelude.{◌≡◌, ◌+◌, ◌*◌, ◌≤◌, ◌<◌, ◌++◌, codes, drop, length, IfSome, IsTrue, OnOk};
 ghost use Rattle.record_io.specs.Codes.{code_at};
-ghost use Rattle.text_words.specs.declared.names.MessageName.TheVariants as names;
+ghost use Rattle.text_words.specs.declared.words.MessageName.TheVariants as names;
 ghost use Rattle.answer_text.specs.Part.{Part, event_at, event_members, event_object, event_objects, event_words};
-ghost use Rattle.answer_text.specs.Part.{events_words};
-ghost use Rattle.answer_text.specs.Part.{further_events};
-ghost use Rattle.answer_text.specs.Part.{part_text, parts_text, word_of_code};
-ghost use Rattle.answer_text.specs.Monitor.{are_events, count_parts, has_form, monitor_reply};
-ghost use Rattle.answer_text.specs.Monitor.{monitor_values, reply_at, report_parts, tested_parts};
+ghost use Rattle.answer_text.specs.Part.{events_words, further_events, part_text, parts_text, word_of_code};
+ghost use Rattle.answer_text.specs.Monitor.{are_events, count_parts, has_form, monitor_reply, monitor_values};
+ghost use Rattle.answer_text.specs.Monitor.{reply_at, report_parts, tested_parts};
 
 use crate::codes::code_word;
-use crate::form::Form;
-use crate::putting::{put_named, put_named_octets};
+use crate::putting::{Form, put_named, put_named_octets};
 use fsr_log::{
     ALARM_RESET, DUMP_LOG, ERASE_LOG, Event, LOG_STATUS, PING, REPLY, REPORT_WORD, SELF_TEST,
     is_event,
 };
 use record_io::AnswerCode;
 use sdls_base::{NoMemory, number_at, word_at};
-use std::alloc::Global;
 use text_words::{
-    MessageName, put_name, put_number_member, put_octets, put_spaced, put_spaced_number,
+    MessageName, put_further_number, put_number_member, put_octets, put_spaced, put_spaced_number,
     put_word_member,
 };
 
@@ -109,7 +105,7 @@ fn has_form(reply: MessageName, carried: &[u8]) -> bool
 }
 
 /// The reply that a body is.
-pub(crate) fn monitor_reply(body: &[u8]) -> Option<MessageName>
+pub fn monitor_reply(body: &[u8]) -> Option<MessageName>
     ensures found { result ≡ monitor_reply body.now }
     ensures formed { IfSome result (λ reply. IsTrue (has_form reply (drop 3 body.now)) × (3 ≤ length body.now)) }
 {
@@ -181,10 +177,8 @@ fn put_members(text: &mut Vec<u8>, event: Event) -> Result<(), NoMemory>
     ensures { OnOk result (text.new.items ≡ text.old.items ++ event_members event) }
 {
     put_word_member(text, b"code", event_word(event.code))?;
-    put_octets(text, b",")?;
-    put_number_member(text, b"detail", u64::from(event.detail))?;
-    put_octets(text, b",")?;
-    put_number_member(text, b"number", event.number)
+    put_further_number(text, b"detail", u64::from(event.detail))?;
+    put_further_number(text, b"number", event.number)
 }
 
 /// Writes an event as a JSON object.
@@ -240,9 +234,7 @@ fn put_dump(text: &mut Vec<u8>, form: Form, count: usize, carried: &[u8]) -> Res
     match form {
         Form::Words => put_events(text, count, carried),
         Form::Json => {
-            put_octets(text, b",")?;
-            put_name(text, b"log")?;
-            put_octets(text, b"[")?;
+            put_octets(text, b",\"log\":[")?;
             put_objects(text, count, carried)?;
             put_octets(text, b"]")
         }
@@ -276,23 +268,16 @@ fn put_counts(text: &mut Vec<u8>, form: Form, kept: u16, free: u16) -> Result<()
 }
 
 /// Writes a block enciphered, and its MAC.
-fn put_tested(
-    alloc: Global,
-    text: &mut Vec<u8>,
-    form: Form,
-    enciphered: &[u8],
-    mac: &[u8],
-) -> Result<(), NoMemory>
-    ensures { OnOk result (text.new.items ≡ text.old.items ++ parts_text form (tested_parts enciphered.now mac.now)) }
+fn put_tested(text: &mut Vec<u8>, form: Form, block: &[u8], mac: &[u8]) -> Result<(), NoMemory>
+    ensures { OnOk result (text.new.items ≡ text.old.items ++ parts_text form (tested_parts block.now mac.now)) }
 {
-    put_named_octets(alloc, text, form, b"enciphered", enciphered)?;
-    put_named_octets(alloc, text, form, b"mac", mac)?;
+    put_named_octets(text, form, b"enciphered", block)?;
+    put_named_octets(text, form, b"mac", mac)?;
     Ok(())
 }
 
 /// Writes what the reply carries.
-pub(crate) fn put_monitor_values(
-    alloc: Global,
+pub fn put_monitor_values(
     text: &mut Vec<u8>,
     form: Form,
     reply: MessageName,
@@ -318,8 +303,8 @@ pub(crate) fn put_monitor_values(
             put_dump(text, form, count, carried)
         }
         MessageName::SelfTest => {
-            let (enciphered, mac) = carried.split_at(16);
-            put_tested(alloc, text, form, enciphered, mac)
+            let (block, mac) = carried.split_at(16);
+            put_tested(text, form, block, mac)
         }
         MessageName::AlarmReset => Ok(()),
     }

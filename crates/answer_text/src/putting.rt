@@ -1,39 +1,28 @@
 //! The parts of a line, each put behind a text in either form.
 #![tactic(auto, unfolding(crate::specs::Part::part_text))]
 
-ghost use Rattle.std.specs.Prelude.{◌≡◌, ◌++◌, OnOk};
+ghost use Rattle.std.specs.Prelude.{◌≡◌, ◌++◌, codes, OnOk};
 ghost use Rattle.hex.specs.Hex.{encode_lower};
 ghost use Rattle.text_words.specs.Members.{member, quoted};
 ghost use Rattle.answer_text.specs.Part.{Part, drawn_object, part_text};
 
-use crate::form::Form;
 use sdls_base::NoMemory;
-use std::alloc::Global;
 use text_words::{
-    put_name, put_number_member, put_octets, put_spaced, put_spaced_number, put_spaced_octets,
-    put_word_member,
+    put_further_number, put_further_word, put_number_member, put_octets, put_spaced,
+    put_spaced_number, put_spaced_octets,
 };
 
-/// Writes a member whose value are hexadecimal digits.
-fn put_octets_member(
-    alloc: Global,
-    text: &mut Vec<u8>,
-    name: &[u8],
-    octets: &[u8],
-) -> Result<(), NoMemory>
-    ensures { OnOk result (text.new.items ≡ text.old.items ++ member name.now (quoted (encode_lower octets.now))) }
+/// Writes a member behind others, whose value are hexadecimal digits.
+fn put_further_digits(text: &mut Vec<u8>, name: &[u8], octets: &[u8]) -> Result<(), NoMemory>
+    ensures { OnOk result
+        (text.new.items ≡ text.old.items ++ (codes "," ++ member name.now (quoted (encode_lower octets.now)))) }
 {
-    let digits = hex::encode(alloc, octets)?;
-    put_word_member(text, name, digits.as_bytes())
+    let digits = hex::encode(*text.allocator(), octets)?;
+    put_further_word(text, name, digits.as_bytes())
 }
 
 /// Writes a number by its name.
-pub(crate) fn put_named(
-    text: &mut Vec<u8>,
-    form: Form,
-    name: &[u8],
-    number: u64,
-) -> Result<(), NoMemory>
+pub fn put_named(text: &mut Vec<u8>, form: Form, name: &[u8], number: u64) -> Result<(), NoMemory>
     ensures { OnOk result (text.new.items ≡ text.old.items ++ part_text form (Part.named name.now number)) }
 {
     match form {
@@ -41,52 +30,32 @@ pub(crate) fn put_named(
             put_spaced(text, name)?;
             put_spaced_number(text, number)
         }
-        Form::Json => {
-            put_octets(text, b",")?;
-            put_number_member(text, name, number)
-        }
+        Form::Json => put_further_number(text, name, number),
     }
 }
 
 /// Writes a number whose name the words leave out.
-pub(crate) fn put_number(
-    text: &mut Vec<u8>,
-    form: Form,
-    name: &[u8],
-    number: u64,
-) -> Result<(), NoMemory>
+pub fn put_number(text: &mut Vec<u8>, form: Form, name: &[u8], number: u64) -> Result<(), NoMemory>
     ensures { OnOk result (text.new.items ≡ text.old.items ++ part_text form (Part.number name.now number)) }
 {
     match form {
         Form::Words => put_spaced_number(text, number),
-        Form::Json => {
-            put_octets(text, b",")?;
-            put_number_member(text, name, number)
-        }
+        Form::Json => put_further_number(text, name, number),
     }
 }
 
 /// Writes a word whose name the words leave out.
-pub(crate) fn put_word(
-    text: &mut Vec<u8>,
-    form: Form,
-    name: &[u8],
-    word: &[u8],
-) -> Result<(), NoMemory>
+pub fn put_word(text: &mut Vec<u8>, form: Form, name: &[u8], word: &[u8]) -> Result<(), NoMemory>
     ensures { OnOk result (text.new.items ≡ text.old.items ++ part_text form (Part.word name.now word.now)) }
 {
     match form {
         Form::Words => put_spaced(text, word),
-        Form::Json => {
-            put_octets(text, b",")?;
-            put_word_member(text, name, word)
-        }
+        Form::Json => put_further_word(text, name, word),
     }
 }
 
 /// Writes octets by their name.
-pub(crate) fn put_named_octets(
-    alloc: Global,
+pub fn put_named_octets(
     text: &mut Vec<u8>,
     form: Form,
     name: &[u8],
@@ -97,12 +66,9 @@ pub(crate) fn put_named_octets(
     match form {
         Form::Words => {
             put_spaced(text, name)?;
-            put_spaced_octets(alloc, text, octets)
+            put_spaced_octets(text, octets)
         }
-        Form::Json => {
-            put_octets(text, b",")?;
-            put_octets_member(alloc, text, name, octets)
-        }
+        Form::Json => put_further_digits(text, name, octets),
     }
 }
 
@@ -112,18 +78,12 @@ fn put_drawn_object(text: &mut Vec<u8>, key: u64, number: u64) -> Result<(), NoM
 {
     put_octets(text, b"{")?;
     put_number_member(text, b"key", key)?;
-    put_octets(text, b",")?;
-    put_number_member(text, b"number", number)?;
+    put_further_number(text, b"number", number)?;
     put_octets(text, b"}")
 }
 
 /// Writes the number that was drawn for a command, and its key.
-pub(crate) fn put_drawn(
-    text: &mut Vec<u8>,
-    form: Form,
-    key: u64,
-    number: u64,
-) -> Result<(), NoMemory>
+pub fn put_drawn(text: &mut Vec<u8>, form: Form, key: u64, number: u64) -> Result<(), NoMemory>
     ensures { OnOk result (text.new.items ≡ text.old.items ++ part_text form (Part.drawn key number)) }
 {
     match form {
@@ -133,9 +93,17 @@ pub(crate) fn put_drawn(
             put_spaced_number(text, number)
         }
         Form::Json => {
-            put_octets(text, b",")?;
-            put_name(text, b"drawn")?;
+            put_octets(text, b",\"drawn\":")?;
             put_drawn_object(text, key, number)
         }
     }
+}
+
+/// How the line of an answer is printed.
+#[derive(Clone, Copy, Debug, PartialEq, Eq)]
+pub enum Form {
+    /// As words, a space between two of them.
+    Words,
+    /// As a JSON object.
+    Json,
 }

@@ -4,21 +4,19 @@
 ghost use Rattle.std.specs.Prelude.{◌≡◌, ◌≤◌, ◌++◌, ◌∷◌, [], ◌↔◌, IsTrue, OnOk, IfErr, drop, length};
 ghost use Rattle.record_io.specs.declared.code.AnswerCode.TheVariants as codes;
 ghost use Rattle.answer_text.specs.Part.{Part, parts_text};
-ghost use Rattle.answer_text.specs.Line.{HasValues, IsBare, IsCounting, IsPlain, LacksUnlessNoMemory, LacksValues};
+ghost use Rattle.answer_text.specs.Line.{IsBare, IsCounting, IsPlain, LacksUnlessNoMemory, LacksValues, PutsValues};
 ghost use Rattle.answer_text.specs.Line.{counting_parts, done_parts, drawn, monitored_parts, numbered, window_parts};
 ghost use Rattle.answer_text.specs.Monitor.{has_form};
 
-use crate::details::{end_number, layout_detail, refusal_detail, state_detail};
-use crate::error::TextError;
-use crate::form::Form;
+use crate::codes::{end_number, layout_detail, refusal_detail, state_detail};
+use crate::line::TextError;
 use crate::monitor::{monitor_reply, put_monitor_values};
-use crate::putting::{put_drawn, put_named, put_named_octets, put_number, put_word};
+use crate::putting::{Form, put_drawn, put_named, put_named_octets, put_number, put_word};
 use crate::reply::{put_reply_name, put_reply_values};
 use ep_codec::{PduError, ReplyPdu, read_reply};
 use record_io::status::SESSION_FULL;
 use record_io::{Answer, AnswerCode};
 use sdls_base::{NoMemory, number_at};
-use std::alloc::Global;
 use text_words::{MessageName, message_word};
 
 fn is_bare(answer: &Answer) -> bool
@@ -47,34 +45,23 @@ fn put_numbered(
     put_named(text, form, position, answer.position)
 }
 
-fn protected(
-    alloc: Global,
+/// Writes the number of a key, the position by its name, and the body by its name.
+fn carrying(
     text: &mut Vec<u8>,
     form: Form,
     answer: &Answer,
+    position: &[u8],
+    body: &[u8],
 ) -> Result<(), TextError>
-    ensures put { OnOk result (HasValues codes.Protected answer.now
-        (λ values. text.new.items ≡ text.old.items ++ parts_text form values)) }
-    ensures lacks { IfErr result (LacksValues codes.Protected answer.now) }
+    ensures put { OnOk result ((answer.now.detail ≡ 0) × (text.new.items ≡ text.old.items
+        ++ parts_text form (numbered answer.now position.now ++ Part.octets body.now answer.now.body ∷ []))) }
+    ensures lacks { IfErr result (LacksUnlessNoMemory (answer.now.detail ≡ 0)) }
 {
     if answer.detail != 0 {
         return Err(TextError::NoAnswer);
     }
-    put_numbered(text, form, answer, b"epoch")?;
-    put_named_octets(alloc, text, form, b"frame", answer.body.as_slice())?;
-    Ok(())
-}
-
-fn accepted(alloc: Global, text: &mut Vec<u8>, form: Form, answer: &Answer) -> Result<(), TextError>
-    ensures put { OnOk result (HasValues codes.Accepted answer.now
-        (λ values. text.new.items ≡ text.old.items ++ parts_text form values)) }
-    ensures lacks { IfErr result (LacksValues codes.Accepted answer.now) }
-{
-    if answer.detail != 0 {
-        return Err(TextError::NoAnswer);
-    }
-    put_numbered(text, form, answer, b"entry")?;
-    put_named_octets(alloc, text, form, b"data", answer.body.as_slice())?;
+    put_numbered(text, form, answer, position)?;
+    put_named_octets(text, form, body, answer.body.as_slice())?;
     Ok(())
 }
 
@@ -103,7 +90,6 @@ fn put_drawn_of(text: &mut Vec<u8>, form: Form, answer: &Answer) -> Result<(), N
 
 /// Writes a reply, and between its name and its values what the answer says.
 fn put_done(
-    alloc: Global,
     text: &mut Vec<u8>,
     form: Form,
     answer: &Answer,
@@ -114,21 +100,20 @@ fn put_done(
     put_reply_name(text, form, reply)?;
     put_named(text, form, b"entry", answer.position)?;
     put_drawn_of(text, form, answer)?;
-    put_reply_values(alloc, text, form, reply)?;
+    put_reply_values(text, form, reply)?;
     Ok(())
 }
 
-fn done(alloc: Global, text: &mut Vec<u8>, form: Form, answer: &Answer) -> Result<(), TextError>
-    ensures put { OnOk result (HasValues codes.Done answer.now
-        (λ values. text.new.items ≡ text.old.items ++ parts_text form values)) }
+fn done(text: &mut Vec<u8>, form: Form, answer: &Answer) -> Result<(), TextError>
+    ensures put { OnOk result (PutsValues codes.Done answer.now form text.old.items text.new.items) }
     ensures lacks { IfErr result (LacksValues codes.Done answer.now) }
 {
     if answer.detail != 0 || answer.key == 0 && answer.number != 0 {
         return Err(TextError::NoAnswer);
     }
-    match read_reply(alloc, answer.body.as_slice()) {
+    match read_reply(*text.allocator(), answer.body.as_slice()) {
         Ok(reply) => {
-            put_done(alloc, text, form, answer, &reply)?;
+            put_done(text, form, answer, &reply)?;
             Ok(())
         }
         Err(PduError::Fault(_)) => Err(TextError::NoAnswer),
@@ -137,8 +122,7 @@ fn done(alloc: Global, text: &mut Vec<u8>, form: Form, answer: &Answer) -> Resul
 }
 
 fn refused(text: &mut Vec<u8>, form: Form, answer: &Answer) -> Result<(), TextError>
-    ensures put { OnOk result (HasValues codes.Refused answer.now
-        (λ values. text.new.items ≡ text.old.items ++ parts_text form values)) }
+    ensures put { OnOk result (PutsValues codes.Refused answer.now form text.old.items text.new.items) }
     ensures lacks { IfErr result (LacksValues codes.Refused answer.now) }
 {
     if !is_bare(answer) {
@@ -155,7 +139,6 @@ fn refused(text: &mut Vec<u8>, form: Form, answer: &Answer) -> Result<(), TextEr
 
 /// Writes the message that was answered, the count of entries, and what the reply carries.
 fn put_monitored(
-    alloc: Global,
     text: &mut Vec<u8>,
     form: Form,
     answer: &Answer,
@@ -167,17 +150,11 @@ fn put_monitored(
 {
     put_word(text, form, b"reply", message_word(reply))?;
     put_named(text, form, b"entries", answer.position)?;
-    put_monitor_values(alloc, text, form, reply, &answer.body.as_slice()[3..])
+    put_monitor_values(text, form, reply, &answer.body.as_slice()[3..])
 }
 
-fn monitored(
-    alloc: Global,
-    text: &mut Vec<u8>,
-    form: Form,
-    answer: &Answer,
-) -> Result<(), TextError>
-    ensures put { OnOk result (HasValues codes.Monitored answer.now
-        (λ values. text.new.items ≡ text.old.items ++ parts_text form values)) }
+fn monitored(text: &mut Vec<u8>, form: Form, answer: &Answer) -> Result<(), TextError>
+    ensures put { OnOk result (PutsValues codes.Monitored answer.now form text.old.items text.new.items) }
     ensures lacks { IfErr result (LacksValues codes.Monitored answer.now) }
 {
     if answer.detail != 0 || answer.key != 0 || answer.number != 0 {
@@ -186,13 +163,12 @@ fn monitored(
     let Some(reply) = monitor_reply(answer.body.as_slice()) else {
         return Err(TextError::NoAnswer);
     };
-    put_monitored(alloc, text, form, answer, reply)?;
+    put_monitored(text, form, answer, reply)?;
     Ok(())
 }
 
 fn layout(text: &mut Vec<u8>, form: Form, answer: &Answer) -> Result<(), TextError>
-    ensures put { OnOk result (HasValues codes.Layout answer.now
-        (λ values. text.new.items ≡ text.old.items ++ parts_text form values)) }
+    ensures put { OnOk result (PutsValues codes.Layout answer.now form text.old.items text.new.items) }
     ensures lacks { IfErr result (LacksValues codes.Layout answer.now) }
 {
     if !is_bare(answer) || answer.number != 0 {
@@ -207,8 +183,7 @@ fn layout(text: &mut Vec<u8>, form: Form, answer: &Answer) -> Result<(), TextErr
 }
 
 fn state(text: &mut Vec<u8>, form: Form, answer: &Answer) -> Result<(), TextError>
-    ensures put { OnOk result (HasValues codes.State answer.now
-        (λ values. text.new.items ≡ text.old.items ++ parts_text form values)) }
+    ensures put { OnOk result (PutsValues codes.State answer.now form text.old.items text.new.items) }
     ensures lacks { IfErr result (LacksValues codes.State answer.now) }
 {
     if !is_bare(answer) || answer.number != 0 {
@@ -235,8 +210,7 @@ fn put_window(text: &mut Vec<u8>, form: Form, body: &[u8]) -> Result<(), NoMemor
 }
 
 fn number(text: &mut Vec<u8>, form: Form, answer: &Answer) -> Result<(), TextError>
-    ensures put { OnOk result (HasValues codes.Number answer.now
-        (λ values. text.new.items ≡ text.old.items ++ parts_text form values)) }
+    ensures put { OnOk result (PutsValues codes.Number answer.now form text.old.items text.new.items) }
     ensures lacks { IfErr result (LacksValues codes.Number answer.now) }
 {
     let body = answer.body.as_slice();
@@ -249,8 +223,7 @@ fn number(text: &mut Vec<u8>, form: Form, answer: &Answer) -> Result<(), TextErr
 }
 
 fn exhausted(text: &mut Vec<u8>, form: Form, answer: &Answer) -> Result<(), TextError>
-    ensures put { OnOk result (HasValues codes.Exhausted answer.now
-        (λ values. text.new.items ≡ text.old.items ++ parts_text form values)) }
+    ensures put { OnOk result (PutsValues codes.Exhausted answer.now form text.old.items text.new.items) }
     ensures lacks { IfErr result (LacksValues codes.Exhausted answer.now) }
 {
     if answer.detail != 0 || !answer.body.as_slice().is_empty() {
@@ -286,8 +259,7 @@ fn no_memory(answer: &Answer) -> Result<(), TextError>
 }
 
 fn end(text: &mut Vec<u8>, form: Form, answer: &Answer) -> Result<(), TextError>
-    ensures put { OnOk result (HasValues codes.End answer.now
-        (λ values. text.new.items ≡ text.old.items ++ parts_text form values)) }
+    ensures put { OnOk result (PutsValues codes.End answer.now form text.old.items text.new.items) }
     ensures lacks { IfErr result (LacksValues codes.End answer.now) }
 {
     if !is_bare(answer) || answer.detail > SESSION_FULL {
@@ -309,23 +281,21 @@ fn end(text: &mut Vec<u8>, form: Form, answer: &Answer) -> Result<(), TextError>
 }
 
 /// Writes the values of an answer of this code.
-pub(crate) fn put_values(
-    alloc: Global,
+pub fn put_values(
     text: &mut Vec<u8>,
     form: Form,
     code: AnswerCode,
     answer: &Answer,
 ) -> Result<(), TextError>
-    ensures put { OnOk result (HasValues code answer.now
-        (λ values. text.new.items ≡ text.old.items ++ parts_text form values)) }
+    ensures put { OnOk result (PutsValues code answer.now form text.old.items text.new.items) }
     ensures lacks { IfErr result (LacksValues code answer.now) }
 {
     match code {
-        AnswerCode::Protected => protected(alloc, text, form, answer),
-        AnswerCode::Accepted => accepted(alloc, text, form, answer),
-        AnswerCode::Done => done(alloc, text, form, answer),
+        AnswerCode::Protected => carrying(text, form, answer, b"epoch", b"frame"),
+        AnswerCode::Accepted => carrying(text, form, answer, b"entry", b"data"),
+        AnswerCode::Done => done(text, form, answer),
         AnswerCode::Refused => refused(text, form, answer),
-        AnswerCode::Monitored => monitored(alloc, text, form, answer),
+        AnswerCode::Monitored => monitored(text, form, answer),
         AnswerCode::MonitorFault => counting(text, form, answer, b"offset"),
         AnswerCode::Layout => layout(text, form, answer),
         AnswerCode::State => state(text, form, answer),

@@ -9,8 +9,8 @@ use Rattle.fsr_log.specs.declared.messages.Monitoring.{Monitoring}
 use Rattle.fsr_log.specs.declared.messages.Monitoring.TheVariants as messages
 use Rattle.fsr_log.specs.declared.messages.TheConstants.{BLOCK}
 use Rattle.input_text.specs.declared.fault.LineError.{LineError}
-use Rattle.input_text.specs.declared.asked.Asked.{Asked}
-use Rattle.input_text.specs.declared.asked.Asked.TheVariants as asks
+use Rattle.input_text.specs.declared.line.Asked.{Asked}
+use Rattle.input_text.specs.declared.line.Asked.TheVariants as asks
 use Rattle.input_text.specs.declared.line.Line.TheVariants as lines
 use Rattle.input_text.specs.Fields.{AnswersField}
 use Rattle.input_text.specs.Monitor.{AreAsked, IsAsked, asked_named, asked_words}

@@ -1,5 +1,5 @@
 -- The words of the commands (profile).
-use Rattle.std.specs.Prelude.{⊤, ℕ, ◌==◌, if◌then◌else◌, codes, decimal, map, List, [], ◌∷◌, ◌++◌}
+use Rattle.std.specs.Prelude.{◌≡◌, ⊤, ℕ, ◌==◌, if◌then◌else◌, codes, decimal, map, List, [], ◌∷◌, ◌++◌}
 use Rattle.hex.specs.Hex.{encode_lower, IsBytes}
 use Rattle.sdls_base.specs.declared.entry.NewSa.{NewSa}
 use Rattle.replay_window.specs.WindowField.{back_of, width_of}
@@ -75,6 +75,11 @@ pub record IsCommand (command : Command) : Type 0 where
   pub types : HasTypes command
   pub bounds : IsInBounds command
   pub octets : HasOctets command
+
+-- it is a command of this procedure, and has these values
+abbrev pub ReadsAs : Procedure → List (List ℕ) → Command → Type 0
+ReadsAs procedure words command =
+    (words ≡ value_words command) × IsCommand command × (command_procedure command ≡ procedure)
 
 -- P holds of each command of this procedure
 abbrev pub ByProcedure : (Command → Type 0) → Procedure → Type 0

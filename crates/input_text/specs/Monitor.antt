@@ -9,11 +9,11 @@ use Rattle.fsr_log.specs.Message.{HasBlock, monitoring_octets}
 use Rattle.record_io.specs.declared.reader.ItemKind.TheVariants.{Recorded}
 use Rattle.record_io.specs.declared.reader.RecordKind.TheVariants as records
 use Rattle.record_io.specs.declared.reader.TheConstants.{LEAST_MONITOR_OCTETS, MOST_RECORD_OCTETS}
-use Rattle.text_words.specs.declared.names.MessageName.{MessageName}
-use Rattle.text_words.specs.declared.names.MessageName.TheVariants as names
+use Rattle.text_words.specs.declared.words.MessageName.{MessageName}
+use Rattle.text_words.specs.declared.words.MessageName.TheVariants as names
 use Rattle.text_words.specs.Names.{item_word, message_named, message_word}
-use Rattle.input_text.specs.declared.asked.Asked.{Asked}
-use Rattle.input_text.specs.declared.asked.Asked.TheVariants.{Message, Octets}
+use Rattle.input_text.specs.declared.line.Asked.{Asked}
+use Rattle.input_text.specs.declared.line.Asked.TheVariants.{Message, Octets}
 
 -- the words of a message
 abbrev pub monitoring_words : Monitoring → List (List ℕ)

@@ -1,9 +1,16 @@
+//! Why a line is not read. What was expected is listed from the tables by which names are read, and a word is shown by
+//! its first octets.
 ghost use Rattle.std.specs.Prelude.{◌≡◌};
 ghost use Rattle.input_text.specs.declared.fault.LineError.TheVariants.{NoMemory};
 
-use crate::listed::{Directions, Kinds, Messages, Procedures, Suites};
-use crate::seen::Seen;
+use ep_codec::Procedure;
+use record_io::{ItemKind, RecordKind};
+use sdls_base::{Direction, Suite};
 use std::alloc::{AllocError, AllocFailed};
+use std::{fmt, str};
+use text_words::{
+    direction_word, item_word, message_word, messages, procedure_word, procedures, suite_word,
+};
 use thiserror::Error;
 
 /// What was expected at a word.
@@ -103,5 +110,124 @@ impl<T: Drop> From<AllocFailed<T>> for LineError {
 
     fn from(_refused: AllocFailed<T>) -> LineError {
         LineError::NoMemory
+    }
+}
+
+fn write_word<W: fmt::Write>(f: &mut fmt::Formatter<W>, word: &[u8]) -> fmt::Result {
+    f.write_str(str::from_utf8(word).unwrap_or(""))
+}
+
+/// Writes the name of an item that is recorded.
+fn write_kind<W: fmt::Write>(f: &mut fmt::Formatter<W>, kind: RecordKind) -> fmt::Result {
+    write_word(f, item_word(ItemKind::Recorded(kind)))
+}
+
+/// The first words of lines, but for those of monitoring messages.
+struct Kinds;
+
+impl fmt::Display for Kinds {
+    fn fmt<W: fmt::Write>(&self, f: &mut fmt::Formatter<W>) -> fmt::Result {
+        for kind in [RecordKind::Protect, RecordKind::Open, RecordKind::Command] {
+            write_kind(f, kind)?;
+            f.write_str(", ")?;
+        }
+        write_word(f, item_word(ItemKind::Fence))?;
+        f.write_str(" or at")
+    }
+}
+
+/// The names of monitoring messages, and the word before the octets of one.
+struct Messages;
+
+impl fmt::Display for Messages {
+    fn fmt<W: fmt::Write>(&self, f: &mut fmt::Formatter<W>) -> fmt::Result {
+        for (place, name) in messages().iter().enumerate() {
+            if place > 0 {
+                f.write_str(", ")?;
+            }
+            write_word(f, message_word(*name))?;
+        }
+        f.write_str(" or ")?;
+        write_kind(f, RecordKind::Monitor)
+    }
+}
+
+/// The names of procedures.
+struct Procedures;
+
+impl fmt::Display for Procedures {
+    fn fmt<W: fmt::Write>(&self, f: &mut fmt::Formatter<W>) -> fmt::Result {
+        for (place, procedure) in procedures().iter().enumerate() {
+            match *procedure {
+                Procedure::Status => f.write_str(" and ")?,
+                _ if place > 0 => f.write_str(", ")?,
+                _ => {}
+            }
+            write_word(f, procedure_word(*procedure))?;
+        }
+        Ok(())
+    }
+}
+
+/// The words for the directions of an association.
+struct Directions;
+
+impl fmt::Display for Directions {
+    fn fmt<W: fmt::Write>(&self, f: &mut fmt::Formatter<W>) -> fmt::Result {
+        write_word(f, direction_word(Direction::Send))?;
+        f.write_str(" or ")?;
+        write_word(f, direction_word(Direction::Receive))
+    }
+}
+
+/// The words for the suites of an association.
+struct Suites;
+
+impl fmt::Display for Suites {
+    fn fmt<W: fmt::Write>(&self, f: &mut fmt::Formatter<W>) -> fmt::Result {
+        write_word(f, suite_word(Suite::Cmac))?;
+        f.write_str(" or ")?;
+        write_word(f, suite_word(Suite::Gcm))
+    }
+}
+
+/// So many octets of a word are shown.
+const MOST_SHOWN: usize = 32;
+
+/// A word for a message: its first 32 octets. Those that are no visible ASCII are printed as `\x` and two digits.
+#[derive(Clone, Copy, Debug)]
+pub struct Seen {
+    octets: [u8; MOST_SHOWN],
+    len: usize,
+}
+
+impl Seen {
+    pub fn of(word: &[u8]) -> Seen {
+        let mut octets = [0; MOST_SHOWN];
+        let shown = word.len().min(MOST_SHOWN);
+        octets[..shown].copy_from_slice(&word[..shown]);
+        Seen {
+            octets,
+            len: word.len(),
+        }
+    }
+}
+
+impl fmt::Display for Seen {
+    fn fmt<W: fmt::Write>(&self, f: &mut fmt::Formatter<W>) -> fmt::Result {
+        if self.len == 0 {
+            return f.write_str(" missing");
+        }
+        f.write_str(" \"")?;
+        for octet in &self.octets[..self.len.min(MOST_SHOWN)] {
+            match *octet {
+                33..=126 => f.write_char(char::from(*octet))?,
+                octet => write!(f, "\\x{octet:02x}")?,
+            }
+        }
+        if self.len > MOST_SHOWN {
+            f.write_str("..")?;
+        }
+        f.write_str("\"")
     }
 }

@@ -1,18 +1,17 @@
 //! The words of a line, taken from left to right.
-ghost use Rattle.std.specs.Prelude.{◌≡◌, ◌≢◌, ◌^◌, ◌<◌, ◌≤◌, ℕ, List, [], ◌∷◌, ◌++◌, codes, decimal, length};
-ghost use Rattle.std.specs.Prelude.{Some, None, IsOk, IfOk, IfSome, MatchOption, MatchResult, IsTrue};
+ghost use Rattle.std.specs.Prelude.{◌≡◌, ◌≢◌, ◌^◌, ◌<◌, ◌≤◌, ℕ, List, [], ◌∷◌, ◌++◌, codes, decimal, length, Some};
+ghost use Rattle.std.specs.Prelude.{None, IsOk, IfOk, IfSome, MatchOption, MatchResult, IsTrue};
 ghost use Rattle.std.specs.Option.{option_map_or};
 ghost use Rattle.hex.specs.Hex.{encode_lower, IsBytes};
-ghost use Rattle.ep_codec.specs.Field.{is_key, is_spi};
 ghost use Rattle.unit_plan.specs.Lines.{words_of};
 ghost use Rattle.replay_window.specs.WindowField.{IsWindowField};
-ghost use Rattle.input_text.specs.Plain.{said_words};
+ghost use Rattle.ep_codec.specs.Field.{is_key, is_spi};
 ghost use Rattle.text_words.specs.Words.{octets_word};
+ghost use Rattle.input_text.specs.Plain.{said_words};
 ghost use Rattle.input_text.specs.Command.{window_words};
 ghost use Rattle.input_text.specs.Fields.{AnswersField, IsFault, IsNoMemory, AreRecorded};
 
-use crate::fault::{Expected, LineError, LineFault};
-use crate::seen::Seen;
+use crate::fault::{Expected, LineError, LineFault, Seen};
 use hex::FromHexError;
 use record_io::MOST_RECORD_OCTETS;
 use replay_window::{MOST_BACK, window_field};
@@ -91,6 +90,7 @@ fn take_next<'a>(
 /// knows where the last one stands, for messages.
 #[derive(Drop)]
 pub(crate) struct Fields<'a> {
+    pub alloc: Global,
     line: &'a [u8],
     plain: &'a [u8],
     words: Words<'a>,
@@ -154,10 +154,11 @@ fn record_of(alloc: Global, word: &[u8]) -> Result<Option<Octets>, AllocError>
 
 impl<'a> Fields<'a> {
     /// The words of a line, and of the line as it is read.
-    pub fn of(line: &'a [u8], plain: &'a [u8]) -> Fields<'a>
+    pub fn of(alloc: Global, line: &'a [u8], plain: &'a [u8]) -> Fields<'a>
         ensures { result ≡ said_words (words_of plain.now) }
     {
         Fields {
+            alloc,
             line,
             plain,
             words: Words::of(plain),
@@ -189,7 +190,7 @@ impl<'a> Fields<'a> {
     pub fn fault_before(&self, back: usize, expected: Expected) -> LineError
         ensures { IsFault result }
     {
-        let mut fields = Fields::of(self.line, self.plain);
+        let mut fields = Fields::of(self.alloc, self.line, self.plain);
         for _ in 0..self.taken.saturating_sub(back) {
             let _ = fields.next();
         }
@@ -329,7 +330,6 @@ impl<'a> Fields<'a> {
     /// Takes octets in hexadecimal digits, so many.
     pub fn octets(
         &mut self,
-        alloc: Global,
         expected: Expected,
         least: usize,
         most: usize,
@@ -343,30 +343,26 @@ impl<'a> Fields<'a> {
         let Some(word) = self.next() else {
             return Err(self.fault(expected));
         };
-        match octets_of(alloc, word)? {
+        match octets_of(self.alloc, word)? {
             Some(octets) if octets.len() >= least && octets.len() <= most => Ok(octets),
             _ => Err(self.fault(expected)),
         }
     }
 
     /// Takes `N` octets in hexadecimal digits.
-    pub fn array<const N: usize>(
-        &mut self,
-        alloc: Global,
-        expected: Expected,
-    ) -> Result<[u8; N], LineError>
+    pub fn array<const N: usize>(&mut self, expected: Expected) -> Result<[u8; N], LineError>
         ensures read { IfOk result (λ octets. self.old ≡ encode_lower octets ∷ self.new) }
         ensures only { (octets : List ℕ) (rest : List (List ℕ)) → IsBytes octets → length octets ≡ N
             → self.old ≡ encode_lower octets ∷ rest → AnswersField result octets }
     {
-        let octets = self.octets(alloc, expected, N, N)?;
+        let octets = self.octets(expected, N, N)?;
         let mut array = [0; N];
         array.copy_from_slice(&octets);
         Ok(array)
     }
 
     /// Takes the octets of a record: at most 2,048 in hexadecimal digits, or - for none.
-    pub fn record(&mut self, alloc: Global) -> Result<Octets, LineError>
+    pub fn record(&mut self) -> Result<Octets, LineError>
         ensures read { IfOk result (λ octets. (self.old ≡ octets_word octets ∷ self.new) × AreRecorded octets) }
         ensures only { (octets : List ℕ) (rest : List (List ℕ)) → AreRecorded octets
             → self.old ≡ octets_word octets ∷ rest → AnswersField result octets }
@@ -374,7 +370,7 @@ impl<'a> Fields<'a> {
         let Some(word) = self.next() else {
             return Err(self.fault(Expected::Octets));
         };
-        match record_of(alloc, word)? {
+        match record_of(self.alloc, word)? {
             Some(octets) => Ok(octets),
             None => Err(self.fault(Expected::Octets)),
         }
@@ -428,23 +424,23 @@ impl<'a> Fields<'a> {
     }
 
     /// Takes 16 octets in hexadecimal digits, the last word.
-    pub fn last_block(&mut self, alloc: Global) -> Result<[u8; 16], LineError>
+    pub fn last_block(&mut self) -> Result<[u8; 16], LineError>
         ensures read { IfOk result (λ octets. self.old ≡ encode_lower octets ∷ []) }
         ensures only { (octets : List ℕ) → IsBytes octets → length octets ≡ 16
             → self.old ≡ encode_lower octets ∷ [] → AnswersField result octets }
     {
-        let block = self.array(alloc, Expected::Block)?;
+        let block = self.array(Expected::Block)?;
         self.end(Expected::End)?;
         Ok(block)
     }
 
     /// Takes the octets of a record, the last word.
-    pub fn last_record(&mut self, alloc: Global) -> Result<Octets, LineError>
+    pub fn last_record(&mut self) -> Result<Octets, LineError>
         ensures read { IfOk result (λ octets. (self.old ≡ octets_word octets ∷ []) × AreRecorded octets) }
         ensures only { (octets : List ℕ) → AreRecorded octets
             → self.old ≡ octets_word octets ∷ [] → AnswersField result octets }
     {
-        let octets = self.record(alloc)?;
+        let octets = self.record()?;
         self.end(Expected::End)?;
         Ok(octets)
     }

@@ -10,8 +10,7 @@ ghost use Rattle.fsr_log.specs.Message.{HasBlock, monitoring_octets};
 ghost use Rattle.input_text.specs.Monitor.{IsAsked, asked_octets};
 ghost use Rattle.input_text.specs.Line.{IsLine, line_item};
 
-use crate::asked::Asked;
-use crate::line::Line;
+use crate::line::{Asked, Line};
 use ep_codec::{Command, write_pdu};
 use fsr_log::{Monitoring, write_monitoring};
 use sdls_base::{NoMemory, Octets};

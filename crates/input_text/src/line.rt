@@ -1,30 +1,37 @@
-//! A line of recorded input.
-#![tactic(auto, unfolding(crate::specs::Line::line_words, crate::specs::Line::IsLine))]
+//! A line of recorded input: how its octets are read, and what its words say.
+#![tactic(auto, unfolding(crate::specs::Line::line_words, crate::specs::Line::IsLine, crate::specs::Monitor::asked_words, crate::specs::Monitor::IsAsked))]
 
-ghost use Rattle.std.specs.Prelude.{◌≡◌, ◌≤◌, ◌<◌, ◌^◌, ℕ, List, [], ◌∷◌, length, codes, decimal, Some, None, Ok, IfOk};
-ghost use Rattle.std.specs.Prelude.{MatchOption, IsTrue};
+ghost use Rattle.std.specs.Prelude.{◌≡◌, ◌≤◌, ◌<◌, ◌^◌, ℕ, List, [], ◌∷◌, length, codes, decimal, Some, None, Ok};
+ghost use Rattle.std.specs.Prelude.{IfOk, MatchOption, IsTrue, map};
+ghost use Rattle.hex.specs.Hex.{encode_lower, IsBytes};
 ghost use Rattle.ep_codec.specs.declared.command.Command.{Command};
-ghost use Rattle.input_text.specs.declared.line.Line.TheVariants as lines;
 ghost use Rattle.record_io.specs.declared.reader.ItemKind.TheVariants.{Recorded};
 ghost use Rattle.record_io.specs.declared.reader.RecordKind.TheVariants as records;
-ghost use Rattle.text_words.specs.Names.{item_word};
+ghost use Rattle.fsr_log.specs.declared.messages.Monitoring.{Monitoring};
+ghost use Rattle.fsr_log.specs.declared.messages.Monitoring.TheVariants as messages;
+ghost use Rattle.fsr_log.specs.declared.messages.TheConstants.{BLOCK};
+ghost use Rattle.fsr_log.specs.Message.{HasBlock};
+ghost use Rattle.text_words.specs.Names.{item_word, message_word};
 ghost use Rattle.text_words.specs.Words.{octets_word};
+ghost use Rattle.text_words.specs.declared.words.MessageName.TheVariants as names;
+ghost use Rattle.input_text.specs.declared.line.Line.TheVariants as lines;
 ghost use Rattle.input_text.specs.Fields.{AnswersField, AreRecorded};
 ghost use Rattle.input_text.specs.Command.{command_words, IsCommand};
-ghost use Rattle.input_text.specs.Plain.{is_skipped};
-ghost use Rattle.input_text.specs.Monitor.{IsAsked, asked_words};
+ghost use Rattle.input_text.specs.Plain.{is_skipped, plain_octet};
+ghost use Rattle.input_text.specs.Monitor.{IsAsked, asked_words, AreAsked, HasBytes, asked_named, monitoring_words};
 ghost use Rattle.input_text.specs.Line.{IsElsewhere, IsLane, IsLine, SaysLine, line_words};
+ghost use Rattle.input_text.specs.declared.line.Asked.{Asked};
+ghost use Rattle.input_text.specs.declared.line.Asked.TheVariants as asks;
 
-use crate::asked::{Asked, read_asked};
 use crate::commands::command_named;
 use crate::fault::{Expected, LineError, LineFault};
 use crate::fields::Fields;
-use crate::plain::{is_skipped, plain};
 use ep_codec::Command;
-use record_io::{ItemKind, LANES, RecordKind};
+use fsr_log::{BLOCK, Monitoring};
+use record_io::{ItemKind, LANES, LEAST_MONITOR_OCTETS, MOST_RECORD_OCTETS, RecordKind};
 use sdls_base::Octets;
-use std::alloc::Global;
-use text_words::{item_word, procedure_named};
+use std::alloc::{AllocError, Global};
+use text_words::{MessageName, item_word, message_named, message_word, procedure_named};
 
 /// What a line says: an item of the recorded input.
 #[derive(Drop)]
@@ -53,18 +60,18 @@ fn lane(fields: &mut Fields<'_>) -> Result<u8, LineError>
 }
 
 /// A link, and the octets of a record, the last words.
-fn link_and_octets(alloc: Global, fields: &mut Fields<'_>) -> Result<(u8, Octets), LineError>
+fn link_and_octets(fields: &mut Fields<'_>) -> Result<(u8, Octets), LineError>
     ensures read { IfOk result (λ read. (fields.old ≡ decimal read.0 ∷ octets_word read.1 ∷ []) × AreRecorded read.1) }
     ensures only { (link : ℕ) (octets : List ℕ) → link < 2 ^ 8 → AreRecorded octets
         → fields.old ≡ decimal link ∷ octets_word octets ∷ [] → AnswersField result (link, octets) }
 {
     let link = fields.bounded(Expected::Link, 0, 255)?;
-    let octets = fields.last_record(alloc)?;
+    let octets = fields.last_record()?;
     Ok((link as u8, octets))
 }
 
 /// What stands behind `protect` and `open`.
-fn frame(alloc: Global, fields: &mut Fields<'_>) -> Result<(u8, u8, Octets), LineError>
+fn frame(fields: &mut Fields<'_>) -> Result<(u8, u8, Octets), LineError>
     ensures read { IfOk result (λ read. (fields.old ≡ decimal read.0 ∷ decimal read.1 ∷ octets_word read.2 ∷ [])
         × IsLane read.0 × AreRecorded read.2) }
     ensures only { (lane link : ℕ) (octets : List ℕ) → IsLane lane → link < 2 ^ 8 → AreRecorded octets
@@ -72,24 +79,24 @@ fn frame(alloc: Global, fields: &mut Fields<'_>) -> Result<(u8, u8, Octets), Lin
         → AnswersField result (lane, link, octets) }
 {
     let lane = lane(fields)?;
-    let (link, octets) = link_and_octets(alloc, fields)?;
+    let (link, octets) = link_and_octets(fields)?;
     Ok((lane, link, octets))
 }
 
 /// A command by its name and values.
-fn named_command(alloc: Global, word: &[u8], fields: &mut Fields<'_>) -> Result<Command, LineError>
+fn named_command(word: &[u8], fields: &mut Fields<'_>) -> Result<Command, LineError>
     ensures read { IfOk result (λ command. (word.now ∷ fields.old ≡ command_words command) × IsCommand command) }
     ensures only { (command : Command) → IsCommand command → word.now ∷ fields.old ≡ command_words command
         → AnswersField result command }
 {
     match procedure_named(word) {
-        Some(procedure) => command_named(alloc, procedure, fields),
+        Some(procedure) => command_named(procedure, fields),
         None => Err(fields.fault(Expected::Procedure)),
     }
 }
 
 /// What stands behind the lane of a `command`.
-fn message(alloc: Global, lane: u8, fields: &mut Fields<'_>) -> Result<Line, LineError>
+fn message(lane: u8, fields: &mut Fields<'_>) -> Result<Line, LineError>
     requires { IsLane lane }
     ensures read { IfOk result (λ line.
         (item_word (Recorded records.Command) ∷ decimal lane ∷ fields.old ≡ line_words line) × IsLine line) }
@@ -100,11 +107,11 @@ fn message(alloc: Global, lane: u8, fields: &mut Fields<'_>) -> Result<Line, Lin
 {
     match fields.next() {
         Some(word) if word == b"octets".as_slice() => {
-            let octets = fields.last_record(alloc)?;
+            let octets = fields.last_record()?;
             Ok(Line::Message { lane, octets })
         }
         Some(word) => {
-            let command = named_command(alloc, word, fields)?;
+            let command = named_command(word, fields)?;
             Ok(Line::Command { lane, command })
         }
         None => Err(fields.fault(Expected::Procedure)),
@@ -112,7 +119,7 @@ fn message(alloc: Global, lane: u8, fields: &mut Fields<'_>) -> Result<Line, Lin
 }
 
 /// What stands behind `command`.
-fn command(alloc: Global, fields: &mut Fields<'_>) -> Result<Line, LineError>
+fn command(fields: &mut Fields<'_>) -> Result<Line, LineError>
     ensures read { IfOk result (λ line. (item_word (Recorded records.Command) ∷ fields.old ≡ line_words line)
         × IsLine line) }
     ensures command { (lane : ℕ) (command : Command) → IsLane lane → IsCommand command
@@ -122,12 +129,12 @@ fn command(alloc: Global, fields: &mut Fields<'_>) -> Result<Line, LineError>
         → AnswersField result (lines.Message lane octets) }
 {
     let lane = lane(fields)?;
-    message(alloc, lane, fields)
+    message(lane, fields)
 }
 
 /// A monitoring message by its name, behind its lane and its link.
 #[tactic(auto, using(crate::proofs::AskedWords::some_words))]
-fn elsewhere(alloc: Global, lane: u8, link: u8, fields: &mut Fields<'_>) -> Result<Line, LineError>
+fn elsewhere(lane: u8, link: u8, fields: &mut Fields<'_>) -> Result<Line, LineError>
     requires { IsElsewhere lane link }
     ensures read { IfOk result (λ line. (codes "at" ∷ decimal lane ∷ decimal link ∷ fields.old ≡ line_words line)
         × IsLine line) }
@@ -136,7 +143,7 @@ fn elsewhere(alloc: Global, lane: u8, link: u8, fields: &mut Fields<'_>) -> Resu
 {
     match fields.next() {
         Some(word) => {
-            let asked = read_asked(alloc, word, fields, Expected::Message)?;
+            let asked = read_asked(word, fields, Expected::Message)?;
             Ok(Line::Monitor { lane, link, asked })
         }
         None => Err(fields.fault(Expected::Message)),
@@ -144,7 +151,7 @@ fn elsewhere(alloc: Global, lane: u8, link: u8, fields: &mut Fields<'_>) -> Resu
 }
 
 /// A link, and a monitoring message behind it. Lane and link are not both 0.
-fn behind_lane(alloc: Global, lane: u8, fields: &mut Fields<'_>) -> Result<Line, LineError>
+fn behind_lane(lane: u8, fields: &mut Fields<'_>) -> Result<Line, LineError>
     ensures read { IfOk result (λ line. (codes "at" ∷ decimal lane ∷ fields.old ≡ line_words line) × IsLine line) }
     ensures only { (link : ℕ) (asked : Asked) → link < 2 ^ 8 → IsElsewhere lane link → IsAsked asked
         → fields.old ≡ decimal link ∷ asked_words asked → AnswersField result (lines.Monitor lane link asked) }
@@ -153,27 +160,27 @@ fn behind_lane(alloc: Global, lane: u8, fields: &mut Fields<'_>) -> Result<Line,
     if lane == 0 && link == 0 {
         return Err(fields.fault(Expected::Elsewhere));
     }
-    elsewhere(alloc, lane, link, fields)
+    elsewhere(lane, link, fields)
 }
 
 /// What stands behind `at`: a lane and a link, and a monitoring message.
-fn at(alloc: Global, fields: &mut Fields<'_>) -> Result<Line, LineError>
+fn at(fields: &mut Fields<'_>) -> Result<Line, LineError>
     ensures read { IfOk result (λ line. (codes "at" ∷ fields.old ≡ line_words line) × IsLine line) }
     ensures only { (lane link : ℕ) (asked : Asked) → lane < 2 ^ 8 → link < 2 ^ 8 → IsElsewhere lane link → IsAsked asked
         → fields.old ≡ decimal lane ∷ decimal link ∷ asked_words asked
         → AnswersField result (lines.Monitor lane link asked) }
 {
     let lane = fields.bounded(Expected::AnyLane, 0, 255)?;
-    behind_lane(alloc, lane as u8, fields)
+    behind_lane(lane as u8, fields)
 }
 
 /// A monitoring message by its name, at lane 0 and link 0.
-fn monitor(alloc: Global, word: &[u8], fields: &mut Fields<'_>) -> Result<Line, LineError>
+fn monitor(word: &[u8], fields: &mut Fields<'_>) -> Result<Line, LineError>
     ensures read { IfOk result (λ line. (word.now ∷ fields.old ≡ line_words line) × IsLine line) }
     ensures only { (asked : Asked) → IsAsked asked → word.now ∷ fields.old ≡ asked_words asked
         → AnswersField result (lines.Monitor 0 0 asked) }
 {
-    let asked = read_asked(alloc, word, fields, Expected::Kind)?;
+    let asked = read_asked(word, fields, Expected::Kind)?;
     Ok(Line::Monitor {
         lane: 0,
         link: 0,
@@ -182,7 +189,7 @@ fn monitor(alloc: Global, word: &[u8], fields: &mut Fields<'_>) -> Result<Line, 
 }
 
 /// What the words of a line say.
-fn said(alloc: Global, fields: &mut Fields<'_>) -> Result<Line, LineError>
+fn said(fields: &mut Fields<'_>) -> Result<Line, LineError>
     ensures read { IfOk result (λ line. (fields.old ≡ line_words line) × IsLine line) }
     ensures fence { fields.old ≡ line_words lines.Fence → AnswersField result lines.Fence }
     ensures protect { (lane link : ℕ) (octets : List ℕ) → IsLane lane → link < 2 ^ 8 → AreRecorded octets
@@ -204,18 +211,18 @@ fn said(alloc: Global, fields: &mut Fields<'_>) -> Result<Line, LineError>
             Ok(Line::Fence)
         }
         Some(word) if word == item_word(ItemKind::Recorded(RecordKind::Protect)) => {
-            let (lane, link, octets) = frame(alloc, fields)?;
+            let (lane, link, octets) = frame(fields)?;
             Ok(Line::Protect { lane, link, octets })
         }
         Some(word) if word == item_word(ItemKind::Recorded(RecordKind::Open)) => {
-            let (lane, link, octets) = frame(alloc, fields)?;
+            let (lane, link, octets) = frame(fields)?;
             Ok(Line::Open { lane, link, octets })
         }
         Some(word) if word == item_word(ItemKind::Recorded(RecordKind::Command)) => {
-            command(alloc, fields)
+            command(fields)
         }
-        Some(word) if word == b"at".as_slice() => at(alloc, fields),
-        Some(word) => monitor(alloc, word, fields),
+        Some(word) if word == b"at".as_slice() => at(fields),
+        Some(word) => monitor(word, fields),
         None => Err(fields.fault(Expected::Kind)),
     }
 }
@@ -247,9 +254,136 @@ pub fn read_line(alloc: Global, text: &[u8]) -> Result<Option<Line>, LineError>
         return Ok(None);
     }
     let plain = plain(alloc, text)?;
-    match said(alloc, &mut Fields::of(text, plain.as_slice())) {
+    match said(&mut Fields::of(alloc, text, plain.as_slice())) {
         Ok(line) => Ok(Some(line)),
         Err(LineError::Fault(fault)) => Err(LineError::Fault(name_mark(text, fault))),
         Err(LineError::NoMemory) => Err(LineError::NoMemory),
     }
+}
+
+/// What a Monitor record asks.
+#[derive(Drop)]
+pub enum Asked {
+    /// A monitoring message, by its name: `ping`, `log-status`, `dump-log`, `erase-log`, `self-test BLOCK` or
+    /// `alarm-reset`.
+    Message(Monitoring),
+    /// `monitor OCTETS`: a message by its octets, whatever they are.
+    Octets(Octets),
+}
+
+/// The message without data that a word names.
+fn named(word: &[u8]) -> Option<Monitoring>
+    ensures { result ≡ asked_named word.now }
+{
+    match message_named(word)? {
+        MessageName::Ping => Some(Monitoring::Ping),
+        MessageName::LogStatus => Some(Monitoring::LogStatus),
+        MessageName::DumpLog => Some(Monitoring::DumpLog),
+        MessageName::EraseLog => Some(Monitoring::EraseLog),
+        MessageName::SelfTest => None,
+        MessageName::AlarmReset => Some(Monitoring::AlarmReset),
+    }
+}
+
+/// A message without data, by its name.
+fn bare(word: &[u8], fields: &mut Fields<'_>, expected: Expected) -> Result<Monitoring, LineError>
+    ensures read { IfOk result (λ message. (word.now ∷ fields.old ≡ monitoring_words message) × HasBlock message
+        × HasBytes message) }
+    ensures only { (message : Monitoring) → asked_named word.now ≡ Some message → fields.old ≡ []
+        → AnswersField result message }
+{
+    match named(word) {
+        Some(message) => {
+            fields.end(Expected::End)?;
+            Ok(message)
+        }
+        None => Err(fields.fault(expected)),
+    }
+}
+
+/// The block of a Self test, the last word.
+fn block(fields: &mut Fields<'_>) -> Result<[u8; BLOCK], LineError>
+    ensures read { IfOk result (λ block. (fields.old ≡ encode_lower block ∷ []) × (length block ≡ BLOCK)
+        × IsBytes block) }
+    ensures only { (block : List ℕ) → IsBytes block → length block ≡ BLOCK → fields.old ≡ encode_lower block ∷ []
+        → AnswersField result block }
+{
+    fields.last_block()
+}
+
+/// The octets of a Monitor record, the last word.
+fn asked_octets_of(fields: &mut Fields<'_>) -> Result<Octets, LineError>
+    ensures read { IfOk result (λ octets. (fields.old ≡ encode_lower octets ∷ []) × AreAsked octets) }
+    ensures only { (octets : List ℕ) → AreAsked octets → fields.old ≡ encode_lower octets ∷ []
+        → AnswersField result octets }
+{
+    let octets = fields.octets(
+        Expected::Asked,
+        usize::from(LEAST_MONITOR_OCTETS),
+        usize::from(MOST_RECORD_OCTETS),
+    )?;
+    fields.end(Expected::End)?;
+    Ok(Octets::new(octets))
+}
+
+/// What a word and those behind it ask, by the word.
+fn by_word(word: &[u8], fields: &mut Fields<'_>, expected: Expected) -> Result<Asked, LineError>
+    ensures read { IfOk result (λ asked. (word.now ∷ fields.old ≡ asked_words asked) × IsAsked asked) }
+    ensures octets { (octets : List ℕ) → AreAsked octets → word.now ≡ item_word (Recorded records.Monitor)
+        → fields.old ≡ encode_lower octets ∷ [] → AnswersField result (asks.Octets octets) }
+    ensures block { (block : List ℕ) → IsBytes block → length block ≡ BLOCK → word.now ≡ message_word names.SelfTest
+        → fields.old ≡ encode_lower block ∷ [] → AnswersField result (asks.Message (messages.SelfTest block)) }
+    ensures named { (message : Monitoring) → asked_named word.now ≡ Some message → fields.old ≡ []
+        → AnswersField result (asks.Message message) }
+{
+    if word == item_word(ItemKind::Recorded(RecordKind::Monitor)) {
+        let octets = asked_octets_of(fields)?;
+        return Ok(Asked::Octets(octets));
+    }
+    if word == message_word(MessageName::SelfTest) {
+        let block = block(fields)?;
+        return Ok(Asked::Message(Monitoring::SelfTest(block)));
+    }
+    let message = bare(word, fields, expected)?;
+    Ok(Asked::Message(message))
+}
+
+/// What a word and those behind it ask. The word was taken last.
+fn read_asked(word: &[u8], fields: &mut Fields<'_>, expected: Expected) -> Result<Asked, LineError>
+    ensures read { IfOk result (λ asked. (word.now ∷ fields.old ≡ asked_words asked) × IsAsked asked) }
+    ensures only { (asked : Asked) → IsAsked asked → word.now ∷ fields.old ≡ asked_words asked
+        → AnswersField result asked }
+{
+    by_word(word, fields, expected)
+}
+
+fn plain_octet(octet: u8) -> u8
+    ensures { result ≡ plain_octet octet }
+{
+    if octet == b',' {
+        b' '
+    } else {
+        octet.to_ascii_lowercase()
+    }
+}
+
+/// The line as it is read: commas are spaces, and letters are in lower case.
+pub(crate) fn plain(alloc: Global, text: &[u8]) -> Result<Vec<u8>, AllocError>
+    ensures { IfOk result (λ plain. plain.items ≡ map plain_octet text.now) }
+{
+    text.iter().map(|octet| plain_octet(*octet)).collect(alloc)
+}
+
+/// Whether the line is empty or a comment, perhaps behind spaces.
+fn is_skipped(text: &[u8]) -> bool
+    ensures { result ≡ is_skipped text.now }
+{
+    let mut rest = text;
+    while let [octet, after @ ..] = rest {
+        if *octet != b' ' {
+            return *octet == b'#';
+        }
+        rest = after;
+    }
+    true
 }

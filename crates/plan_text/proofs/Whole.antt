@@ -10,8 +10,8 @@ use Rattle.unit_plan.specs.PlanError.{◌>>=◌, fault}
 use Rattle.unit_plan.specs.Plan.{plan_of}
 use Rattle.unit_plan.specs.PlanLines.{PlanLines}
 use Rattle.unit_state.specs.Initial.{initial}
-use Rattle.plan_text.specs.declared.put.PlanEnd.{PlanEnd}
-use Rattle.plan_text.specs.declared.put.PlanEnd.TheVariants.{Plan, NoPlan, SourceFault, OutputFault, NoMemory}
+use Rattle.plan_text.specs.declared.check.PlanEnd.{PlanEnd}
+use Rattle.plan_text.specs.declared.check.PlanEnd.TheVariants.{Plan, NoPlan, SourceFault, OutputFault, NoMemory}
 use Rattle.plan_text.specs.Put.{EndsPlan, PutsPlan}
 
 -- a text that is too long is refused for that

@@ -5,9 +5,9 @@ use Rattle.unit_plan.specs.PlanLines.{PlanLines}
 use Rattle.unit_state.specs.declared.state.State.{State}
 use Rattle.status_text.specs.Text.{status_text}
 use Rattle.record_io.specs.declared.status.TheConstants as statuses
-use Rattle.plan_text.specs.declared.note.PlanNote.{PlanNote}
-use Rattle.plan_text.specs.declared.put.PlanEnd.{PlanEnd}
-use Rattle.plan_text.specs.declared.put.PlanEnd.TheVariants.{Plan, NoPlan, SourceFault, OutputFault, NoMemory}
+use Rattle.plan_text.specs.declared.wanted.PlanNote.{PlanNote}
+use Rattle.plan_text.specs.declared.check.PlanEnd.{PlanEnd}
+use Rattle.plan_text.specs.declared.check.PlanEnd.TheVariants.{Plan, NoPlan, SourceFault, OutputFault, NoMemory}
 use Rattle.plan_text.specs.Check.{Makes, state_of}
 use Rattle.plan_text.specs.Moved.{moved_line}
 

@@ -4,19 +4,12 @@
 //! [`check_plan`] checks a text, and [`put_plan`] what a source gives. Whether a text is a plan is decided by
 //! `unit_plan` and `unit_state`. Which word of a line is at fault, and what was expected there, comes from `Above` of
 //! `unit_plan`. `books` asks the books of keys and associations about the plan that is left without the lines at fault,
-//! and `phrases` has the words for what was expected. `moved` looks for an association whose frames can be changed into
-//! others, for what the mask of its link leaves out.
+//! and `wanted` has the words for what was expected.
 #![tactic(auto)]
 
 mod books;
 mod check;
-mod mending;
-mod moved;
-mod note;
-mod phrases;
-mod put;
 mod wanted;
 
-pub use check::{Checked, check_plan};
-pub use note::PlanNote;
-pub use put::{PlanEnd, put_plan};
+pub use check::{Checked, PlanEnd, check_plan, put_plan};
+pub use wanted::PlanNote;

@@ -3,8 +3,6 @@
 //! [`status_text`] is the one call.
 #![tactic(auto)]
 
-mod finding;
-mod lines;
 mod text;
 
 pub use text::status_text;

@@ -1,12 +1,12 @@
--- The lines of answers, one after the other, for `put_next` and `put_answers`.
+-- The lines of answers, one after the other, for `put_next_answer` and `put_answers`.
 use Rattle.std.proofs.Common.{◌≡◌, ℕ, ◌+◌, ◌++◌, List, [], ◌∷◌, length, inl, refl, sym, ap, ◌∙◌, arith, append_assoc}
 use Rattle.std.proofs.Common.{length-append}
 use Rattle.std.proofs.lemmas.List.{append-nil}
 use Rattle.record_io.specs.declared.answers.Answer.{Answer}
 use Rattle.record_io.specs.Answers.{answer_octets, answers_octets}
-use Rattle.answer_text.specs.declared.listing.AnswersEnd.{AnswersEnd}
-use Rattle.answer_text.specs.declared.listing.AnswersEnd.TheVariants as ends
-use Rattle.answer_text.specs.declared.form.Form.{Form}
+use Rattle.answer_text.specs.declared.line.AnswersEnd.{AnswersEnd}
+use Rattle.answer_text.specs.declared.line.AnswersEnd.TheVariants as ends
+use Rattle.answer_text.specs.declared.putting.Form.{Form}
 use Rattle.answer_text.specs.Line.{HasLine}
 use Rattle.answer_text.specs.Listing.{EndsAt, ListingPlace, behind}
 use Rattle.text_streams.specs.declared.ends.End.{End}

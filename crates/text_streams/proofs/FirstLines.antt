@@ -7,9 +7,9 @@ use Rattle.std.proofs.lemmas.Bool.Decides.{nat_tests}
 use Rattle.std.proofs.lemmas.List.{append-nil}
 use Rattle.unit_plan.specs.Lines.{lines_of}
 use Rattle.text_streams.proofs.PlainWords.{before_mark, both, from_both, lacks, part_then}
-use Rattle.text_streams.specs.declared.lines.TheConstants.{MOST_LINE}
-use Rattle.text_streams.specs.declared.lines.NextLine.{NextLine}
-use Rattle.text_streams.specs.declared.lines.NextLine.TheVariants as next
+use Rattle.text_streams.specs.declared.streams.TheConstants.{MOST_LINE}
+use Rattle.text_streams.specs.declared.streams.NextLine.{NextLine}
+use Rattle.text_streams.specs.declared.streams.NextLine.TheVariants as next
 use Rattle.text_streams.specs.TextLine.{BeginsLong, IsLast, TakesLine}
 
 -- ---- no line feed so far

@@ -1,4 +1,4 @@
--- The items of recorded input and their lines, one after the other, for `next_item`, `put_next` and `put_lines`.
+-- The items of recorded input and their lines, one after the other, for `next_item`, `put_next_item` and `put_lines`.
 use Rattle.std.proofs.Common.{◌≡◌, ◌≢◌, ℕ, ◌+◌, ◌<◌, ◌++◌, List, [], ◌∷◌, length, map, inl, refl, sym, ap, ◌∙◌, arith}
 use Rattle.std.proofs.Common.{append_assoc, length-append}
 use Rattle.std.specs.List.{AllByRecursion}

@@ -5,9 +5,9 @@ use Rattle.std.specs.List.{AllByRecursion, flat_map}
 use Rattle.std.proofs.lemmas.List.{append-nil}
 use Rattle.sdls_outside.specs.Moments.{Between}
 use Rattle.text_streams.specs.TextLine.{MOST_LINES}
-use Rattle.text_streams.specs.declared.state_ends.StateEnd.{StateEnd}
-use Rattle.text_streams.specs.declared.state_ends.StateEnd.TheVariants.{Done, NoLine, LongLine, SourceFault}
-use Rattle.text_streams.specs.declared.state_ends.StateEnd.TheVariants.{OutputFault, NoMemory}
+use Rattle.text_streams.specs.declared.ends.StateEnd.{StateEnd}
+use Rattle.text_streams.specs.declared.ends.StateEnd.TheVariants.{Done, NoLine, LongLine, SourceFault}
+use Rattle.text_streams.specs.declared.ends.StateEnd.TheVariants.{OutputFault, NoMemory}
 use Rattle.text_streams.specs.declared.state_line.StateLine.{StateLine}
 use Rattle.text_streams.specs.StateText.{IsStateLine, state_text}
 use Rattle.text_streams.specs.StateObject.{object_text}

@@ -5,8 +5,8 @@ use Rattle.std.specs.Fmt.{decimal}
 use Rattle.std.specs.Prelude.{◌==◌, ◌&&◌}
 use Rattle.hex.specs.Hex.{encode_lower}
 use Rattle.fsr_log.specs.declared.messages.Monitoring.TheVariants as messages
-use Rattle.input_text.specs.declared.asked.Asked.{Asked}
-use Rattle.input_text.specs.declared.asked.Asked.TheVariants as asks
+use Rattle.input_text.specs.declared.line.Asked.{Asked}
+use Rattle.input_text.specs.declared.line.Asked.TheVariants as asks
 use Rattle.input_text.specs.Monitor.{IsAsked, asked_words}
 use Rattle.std.proofs.lemmas.Bool.Decides.{nat_tests}
 use Rattle.std.proofs.lemmas.List.{append-nil}

@@ -1,13 +1,13 @@
--- The first line of what is left, for `put_next`.
+-- The first line of what is left, for `put_next_object`.
 use Rattle.std.proofs.Common.{◌≡◌, ℕ, ◌+◌, List, ◌∷◌, ◌++◌, codes, length, Option, Some, None, IfSome, sym, ap, ◌∙◌}
 use Rattle.std.proofs.Common.{subst, arith, append_assoc, length-append}
 use Rattle.unit_plan.specs.Lines.{lines_of}
 use Rattle.text_streams.specs.Spelling.{joined}
 use Rattle.text_streams.specs.declared.state_line.StateLine.{StateLine}
 use Rattle.text_streams.specs.StateText.{IsStateLine, state_text, state_words}
-use Rattle.text_streams.specs.declared.state_ends.StateEnd.{StateEnd}
-use Rattle.text_streams.specs.declared.state_ends.StateEnd.TheVariants.{Done, NoLine, LongLine, SourceFault}
-use Rattle.text_streams.specs.declared.state_ends.StateEnd.TheVariants.{OutputFault, NoMemory}
+use Rattle.text_streams.specs.declared.ends.StateEnd.{StateEnd}
+use Rattle.text_streams.specs.declared.ends.StateEnd.TheVariants.{Done, NoLine, LongLine, SourceFault}
+use Rattle.text_streams.specs.declared.ends.StateEnd.TheVariants.{OutputFault, NoMemory}
 use Rattle.text_streams.specs.StateStream.{BeginsOther, BeginsWith, FailsNextLine, FailsText, HasNoLine}
 use Rattle.text_streams.proofs.StateWords.{is_joined, one_line}
 

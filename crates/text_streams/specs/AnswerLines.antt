@@ -3,12 +3,12 @@ use Rattle.std.specs.Prelude.{◌≡◌, ◌≢◌, ⊤, ℕ, ◌-◌, ◌^◌, 
 use Rattle.sdls_outside.specs.Moments.{Between}
 use Rattle.record_io.specs.declared.answers.Answer.{Answer}
 use Rattle.record_io.specs.Answers.{Cut, EndsWith, answers_octets}
-use Rattle.answer_text.specs.declared.listing.AnswersEnd.{AnswersEnd}
-use Rattle.answer_text.specs.declared.listing.AnswersEnd.TheVariants as ends
-use Rattle.answer_text.specs.declared.listing.AnswersEnd.TheVariants.{Whole, CutAt, NoAnswerAt}
+use Rattle.answer_text.specs.declared.line.AnswersEnd.{AnswersEnd}
+use Rattle.answer_text.specs.declared.line.AnswersEnd.TheVariants as ends
+use Rattle.answer_text.specs.declared.line.AnswersEnd.TheVariants.{Whole, CutAt, NoAnswerAt}
 use Rattle.record_io.specs.declared.answers.NextAnswer.TheVariants as next
 use Rattle.record_io.specs.NextAnswer.{Stands}
-use Rattle.answer_text.specs.declared.form.Form.{Form}
+use Rattle.answer_text.specs.declared.putting.Form.{Form}
 use Rattle.answer_text.specs.Line.{HasLine}
 use Rattle.answer_text.specs.Listing.{AddsLine, ListingPlace, StandsForeign, behind}
 use Rattle.text_streams.specs.declared.ends.End.{End}

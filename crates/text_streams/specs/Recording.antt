@@ -3,8 +3,8 @@ use Rattle.std.specs.Prelude.{◌≡◌, ◌≢◌, ℕ, ◌<◌, ◌≤◌, ◌
 use Rattle.sdls_outside.specs.Moments.{Trace}
 use Rattle.sdls_outside.specs.Output.{Sinks}
 use Rattle.pair_audit.specs.Recording.{run_octets}
-use Rattle.text_streams.specs.declared.run_fault.RunFault.{RunFault}
-use Rattle.text_streams.specs.declared.run_fault.RunFault.TheVariants.{TooLong, Changed, SourceFault, OutputFault}
+use Rattle.text_streams.specs.declared.recording.RunFault.{RunFault}
+use Rattle.text_streams.specs.declared.recording.RunFault.TheVariants.{TooLong, Changed, SourceFault, OutputFault}
 
 -- the octets of the source, so many, were written behind their length
 pub record IsWritten (source_told sink_told : Bool) (len : ℕ) (left : List ℕ) (old new : Trace) : Type 0 where

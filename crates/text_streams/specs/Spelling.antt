@@ -10,8 +10,8 @@ use Rattle.ep_codec.specs.declared.command.Command.{Command}
 use Rattle.ep_codec.specs.Command.{IsCommandPdu}
 use Rattle.fsr_log.specs.declared.messages.Monitoring.{Monitoring}
 use Rattle.fsr_log.specs.Message.{IsMonitoring}
-use Rattle.input_text.specs.declared.asked.Asked.{Asked}
-use Rattle.input_text.specs.declared.asked.Asked.TheVariants as asks
+use Rattle.input_text.specs.declared.line.Asked.{Asked}
+use Rattle.input_text.specs.declared.line.Asked.TheVariants as asks
 use Rattle.input_text.specs.declared.line.Line.{Line}
 use Rattle.input_text.specs.declared.line.Line.TheVariants as lines
 use Rattle.text_words.specs.Words.{spaced}

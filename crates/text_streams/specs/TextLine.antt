@@ -10,9 +10,9 @@ use Rattle.text_streams.specs.Spelling.{SayItems}
 use Rattle.text_streams.specs.declared.ends.End.{End}
 use Rattle.text_streams.specs.declared.ends.End.TheVariants.{Done, LineFault, LongLine, CutAnswer, NoAnswer, NoItem}
 use Rattle.text_streams.specs.declared.ends.End.TheVariants.{SourceFault, OutputFault, NoMemory}
-use Rattle.text_streams.specs.declared.lines.NextLine.{NextLine}
-use Rattle.text_streams.specs.declared.lines.NextLine.TheVariants as next
-use Rattle.text_streams.specs.declared.lines.TheConstants.{MOST_LINE}
+use Rattle.text_streams.specs.declared.streams.NextLine.{NextLine}
+use Rattle.text_streams.specs.declared.streams.NextLine.TheVariants as next
+use Rattle.text_streams.specs.declared.streams.TheConstants.{MOST_LINE}
 
 -- the first line is longer than a line may be
 pub record BeginsLong (left : List ℕ) : Type 0 where

@@ -1,6 +1,7 @@
 //! Why a run ends.
 ghost use Rattle.std.specs.Prelude.{◌≡◌};
 ghost use Rattle.text_streams.specs.Status.{end_status};
+ghost use Rattle.text_streams.specs.StateStream.{state_status};
 
 use input_text::LineFault;
 use record_io::status::{DONE, NO_MEMORY, REFUSED, SITE_FAULT, SOURCE_FAULT};
@@ -40,6 +41,35 @@ impl End {
             End::SourceFault => SOURCE_FAULT,
             End::OutputFault => SITE_FAULT,
             End::NoMemory => NO_MEMORY,
+        }
+    }
+}
+
+/// Why the input was read no further.
+#[derive(Clone, Copy, Debug, PartialEq, Eq)]
+pub enum StateEnd {
+    /// It was read to its end.
+    Done,
+    /// This line, counted from 1, is none that `stat` prints; or it is the last, and lacks its line feed.
+    NoLine(u64),
+    /// This line, counted from 1, is too long.
+    LongLine(u64),
+    SourceFault,
+    OutputFault,
+    NoMemory,
+}
+
+impl StateEnd {
+    /// The exit status.
+    pub fn status(self) -> u8
+        ensures { result ≡ state_status self }
+    {
+        match self {
+            StateEnd::Done => DONE,
+            StateEnd::NoLine(_) | StateEnd::LongLine(_) => REFUSED,
+            StateEnd::SourceFault => SOURCE_FAULT,
+            StateEnd::OutputFault => SITE_FAULT,
+            StateEnd::NoMemory => NO_MEMORY,
         }
     }
 }

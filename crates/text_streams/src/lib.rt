@@ -18,39 +18,17 @@
 //! [`put_run`] a run, which is the length of what the run wrote in 4 octets, and that.
 #![tactic(auto)]
 
-mod answers;
 mod ends;
-mod item_line;
 mod laws;
-mod lines;
 mod printing;
-mod putting;
 mod recording;
-mod records;
-mod run_fault;
-mod show;
-mod state_ends;
-mod state_laws;
 mod state_line;
-mod state_object;
-mod state_reading;
-mod state_stream;
-mod values;
-mod words;
+mod streams;
 
 pub use answer_text::Form;
-pub use answers::put_answers;
-pub use ends::End;
-pub use laws::{items_said_again, line_says_itself};
-pub use lines::{NextLine, next_line};
+pub use ends::{End, StateEnd};
+pub use laws::{items_said_again, line_says_itself, rows_have_lines};
 pub use printing::{put_fence, put_record};
-pub use recording::{begin_recording, put_run};
-pub use records::put_records;
-pub use run_fault::RunFault;
-pub use show::put_lines;
-pub use state_ends::StateEnd;
-pub use state_laws::rows_have_lines;
-pub use state_line::StateLine;
-pub use state_object::put_state_object;
-pub use state_reading::read_state_line;
-pub use state_stream::put_state_objects;
+pub use recording::{RunFault, begin_recording, put_run};
+pub use state_line::{StateLine, put_state_object, put_state_objects, read_state_line};
+pub use streams::{NextLine, next_line, put_answers, put_lines, put_records};

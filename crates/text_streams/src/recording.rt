@@ -4,10 +4,10 @@ ghost use Rattle.sdls_outside.specs.Faults.{HasCause, Rose};
 ghost use Rattle.sdls_outside.specs.Output.{Delivers, OnlySinks};
 ghost use Rattle.pair_audit.specs.Recording.{recording_beginning};
 ghost use Rattle.text_streams.specs.Recording.{Copied, FaultCause, MissesEnd, IsWritten, StopsCopy};
-ghost use Rattle.text_streams.specs.declared.run_fault.RunFault.TheVariants as faults;
+ghost use Rattle.text_streams.specs.declared.recording.RunFault.TheVariants as faults;
 
-use crate::run_fault::RunFault;
 use sdls_outside::{Failed, Site, Source, collect};
+use thiserror::Error;
 
 /// The octets that a recording begins with.
 const BEGINNING: [u8; 8] = *b"SDLSAUD1";
@@ -113,4 +113,21 @@ pub fn put_run<S: Source, O: Site>(source: &mut S, len: u64, sink: &mut O) -> Re
     let mut room = [0; PIECE];
     copy(source, sink, len, &mut room)?;
     end(source)
+}
+
+/// Why no run stands behind what was written.
+#[derive(Clone, Copy, Debug, PartialEq, Eq, Error)]
+pub enum RunFault {
+    /// It has 2^32 octets or more: no length of 4 octets says as many. Nothing was written.
+    #[error("4 gibibytes or more")]
+    TooLong,
+    /// It has another count of octets than was said. Its length was written, and some of it.
+    #[error("changed while it was read")]
+    Changed,
+    /// The source failed.
+    #[error("could not be read")]
+    SourceFault,
+    /// The sink failed.
+    #[error("output could not be written")]
+    OutputFault,
 }

@@ -1,7 +1,6 @@
 -- The names of items, procedures and monitoring messages in text (profile).
-use Rattle.std.specs.Prelude.{ℕ, codes, List, [], ◌∷◌, Option}
+use Rattle.std.specs.Prelude.{ℕ, codes, List, [], ◌∷◌, ◌++◌, Option}
 use Rattle.std.specs.List.{find}
-use Rattle.std.specs.Option.{option_or}
 use Rattle.std.specs.Str.{bytes_eq}
 use Rattle.ep_codec.specs.declared.procedure.Procedure.{Procedure}
 use Rattle.ep_codec.specs.declared.procedure.Procedure.TheVariants.{Rekeying, Activate, Deactivate, Verify, Destroy}
@@ -11,8 +10,8 @@ use Rattle.ep_codec.specs.declared.procedure.Procedure.TheVariants.{Status}
 use Rattle.record_io.specs.declared.reader.ItemKind.{ItemKind}
 use Rattle.record_io.specs.declared.reader.ItemKind.TheVariants.{Fence, Recorded}
 use Rattle.record_io.specs.declared.reader.RecordKind.TheVariants as records
-use Rattle.text_words.specs.declared.names.MessageName.{MessageName}
-use Rattle.text_words.specs.declared.names.MessageName.TheVariants as messages
+use Rattle.text_words.specs.declared.words.MessageName.{MessageName}
+use Rattle.text_words.specs.declared.words.MessageName.TheVariants as messages
 
 -- the word with which the line of an item begins; of a Monitor record, the one before its octets
 abbrev pub item_word : ItemKind → List ℕ
@@ -56,7 +55,7 @@ procedure_among procedures word = find (λ procedure. bytes_eq word (procedure_w
 
 -- the procedure that has this word
 abbrev pub procedure_named : List ℕ → Option Procedure
-procedure_named word = option_or (procedure_among key_procedures word) (procedure_among association_procedures word)
+procedure_named word = procedure_among (key_procedures ++ association_procedures) word
 
 abbrev pub message_word : MessageName → List ℕ
 message_word messages.Ping = codes "ping"
@@ -70,6 +69,10 @@ abbrev pub all_messages : List MessageName
 all_messages = messages.Ping ∷ messages.LogStatus ∷ messages.DumpLog ∷ messages.EraseLog ∷ messages.SelfTest
     ∷ messages.AlarmReset ∷ []
 
+-- the first of these monitoring messages that has this word
+abbrev pub message_among : List MessageName → List ℕ → Option MessageName
+message_among names word = find (λ name. bytes_eq word (message_word name)) names
+
 -- the monitoring message that has this word
 abbrev pub message_named : List ℕ → Option MessageName
-message_named word = find (λ name. bytes_eq word (message_word name)) all_messages
+message_named word = message_among all_messages word

@@ -7,7 +7,7 @@ use Rattle.answer_text.proofs.monitor.put_tested.Goals as goal
 
 pub returns : goal.returns
 returns c =
-    let enciphered = part_text c.args.form (octets (codes "enciphered") c.args.enciphered.now) in
+    let enciphered = part_text c.args.form (octets (codes "enciphered") c.args.block.now) in
     let mac = part_text c.args.form (octets (codes "mac") c.args.mac.now) in
     two_put _ enciphered mac _ _ _ c.in_ok-put_named_octets.ensures c.in_ok-put_named_octets-2.ensures
     (ap (λ text. enciphered ++ text) (append-nil mac))
