@@ -220,13 +220,12 @@ pub fn procedure_word(procedure: Procedure) -> &'static [u8]
 fn procedure_among(word: &[u8], listed: &[Procedure]) -> Option<Procedure>
     ensures { result ≡ procedure_among listed.now word.now }
 {
-    match listed
-        .iter()
-        .find(|procedure| word == procedure_word(**procedure))
-    {
-        Some(procedure) => Some(*procedure),
-        None => None,
+    for procedure in listed {
+        if word == procedure_word(*procedure) {
+            return Some(*procedure);
+        }
     }
+    None
 }
 
 /// The procedure that a word names.
@@ -254,10 +253,12 @@ pub fn message_word(name: MessageName) -> &'static [u8]
 fn message_among(word: &[u8], listed: &[MessageName]) -> Option<MessageName>
     ensures { result ≡ message_among listed.now word.now }
 {
-    match listed.iter().find(|name| word == message_word(**name)) {
-        Some(name) => Some(*name),
-        None => None,
+    for name in listed {
+        if word == message_word(*name) {
+            return Some(*name);
+        }
     }
+    None
 }
 
 /// The monitoring message that a word names.
