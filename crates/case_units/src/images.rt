@@ -14,7 +14,7 @@ ghost use Rattle.unit_image.specs.Beginning.{SaysPlan, image_of_plan};
 use disk_journal::{JournalFault, create};
 use sdls_base::{CONTENT_LENGTH_ONE, CONTENT_LENGTH_TWO, Version};
 use sdls_outside::{Crash, MemSite, Site};
-use std::alloc::{AllocError, Global};
+use std::alloc::Global;
 use unit_image::{create_image, write_content};
 use unit_plan::{MOST_OCTETS, Plan, bare_plan_is_short, write_bare_plan};
 use unit_state::State;
@@ -36,16 +36,6 @@ key 256 active 000102030405060708090a0b0c0d0e0f
 sa 7 send cmac 32769 1 1 0
 sa 9 send gcm 256 1 1 1
 ";
-
-/// The text of a plan with so many slots and blocks of so many numbers, and these lines behind its first five.
-pub fn plan_of_sender(
-    alloc: Global,
-    slots: u32,
-    block: u64,
-    lines: &str,
-) -> Result<String, AllocError> {
-    format!(in alloc; "sdls 1\ndevice d0000001\nslots {slots}\nblock {block}\naccept 1\n{lines}")
-}
 
 /// So many zeros.
 fn zeros(alloc: Global, count: usize) -> Option<Vec<u8>>
@@ -203,10 +193,12 @@ pub fn image_of_version_one(alloc: Global, text: &[u8]) -> Option<Vec<u8>>
     }
 }
 
-/// The image of the plan that `plan_of_sender` writes.
+/// The image of a plan with so many slots and blocks of so many numbers, and these lines behind its first five.
 pub fn image_of_sender(alloc: Global, slots: u32, block: u64, lines: &str) -> Option<Vec<u8>> {
-    let plan = plan_of_sender(alloc, slots, block, lines).ok()?;
-    image_of(alloc, plan.as_str().as_bytes())
+    let plan = format!(in alloc;
+        "sdls 1\ndevice d0000001\nslots {slots}\nblock {block}\naccept 1\n{lines}"
+    );
+    image_of(alloc, plan.ok()?.as_str().as_bytes())
 }
 
 /// What the word says that a crash leaves: what was written, what was synced, or an octet for each that was torn.
@@ -218,7 +210,8 @@ pub fn crash_of(word: &str) -> Crash {
     }
 }
 
-/// The image after the crash that the word says.
-pub fn image_after(alloc: Global, site: MemSite, word: &str) -> Result<Vec<u8>, AllocError> {
-    Vec::from_slice(alloc, site.crashed(crash_of(word)).image())
+/// Where these octets stand first in an image.
+pub fn place_of(image: &[u8], octets: &[u8]) -> Option<usize> {
+    let length = octets.len().max(1);
+    image.windows(length).position(|part| part == octets)
 }

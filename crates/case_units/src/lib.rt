@@ -3,17 +3,17 @@
 #![tactic(auto)]
 
 mod images;
-mod inputs;
 mod needs;
+mod runs;
 mod texts;
 
 pub use images::{
-    TELECOMMAND_SENDER, TWO_SENDERS, crash_of, image_after, image_of, image_of_sender,
-    image_of_version_one, plan_of_sender,
+    TELECOMMAND_SENDER, TWO_SENDERS, crash_of, image_of, image_of_sender, image_of_version_one,
+    place_of,
 };
-pub use inputs::{BEGINNING, FENCE, TELECOMMAND, joined, push_frame, push_on_lane, push_record};
 pub use needs::fits;
-pub use texts::{
-    open_reply_text, reply_text, shield_fault_text, write_octets, write_open_reply, write_part,
-    write_reply, write_shield_fault,
+pub use runs::{
+    Answer, BEGINNING, FENCE, TELECOMMAND, joined, push_answers, push_frame, push_on_lane,
+    push_record,
 };
+pub use texts::{open_reply_text, reply_text, shield_fault_text};
