@@ -1,6 +1,5 @@
 //! Where things stand in an image.
-use case_lines::{number_in, set_octets};
-use std::alloc::{AllocError, Global};
+use case_lines::{Page, number_in, set_octets};
 
 /// The octets of the header.
 pub const HEADER: usize = 512;
@@ -24,16 +23,16 @@ const KEY_ROWS: usize = 512;
 
 const MARK: usize = 68;
 
-/// The octets of all rows of keys of version 1, and of all its rows of associations.
-const KEY_ROOM_ONE: usize = 49_152;
+/// What a migration takes from a bank of version 1: the counts of keys and associations, and their rows. Where it
+/// stands, where it goes, and how many octets it has.
+const MOVED: [(usize, usize, usize); 4] = [
+    (CONTENT, CONTENT, 2),
+    (CONTENT + 2, CONTENT + 3, 1),
+    (KEY_ROWS, KEY_ROWS, 49_152),
+    (49_664, 393_728, 2_048),
+];
 
-const SA_ROOM_ONE: usize = 2_048;
-
-/// Where the rows of associations begin in a bank of each version, and where its slots do.
-const SA_ROWS_ONE: usize = 49_664;
-
-const SA_ROWS_TWO: usize = 393_728;
-
+/// Where the slots begin in a bank of each version.
 const SLOTS_ONE: usize = 51_712;
 
 const SLOTS_TWO: usize = 401_920;
@@ -100,11 +99,9 @@ pub struct Layout {
 
 /// Sets so many of these from a place on to 0, as far as they reach.
 fn clear(octets: &mut [u8], at: usize, length: usize) {
-    let start = at.min(octets.len());
-    let (_, behind) = octets.split_at_mut(start);
-    for octet in behind.iter_mut().take(length) {
-        *octet = 0;
-    }
+    let (_, behind) = octets.split_at_mut(at.min(octets.len()));
+    let end = length.min(behind.len());
+    behind[..end].fill(0);
 }
 
 /// An image of two banks, of which one is open.
@@ -120,9 +117,8 @@ impl<'a> Image<'a> {
 
     /// So many octets from a place on.
     pub fn part(self, at: usize, length: usize) -> &'a [u8] {
-        self.octets
-            .get(at..at.saturating_add(length))
-            .unwrap_or(&[])
+        let end = at.saturating_add(length);
+        self.octets.get(at..end).unwrap_or(&[])
     }
 
     pub fn form(self) -> Form {
@@ -206,14 +202,10 @@ impl<'a> Image<'a> {
 
     /// Writes how many rows the open bank has, and the rows.
     fn put_rows(self, old: usize, octets: &mut [u8], bank: usize) {
-        let count = self.part(old.saturating_add(CONTENT), 2);
-        let sa_count = self.part(old.saturating_add(CONTENT + 2), 1);
-        let keys = self.part(old.saturating_add(KEY_ROWS), KEY_ROOM_ONE);
-        let associations = self.part(old.saturating_add(SA_ROWS_ONE), SA_ROOM_ONE);
-        set_octets(octets, bank.saturating_add(CONTENT), count);
-        set_octets(octets, bank.saturating_add(CONTENT + 3), sa_count);
-        set_octets(octets, bank.saturating_add(KEY_ROWS), keys);
-        set_octets(octets, bank.saturating_add(SA_ROWS_TWO), associations);
+        for (from, to, length) in MOVED {
+            let part = self.part(old.saturating_add(from), length);
+            set_octets(octets, bank.saturating_add(to), part);
+        }
     }
 
     /// Writes the mark and the floor of the record of a slot, if there is one, into the row of the first key.
@@ -226,14 +218,11 @@ impl<'a> Image<'a> {
 }
 
 /// Lets the two banks of an image change places.
-pub fn swap_banks(alloc: Global, octets: &mut [u8]) -> Result<(), AllocError> {
-    let old = Vec::from_slice(alloc, octets)?;
-    let image = Image {
-        octets: old.as_slice(),
-    };
+pub fn swap_banks(octets: &mut [u8], page: &mut Page) {
+    let old = page.copy(octets);
+    let image = Image { octets: &old };
     let layout = image.layout();
     let second = layout.banks.saturating_add(layout.bank_length);
     set_octets(octets, layout.banks, image.part(second, layout.bank_length));
     set_octets(octets, second, image.part(layout.banks, layout.bank_length));
-    Ok(())
 }

@@ -19,34 +19,28 @@
 //! `times COUNT STEP` does a step so often.
 //!
 //! `judge OFFSET LENGTH` sets each of so many octets of the image to 0, 1, 2 and 255 in turn, and asks `stat` each
-//! time. What is due is a rule of the octet's place (`rules.rt`): a refusal with its offset, which leaves the image as
+//! time. What is due is a rule of the octet's place (`judging.rt`): a refusal with its offset, which leaves the image as
 //! it was; or a state, and the image at rest and of version 2. It prints how many of each there were, or the first
 //! change that has another answer.
 #![tactic(auto)]
 
-mod answers;
-mod disk;
 mod image;
-mod input;
 mod judging;
-mod rules;
 mod table;
 
+use case_lines::Page;
 use table::Table;
 
 fn main(rt: HostRuntime) -> anyhow::Result<()> {
     let mut table = Table::new(&rt, rt.alloc());
-    let mut answer = String::new(rt.alloc());
+    let mut page = Page::new(rt.alloc());
     for line in rt.lines(rt.alloc()) {
-        let line = line?;
-        answer.clear();
-        if line.as_str().starts_with("#") {
-            answer.push_str(line.as_str())?;
-        } else {
-            table.step(rt.alloc(), line.as_str(), &mut answer)?;
-        }
-        if !answer.is_empty() {
-            println!(rt; "{answer}")?;
+        page.clear();
+        table.answer(line?.as_str(), &mut page);
+        match page.written() {
+            Some("") => {}
+            Some(text) => println!(rt; "{text}")?,
+            None => anyhow::bail!("no memory, or digits that are none"),
         }
     }
     Ok(())
