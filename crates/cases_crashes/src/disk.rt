@@ -1,17 +1,139 @@
-//! Runs over the image of a unit.
-use crate::answers::{Answer, push_answers, repeat_in};
-use crate::noted_site::NotedSite;
-use crate::trouble::Trouble;
-use case_lines::{replace, words_of};
-use case_units::{BEGINNING, joined};
+//! The image of a unit, and calls of the unit over it, on a site on which something goes wrong.
+ghost use Rattle.std.specs.Prelude.{true};
+ghost use Rattle.sdls_outside.specs.contracts.mem_site.MemSiteSite.TheImpl.Laws as mem_laws;
+
+use crate::answers::repeat_in;
+use case_lines::{Page, replace, words_of};
+use case_units::{Answer, BEGINNING, push_answers};
 use cli_image::run_plain;
 use cli_run::{OpenGate, run_recorded};
 use record_io::Outcome;
-use sdls_outside::{Crash, SureSource};
-use std::alloc::{AllocError, Global};
+use sdls_outside::{Crash, Failed, MemSite, Site, SureSource};
+use std::alloc::Global;
 use std::mem;
 use std::sync::Wait;
 use std::thread::Threads;
+
+/// What goes wrong on a site, and the crash behind it, which says what is left of the image.
+#[derive(Clone, Copy)]
+pub enum Trouble {
+    /// No call fails, and all of the image is left.
+    None,
+    /// The site is dead from this call on.
+    Stop(u64, Crash),
+    /// This call alone fails. If it is a write, its octets may be written all the same.
+    Fault(u64, bool, Crash),
+}
+
+/// A site that passes each call on to one in memory. A `MemSite` looks for each octet that a crash may fill through all
+/// writes that are pending, and a migration has some thirty of them; here each write is filled once. A note of a write
+/// for which there is no memory is left out.
+#[derive(Drop)]
+struct NotedSite {
+    inside: MemSite,
+    trouble: Trouble,
+    /// Where the writes since the last sync begin, and where they end.
+    written: Vec<(usize, usize)>,
+    /// How many octets were sunk when a put failed first.
+    failed_put: Option<usize>,
+}
+
+/// Writes this octet to each place that was written.
+fn fill(image: &mut [u8], written: &[(usize, usize)], octet: u8) {
+    for (from, to) in written.iter() {
+        if let Some(torn) = image.get_mut(*from..*to) {
+            torn.fill(octet);
+        }
+    }
+}
+
+impl NotedSite {
+    /// A site that holds this image.
+    fn new(image: Vec<u8>, trouble: Trouble, page: &mut Page) -> NotedSite {
+        let (failing, dead_from) = match trouble {
+            Trouble::None => (None, None),
+            Trouble::Stop(call, _) => (None, Some(call)),
+            Trouble::Fault(call, _, _) => (Some(call), None),
+        };
+        let failing = page.list_of(failing);
+        NotedSite {
+            inside: MemSite::new(page.alloc(), image, failing, dead_from),
+            trouble,
+            written: Vec::new(page.alloc()),
+            failed_put: None,
+        }
+    }
+
+    /// Has the image that the crash leaves in place of another.
+    fn leave(self, image: &mut Vec<u8>, page: &mut Page) {
+        let NotedSite {
+            inside,
+            trouble,
+            written,
+            failed_put: _,
+        } = self;
+        match trouble {
+            Trouble::None => page.check(replace(image, inside.image())),
+            Trouble::Stop(_, Crash::Filled(octet)) | Trouble::Fault(_, _, Crash::Filled(octet)) => {
+                page.check(replace(image, inside.image()));
+                fill(image, &written, octet);
+            }
+            Trouble::Stop(_, crash) | Trouble::Fault(_, _, crash) => {
+                page.check(replace(image, inside.crashed(crash).image()));
+            }
+        }
+    }
+}
+
+impl Site for NotedSite {
+    ghost use Rattle.sdls_outside.specs.MemSite.{site_trace, site_faults, site_put_faults};
+
+    ghost told = { true };
+
+    ghost trace = { λ site. site_trace site.inside };
+
+    ghost faults = { λ site. site_faults site.inside };
+
+    ghost put_faults = { λ site. site_put_faults site.inside };
+
+    ghost image_may_stay = { λ site. mem_laws.image_may_stay-law site.inside };
+
+    fn begin(&mut self) -> Result<u64, Failed> {
+        self.inside.begin()
+    }
+
+    fn read_at(&mut self, at: u64, into: &mut [u8]) -> Result<(), Failed> {
+        self.inside.read_at(at, into)
+    }
+
+    fn write_at(&mut self, at: u64, octets: &[u8]) -> Result<(), Failed> {
+        let answer = self.inside.write_at(at, octets);
+        let is_kept = matches!(self.trouble, Trouble::Fault(_, true, _));
+        if answer.is_ok() || (is_kept && self.inside.write_at(at, octets).is_ok()) {
+            let from = at as usize;
+            let _noted = self.written.push((from, from.saturating_add(octets.len())));
+        }
+        answer
+    }
+
+    fn sync(&mut self) -> Result<(), Failed> {
+        self.inside.sync()?;
+        self.written.clear();
+        Ok(())
+    }
+
+    fn put(&mut self, octets: &[u8]) -> Result<(), Failed> {
+        let put = self.inside.put(octets);
+        if put.is_err() && self.failed_put.is_none() {
+            self.failed_put = Some(self.inside.sunk().len());
+        }
+        put
+    }
+
+    fn faults(&self) -> u64 {
+        self.inside.faults()
+    }
+}
 
 /// How a call ended: its status, how many entries it had, and the site.
 type End = (u8, usize, NotedSite);
@@ -38,10 +160,11 @@ fn called(alloc: Global, words: &[String], site: NotedSite) -> End {
     (status, entries.len(), site)
 }
 
-/// The image of a unit between its runs. What the last one did: how it ended, what it wrote and the answers in that,
+/// The image of a unit between its calls. What the last one did: how it ended, what it wrote and the answers in that,
 /// and how much was written when a call first failed that writes. The answers of all runs over the image.
 #[derive(Drop)]
-pub struct Disk {
+pub struct Disk<'a, R> {
+    rt: &'a R,
     pub image: Vec<u8>,
     pub status: u8,
     pub entries: usize,
@@ -51,10 +174,11 @@ pub struct Disk {
     all: Vec<Answer>,
 }
 
-impl Disk {
+impl<'a, R> Disk<'a, R> {
     /// A disk without an image.
-    pub fn new(alloc: Global) -> Disk {
+    pub fn new(rt: &'a R, alloc: Global) -> Disk<'a, R> {
         Disk {
+            rt,
             image: Vec::new(alloc),
             status: 0,
             entries: 0,
@@ -66,54 +190,9 @@ impl Disk {
     }
 
     /// Takes an image over which nothing was run.
-    pub fn begin(&mut self, image: &[u8]) -> Result<(), AllocError> {
+    pub fn begin(&mut self, image: &[u8], page: &mut Page) {
         self.all.clear();
-        replace(&mut self.image, image)
-    }
-
-    /// The site of the next call, with the image.
-    fn site(&mut self, alloc: Global, trouble: Trouble) -> Result<NotedSite, AllocError> {
-        let image = mem::replace(&mut self.image, Vec::new(alloc));
-        NotedSite::new(alloc, image, trouble)
-    }
-
-    /// Keeps what a call did, and the image that it or a crash leaves.
-    fn keep(&mut self, end: End, crash: Crash) -> Result<(), AllocError> {
-        let (status, entries, site) = end;
-        self.status = status;
-        self.entries = entries;
-        self.failed_put = site.failed_put();
-        let kept = replace(&mut self.sunk, site.sunk());
-        site.leave(crash, &mut self.image)?;
-        kept
-    }
-
-    /// Notes the answers of a run.
-    fn note(&mut self) -> Result<(), AllocError> {
-        self.answers.clear();
-        push_answers(self.sunk.as_slice(), &mut self.answers)?;
-        self.all.extend_from_slice(self.answers.as_slice())
-    }
-
-    /// A run over these items.
-    pub fn run<R: Threads + Wait + Sync>(
-        &mut self,
-        rt: &R,
-        alloc: Global,
-        items: &[u8],
-        trouble: Trouble,
-    ) -> Result<(), AllocError> {
-        let input = joined(alloc, &[BEGINNING, items])?;
-        let site = self.site(alloc, trouble)?;
-        self.keep(served(rt, alloc, input, site), trouble.crash)?;
-        self.note()
-    }
-
-    /// Asks `stat` of the image.
-    pub fn stat(&mut self, alloc: Global, trouble: Trouble) -> Result<(), AllocError> {
-        let site = self.site(alloc, trouble)?;
-        let words = words_of(alloc, "stat")?;
-        self.keep(called(alloc, words.as_slice(), site), trouble.crash)
+        page.check(replace(&mut self.image, image));
     }
 
     /// How many answers of the last run have this code.
@@ -124,6 +203,33 @@ impl Disk {
 
     /// That all runs over the image used a number of a key twice, or accepted one twice.
     pub fn repeat(&self) -> Option<&'static str> {
-        repeat_in(self.all.as_slice())
+        repeat_in(&self.all)
+    }
+}
+
+impl<R: Threads + Wait + Sync> Disk<'_, R> {
+    /// Calls the unit with this word, `run` or `stat`: a run is over these items.
+    pub fn call(&mut self, word: &str, items: &[u8], trouble: Trouble, page: &mut Page) {
+        let Ok(words) = words_of(page.alloc(), word) else {
+            return page.spoil();
+        };
+        let mut input = page.copy(BEGINNING);
+        page.check(input.extend_from_slice(items));
+        let image = mem::replace(&mut self.image, Vec::new(page.alloc()));
+        let site = NotedSite::new(image, trouble, page);
+        let (status, entries, site) = match word {
+            "run" => served(self.rt, page.alloc(), input, site),
+            _ => called(page.alloc(), &words, site),
+        };
+        self.status = status;
+        self.entries = entries;
+        self.failed_put = site.failed_put;
+        page.check(replace(&mut self.sunk, site.inside.sunk()));
+        site.leave(&mut self.image, page);
+        if word == "run" {
+            self.answers.clear();
+            push_answers(&self.sunk, &mut self.answers, page);
+            page.check(self.all.extend_from_slice(&self.answers));
+        }
     }
 }

@@ -35,41 +35,26 @@
 #![tactic(auto)]
 
 mod answers;
-mod chance;
 mod disk;
-mod failing;
-mod frames;
-mod ground;
 mod items;
 mod life;
-mod noted_site;
-mod plans;
-mod refused;
 mod runs;
-mod script;
-mod spacecraft;
 mod station;
-mod stops;
 mod table;
-mod texts;
-mod trouble;
-mod way;
 
+use case_lines::Page;
 use table::Table;
 
 fn main(rt: HostRuntime) -> anyhow::Result<()> {
     let mut table = Table::new(&rt, rt.alloc());
-    let mut answer = String::new(rt.alloc());
+    let mut page = Page::new(rt.alloc());
     for line in rt.lines(rt.alloc()) {
-        let line = line?;
-        answer.clear();
-        if line.as_str().starts_with("#") {
-            answer.push_str(line.as_str())?;
-        } else {
-            table.step(rt.alloc(), line.as_str(), &mut answer)?;
-        }
-        if !answer.is_empty() {
-            println!(rt; "{answer}")?;
+        page.clear();
+        table.answer(line?.as_str(), &mut page);
+        match page.written() {
+            Some("") => {}
+            Some(text) => println!(rt; "{text}")?,
+            None => anyhow::bail!("no memory, or digits that are none"),
         }
     }
     Ok(())
