@@ -286,10 +286,8 @@ impl<R: Threads + Wait + Sync> Table<'_, R> {
         let Ok(words) = words_of(page.alloc(), line) else {
             return page.spoil();
         };
-        let (source, site) = (
-            self.input.source(page.alloc()),
-            self.disk.site(page.alloc()),
-        );
+        let source = self.input.source(page.alloc());
+        let site = self.disk.site(page.alloc());
         let (status, count, site) = ran(self.rt, page.alloc(), &words, source, site);
         self.disk.keep(site, page);
         write!(page, "status {status} entries {count}");
@@ -324,8 +322,11 @@ impl<R: Threads + Wait + Sync> Table<'_, R> {
             "record" => self.record(page),
             "audited" => self.audit(page),
             "judge" => judge_octets(&self.disk.image, rest, page),
-            _ if self.input.take(word, rest, page) || self.disk.take(word, rest, page) => {}
-            _ => self.command(line, page),
+            _ => {
+                if !self.input.take(word, rest, page) && !self.disk.take(word, rest, page) {
+                    self.command(line, page);
+                }
+            }
         }
     }
 
