@@ -10,9 +10,11 @@ ghost use Rattle.unit_image.specs.ContentReading.{FitsVersion};
 ghost use Rattle.disk_journal.specs.declared.layout.HeaderForm.TheVariants.{Old};
 ghost use Rattle.disk_journal.specs.Initial.{created_image};
 ghost use Rattle.unit_image.specs.Beginning.{SaysPlan, image_of_plan};
+ghost use Rattle.sdls_base.specs.Version.{content_length_of};
+ghost use Rattle.case_units.specs.Images.{first_image};
 
 use disk_journal::{JournalFault, create};
-use sdls_base::{CONTENT_LENGTH_ONE, CONTENT_LENGTH_TWO, Version};
+use sdls_base::{CONTENT_LENGTH_ONE, Version};
 use sdls_outside::{Crash, MemSite, Site};
 use std::alloc::Global;
 use unit_image::{create_image, write_content};
@@ -44,65 +46,6 @@ fn zeros(alloc: Global, count: usize) -> Option<Vec<u8>>
     vec![in alloc; 0; count].ok()
 }
 
-/// The image of a plan and its first state, made in these rooms.
-fn image_made(
-    alloc: Global,
-    text: &[u8],
-    plan: &Plan,
-    state: &State,
-    bare: &mut [u8],
-    content: &mut [u8],
-) -> Option<Vec<u8>>
-    requires says { SaysPlan text.now plan.now state.now }
-    requires room { length text.now + 1 ≤ length bare.old }
-    requires sized { length content.old ≡ CONTENT_LENGTH_TWO }
-    ensures { IfSome result (λ image. image.items ≡ image_of_plan text.now plan.now state.now) }
-{
-    let mut site = MemSite::new(alloc, Vec::new(alloc), Vec::new(alloc), None);
-    match create_image(&mut site, text, plan, state, bare, content) {
-        Ok(()) => Vec::from_slice(alloc, site.image()).ok(),
-        Err(_) => None,
-    }
-}
-
-/// The image of a plan and its first state.
-fn image_of_state(alloc: Global, text: &[u8], plan: &Plan, state: &State) -> Option<Vec<u8>>
-    requires says { SaysPlan text.now plan.now state.now }
-    requires short { length text.now ≤ MOST_OCTETS }
-    ensures { IfSome result (λ image. image.items ≡ image_of_plan text.now plan.now state.now) }
-{
-    let mut bare = zeros(alloc, text.len() + 1)?;
-    let mut content = zeros(alloc, CONTENT_LENGTH_TWO)?;
-    image_made(alloc, text, plan, state, &mut bare, &mut content)
-}
-
-/// The image of a plan that was read.
-fn image_of_lines(alloc: Global, text: &[u8], plan: &Plan) -> Option<Vec<u8>>
-    requires read { plan_of text.now ≡ Ok plan.now }
-    requires short { length text.now ≤ MOST_OCTETS }
-    ensures { IfSome result (λ image. (first : State)
-        × SaysPlan text.now plan.now first × (image.items ≡ image_of_plan text.now plan.now first)) }
-{
-    match State::initial(alloc, plan) {
-        Ok(state) => image_of_state(alloc, text, plan, &state),
-        Err(_) => None,
-    }
-}
-
-/// The image that the plan of a text begins with. `None` if the text is no plan, or memory ran out.
-pub fn image_of(alloc: Global, text: &[u8]) -> Option<Vec<u8>>
-    ensures { IfSome result (λ image. (plan : PlanLines) × (first : State)
-        × SaysPlan text.now plan first × (image.items ≡ image_of_plan text.now plan first)) }
-{
-    if text.len() > MOST_OCTETS {
-        return None;
-    }
-    match Plan::read(alloc, text) {
-        Ok(plan) => image_of_lines(alloc, text, &plan),
-        Err(_) => None,
-    }
-}
-
 /// Writes the image of version 1 that the plan of a text begins with, in this state, if there is no image. The bare
 /// plan and the content are written into `bare` and `content` first.
 fn create_old_image<O: Site>(
@@ -127,9 +70,10 @@ fn create_old_image<O: Site>(
     create(site, &bare[..end], plan.slots(), content)
 }
 
-/// The image of version 1 of a plan and its first state, made in these rooms.
-fn old_image_made(
+/// The image of this version of a plan and its first state, made in these rooms.
+fn image_made(
     alloc: Global,
+    version: Version,
     text: &[u8],
     plan: &Plan,
     state: &State,
@@ -138,44 +82,77 @@ fn old_image_made(
 ) -> Option<Vec<u8>>
     requires says { SaysPlan text.now plan.now state.now }
     requires room { length text.now + 1 ≤ length bare.old }
-    requires sized { length content.old ≡ CONTENT_LENGTH_ONE }
-    requires fits { FitsVersion One state.now }
-    ensures { IfSome result (λ image. image.items
-        ≡ created_image Old (bare_of text.now) plan.now.slots (content_of One state.now)) }
+    requires sized { length content.old ≡ content_length_of version }
+    requires fits { FitsVersion version state.now }
+    ensures { IfSome result (λ image. image.items ≡ first_image version text.now plan.now state.now) }
 {
     let mut site = MemSite::new(alloc, Vec::new(alloc), Vec::new(alloc), None);
-    match create_old_image(&mut site, text, plan, state, bare, content) {
-        Ok(()) => Vec::from_slice(alloc, site.image()).ok(),
-        Err(_) => None,
+    match version {
+        Version::One => match create_old_image(&mut site, text, plan, state, bare, content) {
+            Ok(()) => Vec::from_slice(alloc, site.image()).ok(),
+            Err(_) => None,
+        },
+        Version::Two => match create_image(&mut site, text, plan, state, bare, content) {
+            Ok(()) => Vec::from_slice(alloc, site.image()).ok(),
+            Err(_) => None,
+        },
     }
 }
 
-/// The image of version 1 of a plan and its first state.
-fn old_image_of_state(alloc: Global, text: &[u8], plan: &Plan, state: &State) -> Option<Vec<u8>>
+/// The image of this version of a plan and its first state. `None` if the version has no room for its keys or
+/// associations.
+fn image_of_state(
+    alloc: Global,
+    version: Version,
+    text: &[u8],
+    plan: &Plan,
+    state: &State,
+) -> Option<Vec<u8>>
     requires says { SaysPlan text.now plan.now state.now }
     requires short { length text.now ≤ MOST_OCTETS }
-    ensures { IfSome result (λ image. image.items
-        ≡ created_image Old (bare_of text.now) plan.now.slots (content_of One state.now)) }
+    ensures { IfSome result (λ image. image.items ≡ first_image version text.now plan.now state.now) }
 {
-    if !unit_image::fits(Version::One, state) {
+    if !unit_image::fits(version, state) {
         return None;
     }
     let mut bare = zeros(alloc, text.len() + 1)?;
-    let mut content = zeros(alloc, CONTENT_LENGTH_ONE)?;
-    old_image_made(alloc, text, plan, state, &mut bare, &mut content)
+    let mut content = zeros(alloc, version.content_length())?;
+    image_made(alloc, version, text, plan, state, &mut bare, &mut content)
 }
 
-/// The image of version 1 of a plan that was read.
-fn old_image_of_lines(alloc: Global, text: &[u8], plan: &Plan) -> Option<Vec<u8>>
+/// The image of this version of a plan that was read.
+fn image_of_lines(alloc: Global, version: Version, text: &[u8], plan: &Plan) -> Option<Vec<u8>>
     requires read { plan_of text.now ≡ Ok plan.now }
     requires short { length text.now ≤ MOST_OCTETS }
     ensures { IfSome result (λ image. (first : State) × SaysPlan text.now plan.now first
-        × (image.items ≡ created_image Old (bare_of text.now) plan.now.slots (content_of One first))) }
+        × (image.items ≡ first_image version text.now plan.now first)) }
 {
     match State::initial(alloc, plan) {
-        Ok(state) => old_image_of_state(alloc, text, plan, &state),
+        Ok(state) => image_of_state(alloc, version, text, plan, &state),
         Err(_) => None,
     }
+}
+
+/// The image of this version that the plan of a text begins with.
+fn image_of_version(alloc: Global, version: Version, text: &[u8]) -> Option<Vec<u8>>
+    ensures { IfSome result (λ image. (plan : PlanLines) × (first : State) × SaysPlan text.now plan first
+        × (image.items ≡ first_image version text.now plan first)) }
+{
+    if text.len() > MOST_OCTETS {
+        return None;
+    }
+    match Plan::read(alloc, text) {
+        Ok(plan) => image_of_lines(alloc, version, text, &plan),
+        Err(_) => None,
+    }
+}
+
+/// The image that the plan of a text begins with. `None` if the text is no plan, or memory ran out.
+pub fn image_of(alloc: Global, text: &[u8]) -> Option<Vec<u8>>
+    ensures { IfSome result (λ image. (plan : PlanLines) × (first : State)
+        × SaysPlan text.now plan first × (image.items ≡ image_of_plan text.now plan first)) }
+{
+    image_of_version(alloc, Version::Two, text)
 }
 
 /// The image of version 1 of the plan of a text, as earlier programs made it. `None` if the text is no plan, if version
@@ -184,13 +161,7 @@ pub fn image_of_version_one(alloc: Global, text: &[u8]) -> Option<Vec<u8>>
     ensures { IfSome result (λ image. (plan : PlanLines) × (first : State) × SaysPlan text.now plan first
         × (image.items ≡ created_image Old (bare_of text.now) plan.slots (content_of One first))) }
 {
-    if text.len() > MOST_OCTETS {
-        return None;
-    }
-    match Plan::read(alloc, text) {
-        Ok(plan) => old_image_of_lines(alloc, text, &plan),
-        Err(_) => None,
-    }
+    image_of_version(alloc, Version::One, text)
 }
 
 /// The image of a plan with so many slots and blocks of so many numbers, and these lines behind its first five.
