@@ -3,7 +3,6 @@
 #![tactic(auto)]
 
 mod images;
-mod needs;
 mod runs;
 mod texts;
 
@@ -11,9 +10,8 @@ pub use images::{
     TELECOMMAND_SENDER, TWO_SENDERS, crash_of, image_of, image_of_sender, image_of_version_one,
     place_of,
 };
-pub use needs::fits;
 pub use runs::{
     Answer, BEGINNING, FENCE, TELECOMMAND, joined, push_answers, push_frame, push_on_lane,
     push_record,
 };
-pub use texts::{open_reply_text, reply_text, shield_fault_text};
+pub use texts::{fits, open_reply_text, reply_text, shield_fault_text};

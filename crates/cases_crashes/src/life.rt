@@ -1,7 +1,8 @@
 //! A life of two units on one link: a ground station that sends commands and data up, and changes keys at both ends step
 //! by step, and a spacecraft that sends telemetry and reports down.
-use crate::answers::is_handled;
-use crate::items::{COMMAND, DATA, DOWN, Field, ORDER, REPORT, TELEMETRY, UP, field_of};
+
+use crate::disk::is_handled;
+use crate::runs::{COMMAND, DATA, DOWN, Field, ORDER, REPORT, TELEMETRY, UP, field_of};
 use crate::station::{Station, Way};
 use case_lines::Page;
 use case_units::{Answer, image_of};

@@ -34,9 +34,7 @@
 //! the image as it is; `stat_lines` leaves out what depends on the schedule of a run that ended by a crash.
 #![tactic(auto)]
 
-mod answers;
 mod disk;
-mod items;
 mod life;
 mod runs;
 mod station;

@@ -1,8 +1,9 @@
 //! The two units of a link, and the ways between them, which lose, repeat and delay frames. What was sent and accepted
 //! stands in plain lists.
+
 use crate::disk::{Disk, Trouble};
-use crate::items::{Field, Items, OPEN, field_in};
 use crate::life::Chance;
+use crate::runs::{Field, Items, OPEN, field_in};
 use case_lines::Page;
 use case_units::Answer;
 use record_io::code::PROTECTED;

@@ -1,9 +1,8 @@
 //! The steps, and what they answer.
-use crate::answers::{text_of, write_answer, write_answers, write_lines, write_state};
-use crate::disk::Trouble;
-use crate::items::{COMMAND, Items, OPEN, PROTECT};
+
+use crate::disk::{Trouble, text_of, write_answer, write_answers, write_lines, write_state};
 use crate::life::Life;
-use crate::runs::Runs;
+use crate::runs::{COMMAND, Items, OPEN, PROTECT, Runs};
 use case_lines::{Gathered, Page, cut, length_at, number_at, octets_at, set_octets_at, word_at};
 use case_units::{FENCE, crash_of, image_of, image_of_version_one, place_of};
 use std::alloc::Global;

@@ -16,7 +16,6 @@
 #![tactic(auto)]
 
 mod table;
-mod unit;
 
 use case_lines::print_answers;
 use table::Table;

@@ -1,14 +1,27 @@
 //! The steps, and what they answer.
 
-use crate::unit::Unit;
+//! A unit on one lane: the book, and the next number of each key.
+ghost use Rattle.std.specs.Prelude.{◌≡◌, ◌≤◌, ℕ, ◌<◌, None, true, length, slice_index};
+ghost use Rattle.frame_shield.specs.Binding.{IsBinding, clear_fault};
+
 use case_lines::{
-    Answers, Digits, Gathered, Page, cut, length_at, number_at, numbers, octets_at, replace,
-    set_octets_at, word_at,
+    Answers, Digits, Gathered, Page, cut, direction_name, key_state_name, length_at, number_at,
+    numbers, octets_at, replace, sa_state_name, set_octets_at, suite_name, word_at,
 };
-use case_units::{crash_of, image_of, image_of_version_one};
-use sdls_outside::MemSite;
-use std::alloc::Global;
+use case_units::{
+    crash_of, image_of, image_of_version_one, open_reply_text, reply_text, shield_fault_text,
+};
+use ep_codec::{command_without_fault, one_command};
+use ep_core::Need;
+use frame_shield::{Binding, fits, shield};
+use key_book::KeyRow;
+use sa_book::SaRow;
+use sdls_base::{KeyId, Seen};
+use sdls_outside::{MemSite, Site};
+use std::alloc::{AllocError, Global};
+use std::marker::Model;
 use std::mem;
+use unit_book::{Book, BookFault};
 use unit_image::OpenFault;
 
 /// The lines of a plan and of a life that were gathered, the image as it lies and the one that was kept, the calls that
@@ -180,6 +193,265 @@ impl Answers for Table {
             ("times", rest) => self.repeat(rest, page),
             ("live", _) => self.live(page),
             _ => self.take_step(line, page),
+        }
+    }
+}
+
+/// A book that is kept. Contracts see it as the book.
+pub struct Unit<O: Site> {
+    book: Book<O>,
+    next: Vec<u64>,
+}
+
+impl<O: Site> Model for Unit<O> {
+    ghost use Rattle.unit_book.specs.Book.{BookView, IsKept};
+    ghost use Rattle.std.specs.Coded.{codes, coded_ℕ};
+    ghost use Rattle.std.specs.FinSet as set;
+    ghost use Rattle.std.specs.Ordering.{nat_cmp};
+
+    ghost Value = { BookView };
+
+    ghost coded = { Prim.hlevel (codes, set.code {R = nat_cmp} coded_ℕ) };
+
+    ghost view = { λ unit. unit.book };
+
+    ghost invariant = { λ unit. IsKept O.told unit.book };
+}
+
+impl<O: Site + Drop> Drop for Unit<O> {
+    fn drop(self) {
+        let _site = self.into_site();
+    }
+}
+
+/// Whether there is a word for each of so many rows, and each is at least 1.
+fn are_words(next: &[u64], rows: usize) -> bool
+    ensures { result ≡ true → (rows ≤ length next.now) × ((place : ℕ) → place < rows → 1 ≤ slice_index next.now place) }
+{
+    if next.len() < rows {
+        return false;
+    }
+    for place in 0..rows {
+        if next[place] < 1 {
+            return false;
+        }
+    }
+    true
+}
+
+/// Adds the marks of the rows that have no word yet.
+fn push_marks(next: &mut Vec<u64>, rows: &[KeyRow], page: &mut Page) {
+    for row in rows.iter().skip(next.len()) {
+        page.check(next.push(row.mark));
+    }
+}
+
+/// Writes a text, if there was memory for it.
+fn push_text(text: Result<String, AllocError>, page: &mut Page) {
+    match text {
+        Ok(text) => page.push_str(text.as_str()),
+        Err(AllocError) => page.spoil(),
+    }
+}
+
+/// Writes why a call on the book is refused.
+fn write_fault(fault: BookFault, page: &mut Page) {
+    match fault {
+        BookFault::SiteFault(count) => write!(page, "site fault {count}"),
+        BookFault::Stopped(count) => write!(page, "stopped {count}"),
+        BookFault::SessionFull => page.push_str("session full"),
+        BookFault::NoMemory => page.push_str("no memory"),
+    }
+}
+
+/// Writes what was done, or why the call on the book is refused.
+fn write_done(done: Result<(), BookFault>, word: &str, page: &mut Page) {
+    match done {
+        Ok(()) => page.push_str(word),
+        Err(fault) => write_fault(fault, page),
+    }
+}
+
+fn write_key(row: &KeyRow, page: &mut Page) {
+    let state = key_state_name(row.state);
+    let (id, mark, floor) = (row.id.get(), row.mark, row.floor);
+    write!(page, "; key {id} {state} mark {mark} floor {floor}");
+}
+
+fn write_association(row: &SaRow, page: &mut Page) {
+    let (direction, suite) = (direction_name(row.direction), suite_name(row.suite));
+    let (state, key) = (sa_state_name(row.state), row.key.map_or(0, |key| key.get()));
+    let (spi, high, width) = (row.spi.get(), row.window.high, row.window.width);
+    write!(page, "; sa {spi} {direction} {suite} {state} key {key}");
+    write!(page, " high {high} width {width}");
+}
+
+/// Writes the frame protected under the number that was drawn, with index, key and number.
+fn write_frame(binding: &Binding, number: u64, clear: &[u8], page: &mut Page)
+    requires binding { IsBinding binding.now }
+    requires fits { clear_fault binding.now clear.now ≡ None }
+{
+    if number == 0 || number >= binding.key.end() {
+        return page.push_str("no number");
+    }
+    let mut out = [0; 2_048];
+    let count = shield(binding, number, clear, &mut out);
+    let (spi, key) = (binding.spi.get(), binding.key.get());
+    let frame = Digits(out.get(..count).unwrap_or(&[]));
+    write!(page, "protected {spi} {key} {number} {frame}");
+}
+
+impl<O: Site> Unit<O> {
+    /// The unit of an image. Each key's next number is its mark.
+    pub fn open(site: O, page: &mut Page) -> Result<Unit<O>, (OpenFault, O)> {
+        let book = Book::open(page.alloc(), site)?;
+        let mut next = Vec::new(page.alloc());
+        push_marks(&mut next, book.state().keys.rows(), page);
+        Ok(Unit { book, next })
+    }
+
+    /// Ends the run: the site, and how many entries it has.
+    pub fn into_site(self) -> (O, usize) {
+        let Unit { book, next: _ } = self;
+        let (site, entries) = book.into_site();
+        (site, entries.len())
+    }
+
+    /// The next number of a key, 0 where it has none.
+    fn next_of(&self, key: KeyId) -> u64 {
+        let row = self.book.row_of(key);
+        let word = row.and_then(|row| self.next.get(row));
+        word.copied().unwrap_or(0)
+    }
+
+    fn set_next(&mut self, key: KeyId, number: u64) {
+        if let Some(row) = self.book.row_of(key) {
+            if let Some(word) = self.next.get_mut(row) {
+                *word = number;
+            }
+        }
+    }
+
+    /// Draws a number of a key, and sees to it that it is stored for: what was seen.
+    fn draw(&mut self, key: KeyId) -> Result<Seen, BookFault> {
+        let number = self.next_of(key);
+        if number >= key.end() {
+            return Ok(Seen::Exhausted(number));
+        }
+        self.set_next(key, number.saturating_add(1));
+        if self.book.state().keys.find(key).is_none() {
+            return Ok(Seen::Nothing);
+        }
+        self.book.reserve(key, number)?;
+        Ok(Seen::Number(number))
+    }
+
+    /// Writes the protected frame, with index, key and number, or why there is none.
+    fn protect_with(&mut self, binding: &Binding, clear: &[u8], page: &mut Page)
+        requires { IsBinding binding.now }
+    {
+        if let Err(fault) = fits(binding, clear) {
+            return push_text(shield_fault_text(page.alloc(), fault), page);
+        }
+        match self.draw(binding.key) {
+            Ok(Seen::Number(number)) => write_frame(binding, number, clear, page),
+            Ok(Seen::Exhausted(number)) => write!(page, "exhausted {} {number}", binding.key.get()),
+            Ok(Seen::Nothing | Seen::Word(_)) => page.push_str("no number"),
+            Err(fault) => write_fault(fault, page),
+        }
+    }
+
+    /// Protects a frame.
+    pub fn protect(&mut self, link: u8, clear: &[u8], page: &mut Page) {
+        match self.book.binding(link, clear) {
+            Ok(Some(binding)) => self.protect_with(&binding, clear, page),
+            Ok(None) => page.push_str("clear"),
+            Err(fault) => push_text(shield_fault_text(page.alloc(), fault), page),
+        }
+    }
+
+    /// Opens a frame. Its record has as its number how many entries there are.
+    pub fn accept(&mut self, link: u8, frame: &mut [u8], page: &mut Page) {
+        let index = self.book.count();
+        match self.book.accept(index, link, frame) {
+            Ok((reply, position)) => {
+                push_text(open_reply_text(page.alloc(), reply, frame), page);
+                write!(page, " at {position}");
+            }
+            Err(fault) => write_fault(fault, page),
+        }
+    }
+
+    /// What is seen of a key's numbers for a need.
+    fn seen_for(&mut self, need: &Need) -> Result<Seen, BookFault> {
+        match need {
+            Need::Nothing => Ok(Seen::Nothing),
+            Need::Look(key) => Ok(Seen::Word(self.next_of(*key))),
+            Need::Raise(key, number) => {
+                let word = self.next_of(*key);
+                self.set_next(*key, word.max(*number));
+                Ok(Seen::Word(word))
+            }
+            Need::Number(key) => self.draw(*key),
+        }
+    }
+
+    /// Handles a message with what was seen, where that is what it needs.
+    fn answered(&mut self, message: &[u8], seen: Seen, page: &mut Page) {
+        let Ok(need) = self.book.need(message) else {
+            return page.push_str("no memory");
+        };
+        if !case_units::fits(self.book.state(), &need, seen) {
+            return page.push_str("unfit");
+        }
+        one_command();
+        command_without_fault();
+        let index = self.book.count();
+        match self.book.command(index, message, seen) {
+            Ok((reply, position)) => {
+                push_text(reply_text(page.alloc(), &reply), page);
+                write!(page, " at {position}");
+            }
+            Err(fault) => write_fault(fault, page),
+        }
+    }
+
+    /// Does what a message asks. Its record has as its number how many entries there are.
+    pub fn command(&mut self, message: &[u8], page: &mut Page) {
+        let Ok(need) = self.book.need(message) else {
+            return page.push_str("no memory");
+        };
+        match self.seen_for(&need) {
+            Ok(seen) => self.answered(message, seen, page),
+            Err(fault) => write_fault(fault, page),
+        }
+        push_marks(&mut self.next, self.book.state().keys.rows(), page);
+    }
+
+    /// Releases what was not used.
+    pub fn release(&mut self, page: &mut Page) {
+        if !are_words(self.next.as_slice(), self.book.rows()) {
+            return page.push_str("no words");
+        }
+        write_done(self.book.release(self.next.as_slice()), "released", page);
+    }
+
+    /// Hands octets to the sink.
+    pub fn put(&mut self, octets: &[u8], page: &mut Page) {
+        write_done(self.book.put(octets), "put", page);
+    }
+
+    /// What the book shows.
+    pub fn tell(&self, page: &mut Page) {
+        let (used, slots) = (self.book.used(), self.book.plan().slots());
+        let (entries, changes) = (self.book.count(), self.book.changes());
+        write!(page, "slots {used} of {slots}");
+        write!(page, ", entries {entries}, changes {changes}");
+        for row in self.book.state().keys.rows() {
+            write_key(row, page);
+        }
+        for row in self.book.state().associations.rows() {
+            write_association(row, page);
         }
     }
 }

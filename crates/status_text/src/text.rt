@@ -109,9 +109,12 @@ fn put_association(text: &mut Vec<u8>, row: &SaRow) -> Result<(), NoMemory>
 {
     put_octets(text, b"sa ")?;
     put_decimal(text, u64::from(row.spi.get()))?;
-    put_spaced(text, direction_word(row.direction))?;
-    put_spaced(text, suite_word(row.suite))?;
-    put_spaced(text, sa_state_word(row.state))?;
+    put_octets(text, b" ")?;
+    put_octets(text, direction_word(row.direction))?;
+    put_octets(text, b" ")?;
+    put_octets(text, suite_word(row.suite))?;
+    put_octets(text, b" ")?;
+    put_octets(text, sa_state_word(row.state))?;
     put_key_and_window(text, row)?;
     put_octets(text, b"\n")
 }

@@ -3,7 +3,7 @@ use Rattle.ep_core.specs.declared.judging.Need.{Need}
 use Rattle.ep_core.specs.Seen.{MeetsNeed}
 use Rattle.unit_state.specs.declared.state.State.{State}
 use Rattle.cases_unit_book.proofs.OneNeed.{same_need}
-use Rattle.cases_unit_book.proofs.unit.Unit.answered.Goals as goal
+use Rattle.cases_unit_book.proofs.table.Unit.answered.Goals as goal
 
 -- what was seen fits the need that was told, and there is no other
 pub command-requires-clause-seen : goal.command-requires-clause-seen
