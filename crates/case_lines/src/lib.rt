@@ -9,10 +9,7 @@
 mod page;
 mod words;
 
-pub use page::{
-    Answers, Differences, Gathered, Page, Steps, Words, Written, print_answer, print_answers,
-    print_steps,
-};
+pub use page::{Answers, Differences, Gathered, Page, Words, print_answer, print_answers};
 pub use words::{
     Digits, channel, cut, decoded, direction, direction_name, flag, key, key_state, key_state_name,
     length_at, number, number_at, number_in, number_of, numbers, octet, octets, octets_at, part_at,

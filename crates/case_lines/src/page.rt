@@ -245,29 +245,3 @@ pub fn print_answers<T: Answers>(rt: &HostRuntime, table: &mut T) -> anyhow::Res
     }
     Ok(())
 }
-
-/// What a call returns that writes an answer into a text: only memory can be short.
-pub type Written = Result<(), AllocError>;
-
-/// What the lines of a table answer, written into one text of the caller: who returns a text of its own drops it on
-/// each way out, and each such drop is proved.
-pub trait Steps {
-    /// Writes what a line answers behind `answer`, and nothing if nothing is to be printed.
-    fn step(&mut self, alloc: Global, line: &str, answer: &mut String) -> anyhow::Result<()>;
-}
-
-/// A table of steps, as one of answers.
-#[derive(Drop)]
-struct Stepped<'a, T>(&'a mut T);
-
-impl<T: Steps> Answers for Stepped<'_, T> {
-    fn answer(&mut self, line: &str, page: &mut Page) {
-        let done = self.0.step(page.alloc, line, &mut page.text);
-        page.check(done);
-    }
-}
-
-/// Prints what each line of standard input answers, as `print_answers` does.
-pub fn print_steps<T: Steps>(rt: &HostRuntime, table: &mut T) -> anyhow::Result<()> {
-    print_answers(rt, &mut Stepped(table))
-}

@@ -14,4 +14,4 @@ pub use runs::{
     Answer, BEGINNING, FENCE, TELECOMMAND, joined, push_answers, push_frame, push_on_lane,
     push_record,
 };
-pub use texts::{fits, open_reply_text, reply_text, shield_fault_text};
+pub use texts::{fits, write_open_reply, write_reply, write_shield_fault};

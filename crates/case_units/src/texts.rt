@@ -1,31 +1,25 @@
-//! What answers look like.
-//! What a message needs, and what was seen.
+//! What answers look like, what a message needs, and what was seen.
 ghost use Rattle.std.specs.Prelude.{◌≡◌, ◌↔◌, true};
 ghost use Rattle.ep_core.specs.Seen.{MeetsNeed, IsNumberSeen, IsWord};
 
-use case_lines::{Digits, sa_state_name};
+use case_lines::{Digits, Page, sa_state_name};
 use ep_core::{Need, Reply};
 use frame_checks::OpenReply;
 use frame_shield::ShieldFault;
 use sdls_base::{KeyId, Seen};
-use std::alloc::{AllocError, Global};
 use unit_state::State;
 
-/// Why a frame is not protected.
-pub fn shield_fault_text(alloc: Global, fault: ShieldFault) -> Result<String, AllocError> {
+/// Writes why a frame is not protected.
+pub fn write_shield_fault(fault: ShieldFault, page: &mut Page) {
     match fault {
-        ShieldFault::Layout(check) => format!(in alloc; "layout {check}"),
-        ShieldFault::Channel => String::from_str(alloc, "channel"),
-        ShieldFault::State => String::from_str(alloc, "state"),
+        ShieldFault::Layout(check) => write!(page, "layout {check}"),
+        ShieldFault::Channel => page.push_str("channel"),
+        ShieldFault::State => page.push_str("state"),
     }
 }
 
-/// The reply to a frame, with the data field in the frame as it was left.
-pub fn open_reply_text(
-    alloc: Global,
-    reply: OpenReply,
-    frame: &[u8],
-) -> Result<String, AllocError> {
+/// Writes the reply to a frame, with the data field in the frame as it was left.
+pub fn write_open_reply(reply: OpenReply, frame: &[u8], page: &mut Page) {
     match reply {
         OpenReply::Accepted {
             spi,
@@ -36,16 +30,16 @@ pub fn open_reply_text(
         } => {
             let (spi, key) = (spi.get(), key.get());
             let field = Digits(frame.get(from..to).unwrap_or(&[]));
-            format!(in alloc; "accepted {spi} {key} {number} {field}")
+            write!(page, "accepted {spi} {key} {number} {field}");
         }
-        OpenReply::Clear => String::from_str(alloc, "clear"),
-        OpenReply::Layout(check) => format!(in alloc; "layout {check}"),
-        OpenReply::Channel => String::from_str(alloc, "channel"),
-        OpenReply::Spi => String::from_str(alloc, "spi"),
-        OpenReply::Direction => String::from_str(alloc, "direction"),
-        OpenReply::State(state) => format!(in alloc; "state {}", sa_state_name(state)),
-        OpenReply::Coverage => String::from_str(alloc, "coverage"),
-        OpenReply::Mac => String::from_str(alloc, "mac"),
+        OpenReply::Clear => page.push_str("clear"),
+        OpenReply::Layout(check) => write!(page, "layout {check}"),
+        OpenReply::Channel => page.push_str("channel"),
+        OpenReply::Spi => page.push_str("spi"),
+        OpenReply::Direction => page.push_str("direction"),
+        OpenReply::State(state) => write!(page, "state {}", sa_state_name(state)),
+        OpenReply::Coverage => page.push_str("coverage"),
+        OpenReply::Mac => page.push_str("mac"),
         OpenReply::Number {
             key,
             number,
@@ -53,20 +47,20 @@ pub fn open_reply_text(
             width,
         } => {
             let key = key.get();
-            format!(in alloc; "number {key} {number} high {high} width {width}")
+            write!(page, "number {key} {number} high {high} width {width}");
         }
     }
 }
 
-/// The reply to a command: key, number and message, or the detail in hexadecimal and the value.
-pub fn reply_text(alloc: Global, reply: &Reply) -> Result<String, AllocError> {
+/// Writes the reply to a command: key, number and message, or the detail in hexadecimal and the value.
+pub fn write_reply(reply: &Reply, page: &mut Page) {
     match reply {
         Reply::Done { key, number, pdu } => {
             let key = key.map_or(0, |key| key.get());
             let message = Digits(pdu.as_slice());
-            format!(in alloc; "done {key} {number} {message}")
+            write!(page, "done {key} {number} {message}");
         }
-        Reply::Refused { code, value } => format!(in alloc; "refused {code:02x} {value}"),
+        Reply::Refused { code, value } => write!(page, "refused {code:02x} {value}"),
     }
 }
 

@@ -13,7 +13,7 @@ use case_lines::{
     Answers, Digits, Gathered, Page, Words, cut, direction_name, key_state_name, number, number_at,
     sa_state_name, word_at,
 };
-use case_units::{fits, open_reply_text, reply_text, shield_fault_text};
+use case_units::{fits, write_open_reply, write_reply, write_shield_fault};
 use ep_codec::{Command, read_pdu};
 use ep_core::{Need, Reply, judge, plan_change};
 use frame_checks::{OpenReply, binding, open_frame};
@@ -21,18 +21,10 @@ use frame_shield::{Binding, ShieldFault};
 use key_book::KeyRow;
 use sa_book::SaRow;
 use sdls_base::{Change, KeyId, Seen};
-use std::alloc::{AllocError, Global};
+use std::alloc::Global;
 use std::marker::Model;
 use unit_plan::{Plan, PlanError};
 use unit_state::{State, rules_stay};
-
-/// Writes a text, if there was memory for it.
-fn push_text(text: Result<String, AllocError>, page: &mut Page) {
-    match text {
-        Ok(text) => page.push_str(text.as_str()),
-        Err(AllocError) => page.spoil(),
-    }
-}
 
 fn write_key(row: &KeyRow, page: &mut Page) {
     let state = key_state_name(row.state);
@@ -76,7 +68,7 @@ fn write_protected(binding: &Binding, number: u64, clear: &[u8], page: &mut Page
     match protected(binding, number, clear, page) {
         Ok(Some(frame)) => write!(page, "protected {spi} {key} {}", Digits(&frame)),
         Ok(None) => page.push_str("no number"),
-        Err(fault) => push_text(shield_fault_text(page.alloc(), fault), page),
+        Err(fault) => write_shield_fault(fault, page),
     }
 }
 
@@ -169,7 +161,7 @@ impl Scenario {
     /// Makes the change that was decided, and writes what is answered.
     fn carry_out(&mut self, change: &Change, reply: &Reply, page: &mut Page) {
         if self.apply(change, page) {
-            push_text(reply_text(page.alloc(), reply), page);
+            write_reply(reply, page);
         } else {
             page.push_str("not allowed");
         }
@@ -232,7 +224,7 @@ impl Scenario {
     fn receive(&mut self, line: &str, page: &mut Page) {
         let mut frame = page.octets_at(line, 1);
         let reply = self.open(link_of(line), frame.as_mut_slice());
-        push_text(open_reply_text(page.alloc(), reply, &frame), page);
+        write_open_reply(reply, &frame, page);
     }
 
     /// What a clear frame is to be protected under.
@@ -251,7 +243,7 @@ impl Scenario {
         match self.bind(link_of(line), &clear) {
             Ok(Some(binding)) => write_protected(&binding, number_at(line, 1), &clear, page),
             Ok(None) => page.push_str("clear"),
-            Err(fault) => push_text(shield_fault_text(page.alloc(), fault), page),
+            Err(fault) => write_shield_fault(fault, page),
         }
     }
 }

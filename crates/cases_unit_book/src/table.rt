@@ -9,7 +9,7 @@ use case_lines::{
     numbers, octets_at, replace, sa_state_name, set_octets_at, suite_name, word_at,
 };
 use case_units::{
-    crash_of, image_of, image_of_version_one, open_reply_text, reply_text, shield_fault_text,
+    crash_of, image_of, image_of_version_one, write_open_reply, write_reply, write_shield_fault,
 };
 use ep_codec::{command_without_fault, one_command};
 use ep_core::Need;
@@ -18,7 +18,7 @@ use key_book::KeyRow;
 use sa_book::SaRow;
 use sdls_base::{KeyId, Seen};
 use sdls_outside::{MemSite, Site};
-use std::alloc::{AllocError, Global};
+use std::alloc::Global;
 use std::marker::Model;
 use std::mem;
 use unit_book::{Book, BookFault};
@@ -246,14 +246,6 @@ fn push_marks(next: &mut Vec<u64>, rows: &[KeyRow], page: &mut Page) {
     }
 }
 
-/// Writes a text, if there was memory for it.
-fn push_text(text: Result<String, AllocError>, page: &mut Page) {
-    match text {
-        Ok(text) => page.push_str(text.as_str()),
-        Err(AllocError) => page.spoil(),
-    }
-}
-
 /// Writes why a call on the book is refused.
 fn write_fault(fault: BookFault, page: &mut Page) {
     match fault {
@@ -351,7 +343,7 @@ impl<O: Site> Unit<O> {
         requires { IsBinding binding.now }
     {
         if let Err(fault) = fits(binding, clear) {
-            return push_text(shield_fault_text(page.alloc(), fault), page);
+            return write_shield_fault(fault, page);
         }
         match self.draw(binding.key) {
             Ok(Seen::Number(number)) => write_frame(binding, number, clear, page),
@@ -366,7 +358,7 @@ impl<O: Site> Unit<O> {
         match self.book.binding(link, clear) {
             Ok(Some(binding)) => self.protect_with(&binding, clear, page),
             Ok(None) => page.push_str("clear"),
-            Err(fault) => push_text(shield_fault_text(page.alloc(), fault), page),
+            Err(fault) => write_shield_fault(fault, page),
         }
     }
 
@@ -375,7 +367,7 @@ impl<O: Site> Unit<O> {
         let index = self.book.count();
         match self.book.accept(index, link, frame) {
             Ok((reply, position)) => {
-                push_text(open_reply_text(page.alloc(), reply, frame), page);
+                write_open_reply(reply, frame, page);
                 write!(page, " at {position}");
             }
             Err(fault) => write_fault(fault, page),
@@ -409,7 +401,7 @@ impl<O: Site> Unit<O> {
         let index = self.book.count();
         match self.book.command(index, message, seen) {
             Ok((reply, position)) => {
-                push_text(reply_text(page.alloc(), &reply), page);
+                write_reply(&reply, page);
                 write!(page, " at {position}");
             }
             Err(fault) => write_fault(fault, page),

@@ -1,6 +1,4 @@
 //! The text, and its lines, each put behind a text.
-#![tactic(auto, unfolding(crate::specs::Text::slots_line, crate::specs::Text::key_line, crate::specs::Text::key_text, crate::specs::Text::held_text, crate::specs::Text::association_line, crate::specs::Text::association_text, crate::specs::Text::key_lines, crate::specs::Text::associations_text))]
-
 ghost use Rattle.std.specs.Prelude.{◌≡◌, ◌++◌, ◌<◌, map, All, IfOk, OnOk, IsPermutation};
 ghost use Rattle.std.specs.List.Sorted.{IsNonDecreasingBy};
 ghost use Rattle.key_book.specs.KeyBook.{IsKeyBook};
@@ -17,6 +15,7 @@ use text_words::{
 use unit_state::State;
 
 /// Writes a line for each of some keys, in their order.
+#[tactic(auto, unfolding(crate::specs::Text::key_lines))]
 fn put_key_lines(text: &mut Vec<u8>, rows: &[&KeyRow]) -> Result<(), NoMemory>
     ensures put { OnOk result (text.new.items ≡ text.old.items ++ key_lines (map (λ row. row.now) rows.now)) }
     ensures numbered { OnOk result (All (λ row. (0 < row.now.id) × (row.now.id < 65536)) rows.now) }
@@ -36,6 +35,7 @@ fn put_keys(text: &mut Vec<u8>, rows: &[KeyRow]) -> Result<(), NoMemory>
     put_key_lines(text, found.as_slice())
 }
 
+#[tactic(auto, unfolding(crate::specs::Text::associations_text))]
 fn put_associations(text: &mut Vec<u8>, rows: &[SaRow]) -> Result<(), NoMemory>
     ensures { OnOk result (text.new.items ≡ text.old.items ++ associations_text rows.now) }
 {
@@ -57,6 +57,7 @@ pub fn status_text(alloc: Global, state: &State, used: u32, slots: u32) -> Resul
     Ok(text)
 }
 
+#[tactic(auto, unfolding(crate::specs::Text::slots_line))]
 fn put_slots(text: &mut Vec<u8>, used: u32, slots: u32) -> Result<(), NoMemory>
     ensures { OnOk result (text.new.items ≡ text.old.items ++ slots_line used slots) }
 {
@@ -67,6 +68,7 @@ fn put_slots(text: &mut Vec<u8>, used: u32, slots: u32) -> Result<(), NoMemory>
     put_octets(text, b"\n")
 }
 
+#[tactic(auto, unfolding(crate::specs::Text::key_line, crate::specs::Text::key_text))]
 fn put_key(text: &mut Vec<u8>, row: &KeyRow) -> Result<(), NoMemory>
     ensures put { OnOk result (text.new.items ≡ text.old.items ++ key_line row.now) }
     ensures numbered { OnOk result ((0 < row.now.id) × (row.now.id < 65536)) }
@@ -93,6 +95,7 @@ fn put_back(text: &mut Vec<u8>, back: u8) -> Result<(), NoMemory>
 }
 
 /// Writes the key of an association, and its window.
+#[tactic(auto, unfolding(crate::specs::Text::held_text))]
 fn put_key_and_window(text: &mut Vec<u8>, row: &SaRow) -> Result<(), NoMemory>
     ensures { OnOk result (text.new.items ≡ text.old.items ++ key_and_window row.now) }
 {
@@ -104,17 +107,15 @@ fn put_key_and_window(text: &mut Vec<u8>, row: &SaRow) -> Result<(), NoMemory>
     put_back(text, row.window.back)
 }
 
+#[tactic(auto, unfolding(crate::specs::Text::association_line, crate::specs::Text::association_text))]
 fn put_association(text: &mut Vec<u8>, row: &SaRow) -> Result<(), NoMemory>
     ensures { OnOk result (text.new.items ≡ text.old.items ++ association_line row.now) }
 {
     put_octets(text, b"sa ")?;
     put_decimal(text, u64::from(row.spi.get()))?;
-    put_octets(text, b" ")?;
-    put_octets(text, direction_word(row.direction))?;
-    put_octets(text, b" ")?;
-    put_octets(text, suite_word(row.suite))?;
-    put_octets(text, b" ")?;
-    put_octets(text, sa_state_word(row.state))?;
+    put_spaced(text, direction_word(row.direction))?;
+    put_spaced(text, suite_word(row.suite))?;
+    put_spaced(text, sa_state_word(row.state))?;
     put_key_and_window(text, row)?;
     put_octets(text, b"\n")
 }
