@@ -18,7 +18,7 @@ use crate::values::put_values;
 use record_io::{ANSWER_HEADER, Answer, AnswerCode, NextAnswer, code, next_answer};
 use sdls_base::NoMemory;
 use sdls_outside::Source;
-use std::alloc::Global;
+use std::alloc::{AllocError, Global};
 use std::marker::Model;
 use text_words::{
     put_decimal, put_further_word, put_number_member, put_octets, put_spaced, put_word_member,
@@ -97,6 +97,14 @@ impl From<NoMemory> for TextError {
     }
 }
 
+impl From<AllocError> for TextError {
+    ghost from_gives = { λ _ e. e ≡ errors.NoMemory };
+
+    fn from(_refused: AllocError) -> TextError {
+        TextError::NoMemory
+    }
+}
+
 /// Why no line follows.
 #[derive(Clone, Copy, Debug, PartialEq, Eq)]
 pub enum AnswersEnd {
@@ -139,7 +147,7 @@ fn put_whole(
 {
     let mut line = Vec::new(alloc);
     put_answer(&mut line, form, index, answer)?;
-    put_octets(text, &line)?;
+    text.extend_from_slice(&line)?;
     Ok(())
 }
 

@@ -3,13 +3,14 @@
 
 ghost use Rattle.std.specs.Prelude.{◌≡◌, ◌++◌, ◌∷◌, [], OnOk};
 ghost use Rattle.std.specs.List.{flat_map};
+ghost use Rattle.ep_codec.specs.declared.reply_pdu.ReplyPdu.TheVariants as replies;
 ghost use Rattle.answer_text.specs.Part.{parts_text, Part, further_row, part_text, row_object, row_objects, row_words};
 ghost use Rattle.answer_text.specs.Reply.{reply_name, reply_procedure, reply_values, sealed_parts, window_field_parts};
 
 use crate::putting::{Form, put_named, put_named_octets, put_number, put_word};
 use ep_codec::{Procedure, ReplyPdu};
 use replay_window::{back_of, width_of};
-use sdls_base::{KeyId, KeyState, NoMemory};
+use sdls_base::{Direction, KeyId, KeyState, NoMemory, SaState, Spi, Suite};
 use text_words::{
     direction_word, key_state_word, procedure_word, put_further_word, put_number_member,
     put_octets, put_spaced, put_spaced_number, sa_state_word, suite_word,
@@ -79,6 +80,30 @@ fn put_window(text: &mut Vec<u8>, form: Form, window: u64) -> Result<(), NoMemor
     put_named(text, form, b"back", u64::from(back))
 }
 
+/// Writes what the reply of `status` carries.
+#[tactic(auto, unfolding(crate::specs::Reply::reply_values))]
+fn put_status(
+    text: &mut Vec<u8>,
+    form: Form,
+    spi: Spi,
+    state: SaState,
+    direction: Direction,
+    suite: Suite,
+    key: Option<KeyId>,
+    window: u64,
+) -> Result<(), NoMemory>
+    ensures { OnOk result (text.new.items
+        ≡ text.old.items ++ parts_text form (reply_values (replies.Status spi state direction suite key window))) }
+{
+    let key = key.map_or(0, |key| key.get());
+    put_named(text, form, b"spi", u64::from(spi.get()))?;
+    put_word(text, form, b"direction", direction_word(direction))?;
+    put_word(text, form, b"suite", suite_word(suite))?;
+    put_word(text, form, b"state", sa_state_word(state))?;
+    put_named(text, form, b"key", u64::from(key))?;
+    put_window(text, form, window)
+}
+
 /// Writes what the reply carries.
 #[tactic(auto, unfolding(crate::specs::Reply::reply_values))]
 pub fn put_reply_values(text: &mut Vec<u8>, form: Form, reply: &ReplyPdu) -> Result<(), NoMemory>
@@ -120,15 +145,7 @@ pub fn put_reply_values(text: &mut Vec<u8>, form: Form, reply: &ReplyPdu) -> Res
             suite,
             key,
             window,
-        } => {
-            let key = key.map_or(0, |key| key.get());
-            put_named(text, form, b"spi", u64::from(spi.get()))?;
-            put_word(text, form, b"direction", direction_word(*direction))?;
-            put_word(text, form, b"suite", suite_word(*suite))?;
-            put_word(text, form, b"state", sa_state_word(*state))?;
-            put_named(text, form, b"key", u64::from(key))?;
-            put_window(text, form, *window)
-        }
+        } => put_status(text, form, *spi, *state, *direction, *suite, *key, *window),
         _ => Ok(()),
     }
 }
