@@ -210,6 +210,39 @@ impl Script {
     }
 }
 
+impl<R> Station<'_, R> {
+    /// The step of the last command that a run handled, if it handled one. The steps are forgotten.
+    fn take_handled(&mut self) -> Option<u64> {
+        let sunk = self.disk.sunk.as_slice();
+        let answers = self.disk.answers.as_slice();
+        let mut handled = None;
+        for (step, answer) in self.steps.iter().zip(answers.iter()) {
+            if is_handled(answer, sunk) {
+                handled = Some(*step);
+            }
+        }
+        self.steps.clear();
+        handled
+    }
+
+    /// Takes what a run accepted. A command in it waits for the next run.
+    fn take_orders(&mut self, up: &mut Way, page: &mut Page) {
+        let sunk = self.disk.sunk.as_slice();
+        let answers = self.disk.answers.as_slice();
+        for answer in answers {
+            if let Some(octets) = answer.body_of(ACCEPTED, sunk) {
+                up.accept(answer, octets, page);
+                if let Some(field) = field_of(octets)
+                    && field.what == ORDER
+                {
+                    self.orders.push(COMMAND, 0, 0, field.message, page);
+                    page.check(self.steps.push(field.number));
+                }
+            }
+        }
+    }
+}
+
 /// Both units and the two ways between them: a ground station, and the changes of keys that it makes step by step; a
 /// spacecraft, and the number of the last step that it handled.
 #[derive(Drop)]
@@ -281,30 +314,14 @@ impl<'a, R> Life<'a, R> {
 
     /// Looks which commands the spacecraft handled in its run.
     fn look_far(&mut self) {
-        let disk = &self.spacecraft.disk;
-        for (step, answer) in self.spacecraft.steps.iter().zip(disk.answers.iter()) {
-            if is_handled(answer, &disk.sunk) {
-                self.handled = *step;
-            }
+        if let Some(step) = self.spacecraft.take_handled() {
+            self.handled = step;
         }
-        self.spacecraft.steps.clear();
     }
 
     /// Takes what the spacecraft accepted in a run. A command in it waits for the next run.
     fn receive_up(&mut self, page: &mut Page) {
-        let disk = &self.spacecraft.disk;
-        for answer in disk.answers.iter() {
-            if let Some(octets) = answer.body_of(ACCEPTED, &disk.sunk) {
-                self.up.accept(answer, octets, page);
-                if let Some(field) = field_of(octets)
-                    && field.what == ORDER
-                {
-                    let orders = &mut self.spacecraft.orders;
-                    orders.push(COMMAND, 0, 0, field.message, page);
-                    page.check(self.spacecraft.steps.push(field.number));
-                }
-            }
-        }
+        self.spacecraft.take_orders(&mut self.up, page);
     }
 
     /// Gathers what the spacecraft sends: telemetry, and a report of the last step that was handled.

@@ -27,7 +27,7 @@ pub struct Runs<'a, R> {
     pub items: Items,
     pub later: Option<Items>,
     word: &'static str,
-    pub tried: Disk<'a, R>,
+    tried: Disk<'a, R>,
     whole: Disk<'a, R>,
     alone: Disk<'a, R>,
 }
@@ -128,6 +128,13 @@ impl<R: Threads + Wait + Sync> Runs<'_, R> {
         self.tried.begin(&self.disk.image, page);
         self.tried
             .call(self.word, &self.items.octets, trouble, page);
+    }
+
+    /// What `stat` says of the image, which stays as it is.
+    pub fn stat_apart(&mut self, page: &mut Page) -> &[u8] {
+        self.tried.begin(&self.disk.image, page);
+        self.tried.call("stat", &[], Trouble::None, page);
+        self.tried.sunk.as_slice()
     }
 
     /// Calls it once more, over what is left.

@@ -124,12 +124,10 @@ impl<R: Threads + Wait + Sync> Table<'_, R> {
 
     /// Writes of what `stat` says of the image a digest and counts, or these alone.
     fn digest(&mut self, word: &str, page: &mut Page) {
-        let tried = &mut self.runs.tried;
-        tried.begin(&self.runs.disk.image, page);
-        tried.call("stat", &[], Trouble::None, page);
+        let text = text_of(self.runs.stat_apart(page));
         match word {
-            "stat" => write_state(text_of(&tried.sunk), page),
-            _ => write_lines(text_of(&tried.sunk), page),
+            "stat" => write_state(text, page),
+            _ => write_lines(text, page),
         }
     }
 

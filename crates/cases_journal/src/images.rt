@@ -1,5 +1,5 @@
 // Images: made, written by steps, opened and printed, also behind each death of a step.
-ghost use Rattle.std.specs.Prelude.{IfOk};
+ghost use Rattle.std.specs.Prelude.{◌≡◌, IfOk, length};
 ghost use Rattle.sdls_outside.specs.MemSite.{site_trace};
 ghost use Rattle.disk_journal.specs.Journal.{IsOpen, IsSettled};
 
@@ -59,23 +59,51 @@ fn at_rest(site: &mut MemSite) -> Result<Journal, JournalFault>
     Ok(journal)
 }
 
-/// Opens the image and brings it to rest. By `append OCTET` it adds a record of this octet alone, if a slot is free. By
-/// `turn OCTET` and `migrate OCTET` it writes a content of this octet alone, by a migration if the image is of version 1.
+/// Adds a record of this octet alone, if a slot is free.
+fn append(site: &mut MemSite, octet: u8) -> Result<(), JournalFault> {
+    let mut journal = at_rest(site)?;
+    if journal.used() == journal.slots() {
+        return Ok(());
+    }
+    journal.append(site, &[octet; BODY_LENGTH])
+}
+
+/// Writes a content of this octet alone by a turn.
+fn turn(site: &mut MemSite, octet: u8, page: &mut Page) -> Result<(), JournalFault> {
+    let mut journal = at_rest(site)?;
+    match vec![in page.alloc(); octet; journal.content_version().content_length()] {
+        Ok(content) => journal.turn(site, &content),
+        Err(_) => Ok(page.spoil()),
+    }
+}
+
+/// Migrates the image to a content, if it is of version 1.
+fn migrate(site: &mut MemSite, content: &[u8]) -> Result<(), JournalFault>
+    requires { length content.now ≡ CONTENT_LENGTH_TWO }
+{
+    let mut journal = at_rest(site)?;
+    match journal.content_version() {
+        Version::One => journal.migrate(site, content),
+        Version::Two => Ok(()),
+    }
+}
+
+/// Migrates the image to a content of this octet alone.
+fn migrate_to(site: &mut MemSite, octet: u8, page: &mut Page) -> Result<(), JournalFault> {
+    match vec![in page.alloc(); octet; CONTENT_LENGTH_TWO] {
+        Ok(content) => migrate(site, &content),
+        Err(_) => Ok(page.spoil()),
+    }
+}
+
+/// Does a step on the site: `settle`, `append OCTET`, `turn OCTET` or `migrate OCTET`.
 fn does(site: &mut MemSite, line: &str, page: &mut Page) -> Result<(), JournalFault> {
-    let (octet, mut journal) = (octet_of(word_at(line, 1)), at_rest(site)?);
+    let octet = octet_of(word_at(line, 1));
     match word_at(line, 0) {
-        "append" if journal.used() < journal.slots() => journal.append(site, &[octet; BODY_LENGTH]),
-        "turn" => match vec![in page.alloc(); octet; journal.content_version().content_length()] {
-            Ok(content) => journal.turn(site, &content),
-            Err(_) => Ok(page.spoil()),
-        },
-        "migrate" if journal.content_version() == Version::One => {
-            match vec![in page.alloc(); octet; CONTENT_LENGTH_TWO] {
-                Ok(content) => journal.migrate(site, &content),
-                Err(_) => Ok(page.spoil()),
-            }
-        }
-        _ => Ok(()),
+        "append" => append(site, octet),
+        "turn" => turn(site, octet, page),
+        "migrate" => migrate_to(site, octet, page),
+        _ => at_rest(site).map(|_| ()),
     }
 }
 
