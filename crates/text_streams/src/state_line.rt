@@ -1,5 +1,5 @@
 //! The lines of `stat`: what one says, read by its words, and its JSON object. Lines in, objects out.
-#![tactic(auto, unfolding(crate::specs::StateText::state_words, crate::specs::StateText::IsStateLine, crate::specs::StateObject::line_member, crate::specs::StateObject::further_number, crate::specs::StateObject::further_word, crate::specs::StateObject::key_members, crate::specs::StateObject::kind_members, crate::specs::StateObject::held_members, crate::specs::StateObject::line_members))]
+#![tactic(auto, unfolding(crate::specs::StateText::state_words, crate::specs::StateText::IsStateLine))]
 
 ghost use Rattle.std.specs.Prelude.{◌≡◌, ◌++◌, OnOk, ◌^◌, ◌<◌, ◌≤◌, ℕ, List, [], ◌∷◌, codes, decimal, Some, IfSome};
 ghost use Rattle.std.specs.Prelude.{IsTrue, IfNone};
@@ -9,7 +9,8 @@ ghost use Rattle.sdls_base.specs.declared.states.SaState.{SaState};
 ghost use Rattle.sdls_base.specs.declared.states.Suite.{Suite};
 ghost use Rattle.sdls_outside.specs.Faults.{Rose};
 ghost use Rattle.text_words.specs.Words.{direction_word, key_state_word, sa_state_word, suite_word};
-ghost use Rattle.text_streams.specs.StateObject.{back_member, line_member, line_members, object_text};
+ghost use Rattle.text_streams.specs.StateObject.{back_member, held_members, kind_members, line_member, line_members};
+ghost use Rattle.text_streams.specs.StateObject.{object_text};
 ghost use Rattle.text_streams.specs.declared.state_line.StateLine.{StateLine};
 ghost use Rattle.text_streams.specs.declared.state_line.StateLine.TheVariants as lines;
 ghost use Rattle.text_streams.specs.StateStream.{FailsNextLine, FailsText, IsStateCause, PutsObject, PutsObjects};
@@ -57,6 +58,7 @@ pub enum StateLine {
 }
 
 /// Writes how the object of a line begins.
+#[tactic(auto, unfolding(crate::specs::StateObject::line_member))]
 fn put_line_member(text: &mut Vec<u8>, word: &[u8]) -> Result<(), NoMemory>
     ensures { OnOk result (text.new.items ≡ text.old.items ++ line_member word.now) }
 {
@@ -65,6 +67,7 @@ fn put_line_member(text: &mut Vec<u8>, word: &[u8]) -> Result<(), NoMemory>
 }
 
 /// Writes the back window, if there is one.
+#[tactic(auto, unfolding(crate::specs::StateObject::further_number))]
 fn put_back(text: &mut Vec<u8>, back: u8) -> Result<(), NoMemory>
     ensures { OnOk result (text.new.items ≡ text.old.items ++ back_member back) }
 {
@@ -74,6 +77,32 @@ fn put_back(text: &mut Vec<u8>, back: u8) -> Result<(), NoMemory>
     put_further_number(text, b"back", u64::from(back))
 }
 
+#[tactic(auto, unfolding(crate::specs::StateObject::kind_members, crate::specs::StateObject::further_number, crate::specs::StateObject::further_word))]
+fn put_kind_members(
+    text: &mut Vec<u8>,
+    spi: u16,
+    direction: &[u8],
+    suite: &[u8],
+    state: &[u8],
+) -> Result<(), NoMemory>
+    ensures { OnOk result (text.new.items ≡ text.old.items ++ kind_members spi direction.now suite.now state.now) }
+{
+    put_further_number(text, b"spi", u64::from(spi))?;
+    put_further_word(text, b"direction", direction)?;
+    put_further_word(text, b"suite", suite)?;
+    put_further_word(text, b"state", state)
+}
+
+#[tactic(auto, unfolding(crate::specs::StateObject::held_members, crate::specs::StateObject::further_number))]
+fn put_held_members(text: &mut Vec<u8>, key: u16, window: u64, back: u8) -> Result<(), NoMemory>
+    ensures { OnOk result (text.new.items ≡ text.old.items ++ held_members key window back) }
+{
+    put_further_number(text, b"key", u64::from(key))?;
+    put_further_number(text, b"window", window)?;
+    put_back(text, back)
+}
+
+#[tactic(auto, unfolding(crate::specs::StateObject::line_members, crate::specs::StateObject::key_members, crate::specs::StateObject::further_number, crate::specs::StateObject::further_word))]
 fn put_members(text: &mut Vec<u8>, line: &StateLine) -> Result<(), NoMemory>
     ensures { OnOk result (text.new.items ≡ text.old.items ++ line_members line.now) }
 {
@@ -104,14 +133,10 @@ fn put_members(text: &mut Vec<u8>, line: &StateLine) -> Result<(), NoMemory>
             window,
             back,
         } => {
+            let (direction, suite) = (direction_word(direction), suite_word(suite));
             put_line_member(text, b"sa")?;
-            put_further_number(text, b"spi", u64::from(spi))?;
-            put_further_word(text, b"direction", direction_word(direction))?;
-            put_further_word(text, b"suite", suite_word(suite))?;
-            put_further_word(text, b"state", sa_state_word(state))?;
-            put_further_number(text, b"key", u64::from(key))?;
-            put_further_number(text, b"window", window)?;
-            put_back(text, back)
+            put_kind_members(text, spi, direction, suite, sa_state_word(state))?;
+            put_held_members(text, key, window, back)
         }
     }
 }
