@@ -9,8 +9,8 @@ ghost use Rattle.sdls_base.specs.declared.states.SaState.{SaState};
 ghost use Rattle.sdls_base.specs.declared.states.Suite.{Suite};
 ghost use Rattle.sdls_outside.specs.Faults.{Rose};
 ghost use Rattle.text_words.specs.Words.{direction_word, key_state_word, sa_state_word, suite_word};
-ghost use Rattle.text_streams.specs.StateObject.{back_member, held_members, kind_members, line_member, line_members};
-ghost use Rattle.text_streams.specs.StateObject.{object_text};
+ghost use Rattle.text_streams.specs.StateObject.{back_member, further_number, further_word, held_members, key_members};
+ghost use Rattle.text_streams.specs.StateObject.{kind_members, line_member, line_members, object_text};
 ghost use Rattle.text_streams.specs.declared.state_line.StateLine.{StateLine};
 ghost use Rattle.text_streams.specs.declared.state_line.StateLine.TheVariants as lines;
 ghost use Rattle.text_streams.specs.StateStream.{FailsNextLine, FailsText, IsStateCause, PutsObject, PutsObjects};
@@ -24,8 +24,8 @@ use sdls_outside::{Failed, Site, Source};
 use std::alloc::Global;
 use text_words::{
     direction_named, direction_word, key_state_named, key_state_word, number_spelled,
-    put_further_number, put_further_word, put_octets, put_word_member, sa_state_named,
-    sa_state_word, suite_named, suite_word,
+    put_number_member, put_octets, put_word_member, sa_state_named, sa_state_word, suite_named,
+    suite_word,
 };
 use unit_plan::Words;
 
@@ -66,8 +66,25 @@ fn put_line_member(text: &mut Vec<u8>, word: &[u8]) -> Result<(), NoMemory>
     put_word_member(text, b"line", word)
 }
 
-/// Writes the back window, if there is one.
+/// Writes a further member whose value is a number.
 #[tactic(auto, unfolding(crate::specs::StateObject::further_number))]
+fn put_further_number(text: &mut Vec<u8>, name: &[u8], number: u64) -> Result<(), NoMemory>
+    ensures { OnOk result (text.new.items ≡ text.old.items ++ further_number name.now number) }
+{
+    put_octets(text, b",")?;
+    put_number_member(text, name, number)
+}
+
+/// Writes a further member whose value is a string.
+#[tactic(auto, unfolding(crate::specs::StateObject::further_word))]
+fn put_further_word(text: &mut Vec<u8>, name: &[u8], word: &[u8]) -> Result<(), NoMemory>
+    ensures { OnOk result (text.new.items ≡ text.old.items ++ further_word name.now word.now) }
+{
+    put_octets(text, b",")?;
+    put_word_member(text, name, word)
+}
+
+/// Writes the back window, if there is one.
 fn put_back(text: &mut Vec<u8>, back: u8) -> Result<(), NoMemory>
     ensures { OnOk result (text.new.items ≡ text.old.items ++ back_member back) }
 {
@@ -77,7 +94,23 @@ fn put_back(text: &mut Vec<u8>, back: u8) -> Result<(), NoMemory>
     put_further_number(text, b"back", u64::from(back))
 }
 
-#[tactic(auto, unfolding(crate::specs::StateObject::kind_members, crate::specs::StateObject::further_number, crate::specs::StateObject::further_word))]
+#[tactic(auto, unfolding(crate::specs::StateObject::key_members))]
+fn put_key_members(
+    text: &mut Vec<u8>,
+    id: u16,
+    state: &[u8],
+    mark: u64,
+    floor: u64,
+) -> Result<(), NoMemory>
+    ensures { OnOk result (text.new.items ≡ text.old.items ++ key_members id state.now mark floor) }
+{
+    put_further_number(text, b"key", u64::from(id))?;
+    put_further_word(text, b"state", state)?;
+    put_further_number(text, b"mark", mark)?;
+    put_further_number(text, b"floor", floor)
+}
+
+#[tactic(auto, unfolding(crate::specs::StateObject::kind_members))]
 fn put_kind_members(
     text: &mut Vec<u8>,
     spi: u16,
@@ -93,7 +126,7 @@ fn put_kind_members(
     put_further_word(text, b"state", state)
 }
 
-#[tactic(auto, unfolding(crate::specs::StateObject::held_members, crate::specs::StateObject::further_number))]
+#[tactic(auto, unfolding(crate::specs::StateObject::held_members))]
 fn put_held_members(text: &mut Vec<u8>, key: u16, window: u64, back: u8) -> Result<(), NoMemory>
     ensures { OnOk result (text.new.items ≡ text.old.items ++ held_members key window back) }
 {
@@ -102,7 +135,7 @@ fn put_held_members(text: &mut Vec<u8>, key: u16, window: u64, back: u8) -> Resu
     put_back(text, back)
 }
 
-#[tactic(auto, unfolding(crate::specs::StateObject::line_members, crate::specs::StateObject::key_members, crate::specs::StateObject::further_number, crate::specs::StateObject::further_word))]
+#[tactic(auto, unfolding(crate::specs::StateObject::line_members))]
 fn put_members(text: &mut Vec<u8>, line: &StateLine) -> Result<(), NoMemory>
     ensures { OnOk result (text.new.items ≡ text.old.items ++ line_members line.now) }
 {
@@ -119,10 +152,7 @@ fn put_members(text: &mut Vec<u8>, line: &StateLine) -> Result<(), NoMemory>
             floor,
         } => {
             put_line_member(text, b"key")?;
-            put_further_number(text, b"key", u64::from(id))?;
-            put_further_word(text, b"state", key_state_word(state))?;
-            put_further_number(text, b"mark", mark)?;
-            put_further_number(text, b"floor", floor)
+            put_key_members(text, id, key_state_word(state), mark, floor)
         }
         StateLine::Association {
             spi,
@@ -133,9 +163,14 @@ fn put_members(text: &mut Vec<u8>, line: &StateLine) -> Result<(), NoMemory>
             window,
             back,
         } => {
-            let (direction, suite) = (direction_word(direction), suite_word(suite));
             put_line_member(text, b"sa")?;
-            put_kind_members(text, spi, direction, suite, sa_state_word(state))?;
+            put_kind_members(
+                text,
+                spi,
+                direction_word(direction),
+                suite_word(suite),
+                sa_state_word(state),
+            )?;
             put_held_members(text, key, window, back)
         }
     }
