@@ -3,6 +3,7 @@
 //! mostly without a clause: what the clauses of several say together takes long to prove.
 ghost use Rattle.std.specs.Prelude.{◌≡◌, ◌≤◌, true, IfSome, All};
 ghost use Rattle.sdls_base.specs.Bounds.{AreChannels};
+ghost use Rattle.replay_window.specs.Window.{IsFresh};
 ghost use Rattle.replay_window.specs.WindowField.{IsWindowField};
 ghost use Rattle.std.specs.Option.{ForSome};
 ghost use Rattle.sdls_base.specs.declared.states.Direction.TheVariants.{Receive};
@@ -11,7 +12,7 @@ ghost use Rattle.sa_book.specs.SaBook.{row_of};
 
 use crate::{Changed, windows, write_change};
 use case_lines::{Digits, Page, Words, channel, direction, key, key_state, number, spi};
-use replay_window::{MOST_BACK, Verdict};
+use replay_window::{MOST_BACK, Verdict, Window};
 use sa_book::{SaBook, SaRefusal, SaRow, rows_may_follow};
 use sdls_base::{ChannelId, Direction, NewSa, NoMemory, Octets, SaState, Spi, Suite};
 use std::alloc::Global;
@@ -43,6 +44,13 @@ fn new_association(alloc: Global, spi: Spi, words: &mut Words<'_>) -> Option<New
     })
 }
 
+/// Whether the number is fresh in the window, and its back window in its bounds.
+fn is_fresh(window: &Window, number: u64, end: u64) -> bool
+    ensures { result ≡ true → IsFresh window.now number end }
+{
+    window.back <= MOST_BACK && window.judge(number, end) == Verdict::Fresh
+}
+
 /// Whether the association is operational and receives, and the number is fresh on it.
 fn may_accept(row: &SaRow, number: u64) -> bool
     ensures { result ≡ true → MayAccept row.now number }
@@ -52,8 +60,7 @@ fn may_accept(row: &SaRow, number: u64) -> bool
     };
     row.state == SaState::Operational
         && row.direction == Direction::Receive
-        && row.window.back <= MOST_BACK
-        && row.window.judge(number, key.end()) == Verdict::Fresh
+        && is_fresh(&row.window, number, key.end())
 }
 
 /// Accepts a number where it is fresh on an operational receiving association: `SPI NUMBER`.
