@@ -213,11 +213,10 @@ impl Script {
 impl<R> Station<'_, R> {
     /// The step of the last command that a run handled, if it handled one. The steps are forgotten.
     fn take_handled(&mut self) -> Option<u64> {
-        let sunk = self.disk.sunk.as_slice();
-        let answers = self.disk.answers.as_slice();
+        let disk = &self.disk;
         let mut handled = None;
-        for (step, answer) in self.steps.iter().zip(answers.iter()) {
-            if is_handled(answer, sunk) {
+        for (step, answer) in self.steps.iter().zip(disk.answers.iter()) {
+            if is_handled(answer, &disk.sunk) {
                 handled = Some(*step);
             }
         }
@@ -227,10 +226,9 @@ impl<R> Station<'_, R> {
 
     /// Takes what a run accepted. A command in it waits for the next run.
     fn take_orders(&mut self, up: &mut Way, page: &mut Page) {
-        let sunk = self.disk.sunk.as_slice();
-        let answers = self.disk.answers.as_slice();
-        for answer in answers {
-            if let Some(octets) = answer.body_of(ACCEPTED, sunk) {
+        let disk = &self.disk;
+        for answer in disk.answers.iter() {
+            if let Some(octets) = answer.body_of(ACCEPTED, &disk.sunk) {
                 up.accept(answer, octets, page);
                 if let Some(field) = field_of(octets)
                     && field.what == ORDER
