@@ -179,13 +179,16 @@ fn read_in_pieces(case: Case<'_>, page: &mut Page) {
 
 /// Writes the header of an answer with a value in each place, if its body has three octets.
 fn answer_with_header(page: &mut Page) {
+    let Ok(body) = b"\x00\x2a\x14".to_vec(page.alloc()) else {
+        return page.spoil();
+    };
     let header = answer_header(&Answer {
         code: code::NUMBER,
         detail: 5,
         key: 0x8001,
         position: 258,
         number: 0xE93D_7E11,
-        body: ShortOctets::new(page.copy(b"\x00\x2a\x14")),
+        body: ShortOctets::new(body),
     });
     page.push_digits(header.as_slice());
 }
