@@ -103,7 +103,7 @@ pub fn read_sa_row(alloc: Global, row: &[u8; SA_ROW_LENGTH]) -> Result<SaParts, 
 }
 
 /// What the row of a security association in a bank says. The highest number accepted is not in it.
-#[derive(Clone, Debug, PartialEq, Eq, Drop)]
+#[derive(Clone, Debug, Drop)]
 pub struct SaParts {
     pub sa: NewSa,
     pub state: SaState,

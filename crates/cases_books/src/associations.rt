@@ -83,9 +83,17 @@ fn sends_none(book: &SaBook, spi: Spi) -> bool
     }
 }
 
+/// Whether two rows say the same.
+fn same_row(one: &SaRow, other: &SaRow) -> bool {
+    (one.spi, one.direction, one.suite) == (other.spi, other.direction, other.suite)
+        && (one.state, one.key, one.window) == (other.state, other.key, other.window)
+        && one.channels.as_slice() == other.channels.as_slice()
+}
+
 /// Whether two books have the same rows.
 fn same_rows(one: &SaBook, other: &SaBook) -> bool {
-    one.rows() == other.rows()
+    let (ones, others) = (one.rows(), other.rows());
+    ones.len() == others.len() && ones.iter().zip(others).all(|(a, b)| same_row(a, b))
 }
 
 /// The rows put into an empty book, in order.

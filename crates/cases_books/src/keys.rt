@@ -5,7 +5,7 @@ ghost use Rattle.std.specs.Prelude.{◌≡◌, IfOk, IfSome, All, length};
 
 use crate::{Changed, write_change};
 use case_lines::{Digits, Page, Words, decoded, key, key_state, number, short, spi};
-use key_book::{KeyBook, KeyRefusal, digest, rows_may_follow};
+use key_book::{KeyBook, KeyRefusal, KeyRow, digest, rows_may_follow};
 use sdls_base::{KeyId, KeyItem, KeyList, NoMemory, Octets, Spi};
 use std::alloc::{AllocError, Global};
 
@@ -95,9 +95,17 @@ fn move_marks(book: &mut KeyBook, word: &str, words: &mut Words<'_>) -> Option<K
     Some(id)
 }
 
+/// Whether two rows say the same.
+fn same_row(one: &KeyRow, other: &KeyRow) -> bool {
+    (one.id, one.state, one.mark, one.floor) == (other.id, other.state, other.mark, other.floor)
+        && one.bytes.as_slice() == other.bytes.as_slice()
+        && one.digest == other.digest
+}
+
 /// Whether two books have the same rows.
 fn same_rows(one: &KeyBook, other: &KeyBook) -> bool {
-    one.rows() == other.rows()
+    let (ones, others) = (one.rows(), other.rows());
+    ones.len() == others.len() && ones.iter().zip(others).all(|(a, b)| same_row(a, b))
 }
 
 /// The rows put into an empty book, in order.

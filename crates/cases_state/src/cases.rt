@@ -3,8 +3,7 @@ use crate::changes::load_of;
 use crate::{reading, shielding};
 use case_lines::{Digits, Page, Words, channel, key, number, spi, suite};
 use sdls_base::{
-    Change, Direction, FrameFault, KeyId, KeyRows, KeyState, NoMemory, SaState, Suite, fecf,
-    same_octets,
+    Change, Direction, FrameFault, KeyId, KeyState, NoMemory, SaState, Suite, fecf, same_octets,
 };
 use sdls_header::{SecurityHeader, Split, Vector, masked, read_spi, split, write_header};
 use std::fmt::Display;
@@ -79,40 +78,17 @@ fn answer_fecf(words: &mut Words<'_>, page: &mut Page) {
     write!(page, "{field:04x}");
 }
 
-/// Writes a load of keys, and whether it is its copy.
+/// Writes a load of keys as it is printed.
 fn write_load(load: &Change, page: &mut Page) {
-    let Ok(copy) = load.clone() else {
-        return page.spoil();
-    };
-    let same = copy == *load;
     if let Change::Load(items) = load {
-        write!(page, "{items:?} {load:?} same {same}");
+        write!(page, "{items:?} {load:?}");
     }
 }
 
-/// Writes how many rows there are, whether their copy is the same, and how many it gives back.
-fn write_rows(rows: &KeyRows, page: &mut Page) {
-    let Ok(copy) = rows.clone() else {
-        return page.spoil();
-    };
-    let count = rows.as_slice().len();
-    let same = copy == *rows;
-    let back = copy.into_vec().len();
-    write!(page, "{count} same {same} back {back}");
-}
-
-/// Writes a list of one row, which is of an active key, its copy, and its items given back.
-fn answer_rows(id: KeyId, page: &mut Page) {
-    let mut rows = Vec::new(page.alloc());
-    page.check(rows.push((id, KeyState::Active)));
-    write_rows(&KeyRows::new(rows), page);
-}
-
-/// Writes what a key serves for and the first number that it does not, a list of it, or its load as it is printed.
+/// Writes what a key serves for and the first number that it does not, or its load as it is printed.
 fn answer_key(word: &str, id: KeyId, octets: Vec<u8>, page: &mut Page) {
     match word {
         "key" => write!(page, "{:?} below {}", id.class(), id.end()),
-        "rows" => answer_rows(id, page),
         _ => write_load(&load_of(id, octets, page), page),
     }
 }
@@ -132,7 +108,7 @@ fn answer_plain(word: &str, words: &mut Words<'_>, page: &mut Page) {
         "spi" => write_found(spi(words).map(|spi| spi.get()), page),
         "channel" => write_found(channel(words).map(|channel| channel.get()), page),
         "numbers" => answer_numbers(page),
-        "key" | "printed" | "rows" => match key(words) {
+        "key" | "printed" => match key(words) {
             Some(id) => answer_key(word, id, page.octets(words), page),
             None => page.push_str("none"),
         },

@@ -4,7 +4,7 @@
 //! A case depends on no state, and is printed with what it answers: `tc`, `tm` and `aos` read a frame and write it
 //! again; `protect` protects a clear frame under a binding, `open` opens one, and `bits` opens one with each bit of the
 //! first six octets turned; `index`, `room`, `header` and `mask` are the calls of `sdls_header`; `spi`, `channel`,
-//! `key`, `fecf`, `same`, `printed`, `rows` and `numbers` those of `sdls_base`.
+//! `key`, `fecf`, `same`, `printed` and `numbers` those of `sdls_base`.
 //!
 //! `plan` and a line is gathered, and `begin` makes the state of the lines that were gathered. `copy` writes a copy in
 //! the place of the state, `restart` leaves what a restart leaves, and `show` prints its rows. `change` and a change in

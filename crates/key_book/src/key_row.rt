@@ -10,7 +10,7 @@ use std::fmt;
 use std::marker::Model;
 
 /// What a unit knows of a key. `Debug` prints its identifier and state alone.
-#[derive(Clone, Copy, PartialEq, Eq)]
+#[derive(Clone, Copy)]
 pub struct KeyRow {
     pub id: KeyId,
     pub state: KeyState,
@@ -130,29 +130,6 @@ impl Clone for KeyOctets {
     fn clone(&self) -> Result<KeyOctets, AllocError> {
         Ok(*self)
     }
-}
-
-impl PartialEq for KeyOctets {
-    ghost use Rattle.std.specs.Prelude.{nat_eq};
-    ghost use Rattle.std.specs.Cmp.Lexicographic.{pointwise, lists_per};
-    ghost use Rattle.std.specs.Cmp.Rules.{comparing};
-    ghost use Rattle.std.proofs.Common.{rules};
-
-    ghost eq = { pointwise nat_eq };
-
-    ghost laws = { lists_per (Prim.search (comparing, rules)) };
-
-    fn eq(&self, other: &KeyOctets) -> bool {
-        self.as_slice() == other.as_slice()
-    }
-}
-
-impl Eq for KeyOctets {
-    ghost use Rattle.std.specs.Cmp.Lexicographic.{lists_equiv};
-    ghost use Rattle.std.specs.Cmp.Rules.{comparing};
-    ghost use Rattle.std.proofs.Common.{rules};
-
-    ghost laws = { lists_equiv (Prim.search (comparing, rules)) };
 }
 
 impl fmt::Debug for KeyOctets {

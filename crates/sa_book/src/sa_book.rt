@@ -306,7 +306,7 @@ pub(crate) fn lower(rows: &mut Vec<SaRow>, key: KeyId, floor: u64)
 }
 
 /// A security association.
-#[derive(Clone, Debug, PartialEq, Eq, Drop)]
+#[derive(Clone, Debug, Drop)]
 pub struct SaRow {
     pub spi: Spi,
     pub direction: Direction,

@@ -18,7 +18,7 @@ pub enum Seen {
 }
 
 /// An entry of the history of a run.
-#[derive(Clone, Debug, PartialEq, Eq, Drop)]
+#[derive(Debug, Drop)]
 pub struct Entry {
     /// The number of the entry's record, `None` for a reserve or a release.
     pub index: Option<u64>,
@@ -27,14 +27,14 @@ pub struct Entry {
 }
 
 /// A line of the log of a run: an entry of its history, or a piece of output that was written.
-#[derive(Clone, Debug, PartialEq, Eq, Drop)]
+#[derive(Debug, Drop)]
 pub enum Logged {
     Entry(Entry),
     Piece(Octets),
 }
 
 /// A security association to be created.
-#[derive(Clone, Debug, PartialEq, Eq, Drop)]
+#[derive(Clone, Debug, Drop)]
 pub struct NewSa {
     pub spi: Spi,
     pub direction: Direction,
@@ -46,7 +46,7 @@ pub struct NewSa {
 }
 
 /// A change of the unit's state.
-#[derive(Clone, Debug, PartialEq, Eq, Drop)]
+#[derive(Debug, Drop)]
 pub enum Change {
     /// A key's mark and floor become these.
     Marks {

@@ -74,7 +74,7 @@ impl KeyId {
 }
 
 /// A key to be loaded. `Debug` prints its identifier alone.
-#[derive(Clone, PartialEq, Eq, Drop)]
+#[derive(Clone, Drop)]
 pub struct KeyItem {
     pub id: KeyId,
     /// The key itself, 16 or 32 octets where a call says so.

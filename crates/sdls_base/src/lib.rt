@@ -27,7 +27,7 @@ pub use error_control::fecf;
 pub use key_id::{KeyClass, KeyId, KeyItem};
 pub use layout::{AosLayout, FrameFault, TcLayout, TmLayout};
 pub use link::{AnyLayout, Link, Mask};
-pub use lists::{ChannelList, KeyItems, KeyList, KeyRows};
+pub use lists::{ChannelList, Items, KeyItems, KeyList, KeyRows};
 pub use no_memory::NoMemory;
 pub use ocf::cut_ocf;
 pub use octets::{

@@ -54,29 +54,6 @@ impl Clone for Octets {
     }
 }
 
-impl PartialEq for Octets {
-    ghost use Rattle.std.specs.Prelude.{nat_eq};
-    ghost use Rattle.std.specs.Cmp.Lexicographic.{pointwise, lists_per};
-    ghost use Rattle.std.specs.Cmp.Rules.{comparing};
-    ghost use Rattle.std.proofs.Common.{rules};
-
-    ghost eq = { pointwise nat_eq };
-
-    ghost laws = { lists_per (Prim.search (comparing, rules)) };
-
-    fn eq(&self, other: &Octets) -> bool {
-        self.items == other.items
-    }
-}
-
-impl Eq for Octets {
-    ghost use Rattle.std.specs.Cmp.Lexicographic.{lists_equiv};
-    ghost use Rattle.std.specs.Cmp.Rules.{comparing};
-    ghost use Rattle.std.proofs.Common.{rules};
-
-    ghost laws = { lists_equiv (Prim.search (comparing, rules)) };
-}
-
 impl fmt::Debug for Octets {
     fn fmt<W: fmt::Write>(&self, f: &mut fmt::Formatter<W>) -> fmt::Result {
         write!(f, "Octets({})", self.items.len())

@@ -57,7 +57,7 @@ fn apply_to_copy(state: &State, change: &Change) -> Result<Next, NoMemory>
     requires { Allows state.now change.now }
     ensures { IfOk result (IsNextState state.now change.now) }
 {
-    if *change == Change::Nothing {
+    if matches!(change, Change::Nothing) {
         return Ok(Next::Here);
     }
     let mut next = state.copy()?;

@@ -18,7 +18,7 @@ use std::alloc::Global;
 use std::marker::Model;
 
 /// What a `key` line says.
-#[derive(Clone, Debug, PartialEq, Eq, Drop)]
+#[derive(Clone, Debug, Drop)]
 pub struct PlanKey {
     /// The number of the line.
     pub line: u32,
@@ -28,7 +28,7 @@ pub struct PlanKey {
 }
 
 /// What an `sa` line says.
-#[derive(Clone, Debug, PartialEq, Eq, Drop)]
+#[derive(Clone, Debug, Drop)]
 pub struct PlanSa {
     /// The number of the line.
     pub line: u32,
