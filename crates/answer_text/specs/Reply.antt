@@ -6,33 +6,11 @@ use Rattle.ep_codec.specs.declared.reply_pdu.ReplyPdu.TheVariants.{Rekeying, Act
 use Rattle.ep_codec.specs.declared.reply_pdu.ReplyPdu.TheVariants.{Delete, SetWindow, Rekey, Expire, SetNumber, Start}
 use Rattle.ep_codec.specs.declared.reply_pdu.ReplyPdu.TheVariants.{Stop, VerifyGcm, VerifyCmac, Inventory, Compose}
 use Rattle.ep_codec.specs.declared.reply_pdu.ReplyPdu.TheVariants.{ReadNumber, Status}
-use Rattle.ep_codec.specs.declared.procedure.Procedure.{Procedure}
-use Rattle.ep_codec.specs.declared.procedure.Procedure.TheVariants as procedures
+use Rattle.ep_codec.specs.ReplyReading.{reply_procedure}
 use Rattle.text_words.specs.Names.{procedure_word}
 use Rattle.text_words.specs.Words.{sa_state_word, direction_word, suite_word}
 use Rattle.answer_text.specs.Part.{Part}
 use Rattle.answer_text.specs.Part.Part.{named, number, word, octets, rows}
-
--- the procedure whose reply it is
-abbrev pub reply_procedure : ReplyPdu → Procedure
-reply_procedure Rekeying = procedures.Rekeying
-reply_procedure Activate = procedures.Activate
-reply_procedure Deactivate = procedures.Deactivate
-reply_procedure Destroy = procedures.Destroy
-reply_procedure Create = procedures.Create
-reply_procedure Delete = procedures.Delete
-reply_procedure SetWindow = procedures.SetWindow
-reply_procedure Rekey = procedures.Rekey
-reply_procedure Expire = procedures.Expire
-reply_procedure SetNumber = procedures.SetNumber
-reply_procedure Start = procedures.Start
-reply_procedure Stop = procedures.Stop
-reply_procedure (VerifyGcm key vector sealed tag) = procedures.Verify
-reply_procedure (VerifyCmac key count mac) = procedures.Verify
-reply_procedure (Inventory total keys) = procedures.Inventory
-reply_procedure (Compose master vector sealed tag) = procedures.Compose
-reply_procedure (ReadNumber spi count) = procedures.ReadNumber
-reply_procedure (Status spi state direction suite key window) = procedures.Status
 
 -- of an inventory the count of the keys
 abbrev pub total_parts : ReplyPdu → List Part

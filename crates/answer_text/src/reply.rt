@@ -5,10 +5,10 @@ ghost use Rattle.std.specs.Prelude.{◌≡◌, ◌++◌, ◌∷◌, [], OnOk};
 ghost use Rattle.std.specs.List.{flat_map};
 ghost use Rattle.ep_codec.specs.declared.reply_pdu.ReplyPdu.TheVariants as replies;
 ghost use Rattle.answer_text.specs.Part.{parts_text, Part, further_row, part_text, row_object, row_objects, row_words};
-ghost use Rattle.answer_text.specs.Reply.{reply_name, reply_procedure, reply_values, sealed_parts, window_field_parts};
+ghost use Rattle.answer_text.specs.Reply.{reply_name, reply_values, sealed_parts, window_field_parts};
 
 use crate::putting::{Form, put_named, put_named_octets, put_number, put_word};
-use ep_codec::{Procedure, ReplyPdu};
+use ep_codec::ReplyPdu;
 use replay_window::{back_of, width_of};
 use sdls_base::{Direction, KeyId, KeyState, NoMemory, SaState, Spi, Suite};
 use text_words::{
@@ -16,36 +16,12 @@ use text_words::{
     put_octets, put_spaced, put_spaced_number, sa_state_word, suite_word,
 };
 
-fn procedure_of(reply: &ReplyPdu) -> Procedure
-    ensures { result ≡ reply_procedure reply.now }
-{
-    match reply {
-        ReplyPdu::Rekeying => Procedure::Rekeying,
-        ReplyPdu::Activate => Procedure::Activate,
-        ReplyPdu::Deactivate => Procedure::Deactivate,
-        ReplyPdu::Destroy => Procedure::Destroy,
-        ReplyPdu::Create => Procedure::Create,
-        ReplyPdu::Delete => Procedure::Delete,
-        ReplyPdu::SetWindow => Procedure::SetWindow,
-        ReplyPdu::Rekey => Procedure::Rekey,
-        ReplyPdu::Expire => Procedure::Expire,
-        ReplyPdu::SetNumber => Procedure::SetNumber,
-        ReplyPdu::Start => Procedure::Start,
-        ReplyPdu::Stop => Procedure::Stop,
-        ReplyPdu::VerifyGcm { .. } | ReplyPdu::VerifyCmac { .. } => Procedure::Verify,
-        ReplyPdu::Inventory { .. } => Procedure::Inventory,
-        ReplyPdu::Compose { .. } => Procedure::Compose,
-        ReplyPdu::ReadNumber { .. } => Procedure::ReadNumber,
-        ReplyPdu::Status { .. } => Procedure::Status,
-    }
-}
-
 /// Writes the procedure, and of an inventory the count of the keys.
 #[tactic(auto, unfolding(crate::specs::Reply::reply_name))]
 pub fn put_reply_name(text: &mut Vec<u8>, form: Form, reply: &ReplyPdu) -> Result<(), NoMemory>
     ensures { OnOk result (text.new.items ≡ text.old.items ++ parts_text form (reply_name reply.now)) }
 {
-    put_word(text, form, b"reply", procedure_word(procedure_of(reply)))?;
+    put_word(text, form, b"reply", procedure_word(reply.procedure()))?;
     match reply {
         ReplyPdu::Inventory { total, .. } => put_number(text, form, b"total", u64::from(*total)),
         _ => Ok(()),

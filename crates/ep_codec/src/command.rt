@@ -70,7 +70,7 @@ pub enum Command {
 
 impl Command {
     /// The procedure whose message the command is.
-    pub(crate) fn procedure(&self) -> Procedure
+    pub fn procedure(&self) -> Procedure
         ensures { result ≡ command_procedure self.now }
     {
         match self {

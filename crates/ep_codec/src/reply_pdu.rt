@@ -63,7 +63,7 @@ pub enum ReplyPdu {
 
 impl ReplyPdu {
     /// The procedure whose message the reply is.
-    pub(crate) fn procedure(&self) -> Procedure
+    pub fn procedure(&self) -> Procedure
         ensures { result ≡ reply_procedure self.now }
     {
         match self {

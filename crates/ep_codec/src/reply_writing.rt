@@ -49,11 +49,11 @@ fn put_row(out: &mut Vec<u8>, row: &(KeyId, KeyState)) -> Result<(), NoMemory>
     Ok(())
 }
 
-fn put_rows(out: &mut Vec<u8>, rows: &KeyRows) -> Result<(), NoMemory>
+fn put_rows(out: &mut Vec<u8>, rows: &[(KeyId, KeyState)]) -> Result<(), NoMemory>
     ensures octets { OnOk result (out.new.items ≡ out.old.items ++ flat_map row_octets rows.now) }
     ensures types { OnOk result (AreKeyRows rows.now) }
 {
-    for row in rows.as_slice() {
+    for row in rows {
         put_row(out, row)?;
     }
     Ok(())
@@ -73,7 +73,7 @@ fn inventory_message(
 {
     let mut out = begin(alloc, kind, 2 + 3 * rows.as_slice().len())?;
     put_word(&mut out, total)?;
-    put_rows(&mut out, rows)?;
+    put_rows(&mut out, rows.as_slice())?;
     Ok(out)
 }
 
