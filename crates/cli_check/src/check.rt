@@ -61,17 +61,14 @@ pub fn run_check<S: Source, O: Site>(
         → S.faults source.new ≡ S.faults source.old }
     ensures no_history { result.entries.items ≡ [] }
 {
-    match put_check(key, source, &mut site) {
-        Ok(status) => Outcome {
-            status,
-            site,
-            entries: Vec::new(alloc),
-        },
-        Err(Failed) => Outcome {
-            status: SITE_FAULT,
-            site,
-            entries: Vec::new(alloc),
-        },
+    let status = match put_check(key, source, &mut site) {
+        Ok(status) => status,
+        Err(Failed) => SITE_FAULT,
+    };
+    Outcome {
+        status,
+        site,
+        entries: Vec::new(alloc),
     }
 }
 

@@ -1,4 +1,4 @@
-ghost use Rattle.std.specs.Prelude.{◌≡◌, ◌≢◌, ◌+◌, ◌≤◌, [], length, vec_len, decimal, IsTrue, IfOk};
+ghost use Rattle.std.specs.Prelude.{◌≡◌, ◌≢◌, ◌+◌, ◌≤◌, [], length, vec_len, IsTrue, IfOk};
 ghost use Rattle.sdls_outside.specs.Faults.{HasCause, Rose};
 ghost use Rattle.sdls_outside.specs.Moments.{EachMoment};
 ghost use Rattle.cli_image.specs.Init.{EndsInit, InitEnds, JudgesPlan, cause_text, cause_word, init_status, init_text};
@@ -6,8 +6,7 @@ ghost use Rattle.cli_image.specs.Init.{IsNoneOrInitial, LeavesNoOther, plan_faul
 ghost use Rattle.sdls_outside.specs.Intake.{TakesAtMost};
 ghost use Rattle.sdls_outside.specs.Output.{Delivers, OnlySinks};
 
-use command_words::put_text;
-use itoa::Buffer;
+use command_words::{put_number, put_text};
 use law_image::cut_beginning;
 use record_io::Outcome;
 use record_io::status::{DONE, MALFORMED, NO_MEMORY, NO_STATE, SITE_FAULT, SOURCE_FAULT};
@@ -175,29 +174,13 @@ fn cause_word(cause: PlanCause) -> &'static [u8]
     }
 }
 
-/// Writes a number in decimal digits.
-fn put_number<O: Site>(site: &mut O, number: u32) -> Result<(), Failed>
-    ensures delivered { IsTrue O.told → Delivers (decimal number) result (O.trace site.old) (O.trace site.new) }
-    ensures cause { HasCause (O.faults site.old) (O.faults site.new) result }
-{
-    let mut buffer = Buffer::new();
-    put_text(site, buffer.format(number).as_bytes())
-}
-
-fn put_word<O: Site>(site: &mut O, cause: PlanCause) -> Result<(), Failed>
-    ensures delivered { IsTrue O.told → Delivers (cause_word cause) result (O.trace site.old) (O.trace site.new) }
-    ensures cause { HasCause (O.faults site.old) (O.faults site.new) result }
-{
-    put_text(site, cause_word(cause))
-}
-
 /// Writes the end of the line that names a fault: its cause.
 fn put_cause<O: Site>(site: &mut O, cause: PlanCause) -> Result<(), Failed>
     ensures delivered { IsTrue O.told → Delivers (cause_text cause) result (O.trace site.old) (O.trace site.new) }
     ensures cause { HasCause (O.faults site.old) (O.faults site.new) result }
 {
     put_text(site, b" ")?;
-    put_word(site, cause)?;
+    put_text(site, cause_word(cause))?;
     put_text(site, b"\n")
 }
 
@@ -207,7 +190,7 @@ fn put_plan_fault<O: Site>(site: &mut O, fault: PlanFault) -> Result<(), Failed>
     ensures cause { HasCause (O.faults site.old) (O.faults site.new) result }
 {
     put_text(site, b"plan line ")?;
-    put_number(site, fault.line)?;
+    put_number(site, u64::from(fault.line))?;
     put_cause(site, fault.cause)
 }
 
@@ -239,16 +222,13 @@ pub(crate) fn run_init<S: Source, O: Site>(alloc: Global, source: &mut S, mut si
     ensures no_history { result.entries.items ≡ [] }
 {
     let end = initialize(alloc, source, &mut site);
-    match put_end(&mut site, end) {
-        Ok(()) => Outcome {
-            status: end.status(),
-            site,
-            entries: Vec::new(alloc),
-        },
-        Err(Failed) => Outcome {
-            status: SITE_FAULT,
-            site,
-            entries: Vec::new(alloc),
-        },
+    let status = match put_end(&mut site, end) {
+        Ok(()) => end.status(),
+        Err(Failed) => SITE_FAULT,
+    };
+    Outcome {
+        status,
+        site,
+        entries: Vec::new(alloc),
     }
 }

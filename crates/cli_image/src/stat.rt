@@ -1,5 +1,5 @@
 //! The word `stat`.
-ghost use Rattle.std.specs.Prelude.{◌≡◌, ◌≢◌, ◌≤◌, ◌++◌, [], ℕ, List, IsTrue, decimal};
+ghost use Rattle.std.specs.Prelude.{◌≡◌, ◌≢◌, ◌≤◌, ◌++◌, [], ℕ, List, IsTrue};
 ghost use Rattle.sdls_outside.specs.Faults.{HasCause, Rose};
 ghost use Rattle.sdls_outside.specs.Moments.{EachMoment};
 ghost use Rattle.unit_image.specs.Image.{held};
@@ -11,8 +11,7 @@ ghost use Rattle.sdls_outside.specs.Output.{Delivers};
 ghost use Rattle.cli_image.specs.Stat.{EndsStat, PutsText, ShowsAlone, TellsBook, end_of_open, fault_text, image_text};
 ghost use Rattle.cli_image.specs.Stat.{stat_status};
 
-use command_words::put_text;
-use itoa::Buffer;
+use command_words::{put_number, put_text};
 use record_io::Outcome;
 use record_io::status::{DONE, NO_MEMORY, NO_STATE, SITE_FAULT};
 use sdls_base::NoMemory;
@@ -106,22 +105,13 @@ fn tell_state<O: Site>(alloc: Global, mut book: Book<O>) -> Outcome<O>
     }
 }
 
-/// Writes an offset in decimal digits.
-fn put_offset<O: Site>(site: &mut O, offset: u64) -> Result<(), Failed>
-    ensures delivered { IsTrue O.told → Delivers (decimal offset) result (O.trace site.old) (O.trace site.new) }
-    ensures cause { HasCause (O.faults site.old) (O.faults site.new) result }
-{
-    let mut buffer = Buffer::new();
-    put_text(site, buffer.format(offset).as_bytes())
-}
-
 /// Writes the line that names the offset at which an image is refused.
 fn put_refused<O: Site>(site: &mut O, offset: u64) -> Result<(), Failed>
     ensures delivered { IsTrue O.told → Delivers (image_text offset) result (O.trace site.old) (O.trace site.new) }
     ensures cause { HasCause (O.faults site.old) (O.faults site.new) result }
 {
     put_text(site, b"image at ")?;
-    put_offset(site, offset)?;
+    put_number(site, offset)?;
     put_text(site, b"\n")
 }
 

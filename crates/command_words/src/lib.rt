@@ -7,4 +7,6 @@
 
 mod reading;
 
-pub use reading::{Command, MOST_FRAMES, command_of, end_with, end_with_usage, put_text};
+pub use reading::{
+    Command, MOST_FRAMES, command_of, end_with, end_with_usage, put_number, put_text,
+};

@@ -1,4 +1,4 @@
-ghost use Rattle.std.specs.Prelude.{◌≡◌, ◌≤◌, IfSome, ◌≢◌, [], IsTrue};
+ghost use Rattle.std.specs.Prelude.{◌≡◌, ◌≤◌, IfSome, ◌≢◌, [], IsTrue, decimal};
 ghost use Rattle.sdls_outside.specs.Faults.{Rose, HasCause};
 ghost use Rattle.sdls_outside.specs.Output.{OnlySinks, Delivers};
 ghost use Rattle.record_io.specs.Outcome.{Ends};
@@ -8,6 +8,7 @@ ghost use Rattle.command_words.specs.Words.{of_three, of_two};
 ghost use Rattle.command_words.specs.Lines.{usage_text};
 
 use aes_block::Schedule;
+use itoa::Buffer;
 use record_io::Outcome;
 use record_io::status::{SITE_FAULT, USAGE};
 use sdls_outside::{Failed, Site};
@@ -164,17 +165,14 @@ pub fn end_with<O: Site>(alloc: Global, mut site: O, line: &[u8], status: u8) ->
     ensures quiet { result.status ≢ SITE_FAULT → O.faults result.site ≡ O.faults site }
     ensures no_history { result.entries.items ≡ [] }
 {
-    match site.put(line) {
-        Ok(()) => Outcome {
-            status,
-            site,
-            entries: Vec::new(alloc),
-        },
-        Err(Failed) => Outcome {
-            status: SITE_FAULT,
-            site,
-            entries: Vec::new(alloc),
-        },
+    let status = match put_text(&mut site, line) {
+        Ok(()) => status,
+        Err(Failed) => SITE_FAULT,
+    };
+    Outcome {
+        status,
+        site,
+        entries: Vec::new(alloc),
     }
 }
 
@@ -195,4 +193,12 @@ pub fn put_text<O: Site>(site: &mut O, text: &[u8]) -> Result<(), Failed>
     ensures cause { HasCause (O.faults site.old) (O.faults site.new) result }
 {
     site.put(text)
+}
+
+/// Writes a number in decimal digits.
+pub fn put_number<O: Site>(site: &mut O, number: u64) -> Result<(), Failed>
+    ensures delivered { IsTrue O.told → Delivers (decimal number) result (O.trace site.old) (O.trace site.new) }
+    ensures cause { HasCause (O.faults site.old) (O.faults site.new) result }
+{
+    put_text(site, Buffer::new().format(number).as_bytes())
 }

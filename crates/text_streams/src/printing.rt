@@ -4,7 +4,6 @@
 ghost use Rattle.std.specs.Prelude.{◌≡◌, [], IfOk, OnOk, ◌++◌, ◌∷◌, decimal, map};
 ghost use Rattle.hex.specs.Hex.{IsBytes};
 ghost use Rattle.ep_codec.specs.declared.command.Command.TheVariants as commands;
-ghost use Rattle.ep_codec.specs.CommandReading.{command_procedure};
 ghost use Rattle.record_io.specs.declared.reader.ItemKind.TheVariants.{Fence};
 ghost use Rattle.record_io.specs.Input.{IsItem};
 ghost use Rattle.record_io.specs.Steps.{item_of};
@@ -16,7 +15,7 @@ ghost use Rattle.input_text.specs.Command.{command_words, value_words, window_wo
 ghost use Rattle.text_streams.specs.Spelling.{AddsLine, IsNamed, IsNamedAsked, seen_item, at_text, joined, line_text};
 ghost use Rattle.text_streams.specs.Spelling.{all_spaced};
 
-use ep_codec::{Command, PduError, Procedure, read_pdu};
+use ep_codec::{Command, PduError, read_pdu};
 use fsr_log::{Monitoring, read_monitoring};
 use input_text::{Asked, Line};
 use record_io::{ItemKind, Record, RecordKind};
@@ -210,30 +209,6 @@ fn put_line(text: &mut Vec<u8>, line: &Line) -> Result<(), NoMemory>
     put_octets(text, b"\n")
 }
 
-fn procedure_of(command: &Command) -> Procedure
-    ensures { result ≡ command_procedure command.now }
-{
-    match command {
-        Command::Rekeying { .. } => Procedure::Rekeying,
-        Command::Activate(_) => Procedure::Activate,
-        Command::Deactivate(_) => Procedure::Deactivate,
-        Command::Verify { .. } => Procedure::Verify,
-        Command::Destroy(_) => Procedure::Destroy,
-        Command::Inventory { .. } => Procedure::Inventory,
-        Command::Compose { .. } => Procedure::Compose,
-        Command::ReadNumber(_) => Procedure::ReadNumber,
-        Command::Create(_) => Procedure::Create,
-        Command::Delete(_) => Procedure::Delete,
-        Command::SetWindow { .. } => Procedure::SetWindow,
-        Command::Rekey { .. } => Procedure::Rekey,
-        Command::Expire(_) => Procedure::Expire,
-        Command::SetNumber { .. } => Procedure::SetNumber,
-        Command::Start(_) => Procedure::Start,
-        Command::Stop(_) => Procedure::Stop,
-        Command::Status(_) => Procedure::Status,
-    }
-}
-
 /// Writes the width of a window field, and its back window if it has one.
 fn put_window(text: &mut Vec<u8>, window: u64) -> Result<(), NoMemory>
     ensures { OnOk result (text.new.items ≡ text.old.items ++ all_spaced (window_words window)) }
@@ -316,7 +291,7 @@ fn put_values(text: &mut Vec<u8>, command: &Command) -> Result<(), NoMemory>
 fn put_command(text: &mut Vec<u8>, command: &Command) -> Result<(), NoMemory>
     ensures { OnOk result (text.new.items ≡ text.old.items ++ all_spaced (command_words command.now)) }
 {
-    put_spaced(text, procedure_word(procedure_of(command)))?;
+    put_spaced(text, procedure_word(command.procedure()))?;
     put_values(text, command)
 }
 

@@ -1,5 +1,5 @@
 //! The drill, and the drill over a link, with the lines that they write.
-ghost use Rattle.std.specs.Prelude.{◌≡◌, ◌≢◌, ◌+◌, ◌*◌, ◌≤◌, min, List, [], IfErr, IfOk, codes, ◌++◌, decimal, OnOk};
+ghost use Rattle.std.specs.Prelude.{◌≡◌, ◌≢◌, ◌+◌, ◌*◌, ◌≤◌, min, List, [], IfErr, IfOk, codes, ◌++◌, OnOk};
 ghost use Rattle.sdls_outside.specs.Faults.{Rose};
 ghost use Rattle.record_io.specs.declared.answers.Answer.{Answer};
 ghost use Rattle.record_io.specs.Outcome.{Ends, line};
@@ -16,7 +16,6 @@ use crate::laws::{drill_is_sound, link_drill_is_sound};
 use crate::records::CHUNK;
 use command_words::{MOST_FRAMES, end_with};
 use frame_workers::Gate;
-use itoa::Buffer;
 use record_io::Outcome;
 use record_io::status::{DONE, NO_MEMORY, SITE_FAULT};
 use sdls_base::NoMemory;
@@ -24,6 +23,7 @@ use sdls_outside::Site;
 use std::alloc::Global;
 use std::sync::Wait;
 use std::thread::Threads;
+use text_words::{put_decimal, put_octets};
 
 /// The number behind the last frame of a chunk.
 fn end_of(number: u64, chunk: u64) -> u64
@@ -165,18 +165,13 @@ pub fn drill_link<R: Threads + Wait + Sync, O: Site, G: Gate + Sync>(
     end_made(alloc, link_line_of(rt, alloc, number, gate), site)
 }
 
-fn add_text(line: &mut Vec<u8>, text: &[u8]) -> Result<(), NoMemory>
-    ensures { OnOk result (line.new.items ≡ line.old.items ++ text.now) }
+/// What is counted, and how many there are of it.
+#[tactic(auto, unfolding(crate::specs::Line::counted))]
+fn add_count(line: &mut Vec<u8>, what: &[u8], number: u64) -> Result<(), NoMemory>
+    ensures { OnOk result (line.new.items ≡ line.old.items ++ counted what.now number) }
 {
-    line.extend_from_slice(text)?;
-    Ok(())
-}
-
-fn add_number(line: &mut Vec<u8>, number: u64) -> Result<(), NoMemory>
-    ensures { OnOk result (line.new.items ≡ line.old.items ++ decimal number) }
-{
-    let mut buffer = Buffer::new();
-    add_text(line, buffer.format(number).as_bytes())
+    put_octets(line, what)?;
+    put_decimal(line, number)
 }
 
 /// `drill N protected A accepted B rejected C`, and a line feed.
@@ -185,25 +180,12 @@ pub(crate) fn drill_line(alloc: Global, number: u64, counts: Counts) -> Result<V
     ensures { IfOk result (λ line. line.items ≡ drill_text number counts) }
 {
     let mut line = Vec::new(alloc);
-    add_text(&mut line, b"drill ")?;
-    add_number(&mut line, number)?;
-    add_text(&mut line, b" protected ")?;
-    add_number(&mut line, counts.protected)?;
-    add_text(&mut line, b" accepted ")?;
-    add_number(&mut line, counts.accepted)?;
-    add_text(&mut line, b" rejected ")?;
-    add_number(&mut line, counts.rejected)?;
-    add_text(&mut line, b"\n")?;
+    add_count(&mut line, b"drill ", number)?;
+    add_count(&mut line, b" protected ", counts.protected)?;
+    add_count(&mut line, b" accepted ", counts.accepted)?;
+    add_count(&mut line, b" rejected ", counts.rejected)?;
+    put_octets(&mut line, b"\n")?;
     Ok(line)
-}
-
-/// What is counted, and how many there are of it.
-#[tactic(auto, unfolding(crate::specs::Line::counted))]
-fn add_count(line: &mut Vec<u8>, what: &[u8], number: u64) -> Result<(), NoMemory>
-    ensures { OnOk result (line.new.items ≡ line.old.items ++ counted what.now number) }
-{
-    add_text(line, what)?;
-    add_number(line, number)
 }
 
 /// `drill link N protected A lost L accepted B rejected C`, and a line feed.
@@ -217,6 +199,6 @@ pub(crate) fn link_line(alloc: Global, number: u64, counts: Counts) -> Result<Ve
     add_count(&mut line, b" lost ", counts.lost)?;
     add_count(&mut line, b" accepted ", counts.accepted)?;
     add_count(&mut line, b" rejected ", counts.rejected)?;
-    add_text(&mut line, b"\n")?;
+    put_octets(&mut line, b"\n")?;
     Ok(line)
 }

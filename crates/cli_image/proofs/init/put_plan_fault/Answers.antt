@@ -17,7 +17,7 @@ returns-in_err-put_number-clause-delivered g c = λ told.
     let p = err_from_is_err_and r.result r.ensures.1 in
     let cut = front_middle (codes "plan line ") (decimal c.args.fault.line) (cause_text c.args.fault.cause)
     _ _ _ (c.in_ok-put_text.ensures.delivered told)
-    (c.in_err-put_number.ensures.delivered told) in
+    (rw c.from.ensures at (c.in_err-put_number.ensures.delivered told)) in
     rw p.1 cut
 
 pub returns-clause-delivered : goal.returns-clause-delivered
@@ -26,4 +26,4 @@ returns-clause-delivered g c = λ told.
     _ _ _
     (c.in_ok-put_text.ensures.delivered told)
     (delivers_then (decimal c.args.fault.line) (cause_text c.args.fault.cause) c.put_cause.result _ _ _
-    (c.in_ok-put_number.ensures.delivered told) (c.put_cause.ensures.delivered told))
+    (rw c.from.ensures at (c.in_ok-put_number.ensures.delivered told)) (c.put_cause.ensures.delivered told))

@@ -10,13 +10,13 @@ returns-in_err-put_text-clause-delivered g c = λ told.
     _ _ (c.in_err-put_text.ensures.delivered told) in
     rw p.1 cut
 
-pub returns-in_err-put_offset-clause-delivered : goal.returns-in_err-put_offset-clause-delivered
-returns-in_err-put_offset-clause-delivered g c = λ told.
-    let r = c.from_residual-in_err-put_offset in
+pub returns-in_err-put_number-clause-delivered : goal.returns-in_err-put_number-clause-delivered
+returns-in_err-put_number-clause-delivered g c = λ told.
+    let r = c.from_residual-in_err-put_number in
     let p = err_from_is_err_and r.result r.ensures.1 in
     let cut = front_middle (codes "image at ") (decimal c.args.offset) (codes "\n")
     _ _ _ (c.in_ok-put_text.ensures.delivered told)
-    (c.in_err-put_offset.ensures.delivered told) in
+    (c.in_err-put_number.ensures.delivered told) in
     rw p.1 cut
 
 pub returns-clause-delivered : goal.returns-clause-delivered
@@ -24,4 +24,4 @@ returns-clause-delivered g c = λ told.
     delivers_then (codes "image at ") (decimal c.args.offset ++ codes "\n") c.put_text-2.result _ _ _
     (c.in_ok-put_text.ensures.delivered told)
     (delivers_then (decimal c.args.offset) (codes "\n") c.put_text-2.result _ _ _
-    (c.in_ok-put_offset.ensures.delivered told) (c.put_text-2.ensures.delivered told))
+    (c.in_ok-put_number.ensures.delivered told) (c.put_text-2.ensures.delivered told))
