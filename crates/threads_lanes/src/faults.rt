@@ -3,6 +3,7 @@ use crate::answers::{Head, PROTECTED, counted, numbers_of};
 use crate::support::told;
 use crate::watch::Watch;
 use case_units::{BEGINNING, FENCE, TELECOMMAND, TELECOMMAND_SENDER, image_of_sender, push_frame};
+use sdls_outside::MemSite;
 use sdls_run::status::SITE_FAULT;
 use std::alloc::{AllocError, Global};
 use std::process::Abort;
@@ -45,15 +46,8 @@ fn a_fault_under_one_lane_stops_the_others(rt: HostRuntime) -> Result<(), Fail> 
     let alloc = rt.alloc();
     let image = image_of_sender(alloc, 16, 4, TELECOMMAND_SENDER).ok_or("no image")?;
     let failing = vec![in alloc; SYNC_OF_THE_SECOND_GATE]?;
-    let told = told(
-        &rt,
-        alloc,
-        image,
-        failing,
-        records(alloc)?,
-        &Watch::Open,
-        98,
-    )?;
+    let site = MemSite::new(alloc, image, failing, None);
+    let told = told(&rt, alloc, site, records(alloc)?, &Watch::Open, 98)?;
     assert_eq!(rt; (told.status, told.entries), (SITE_FAULT, 2));
     let heads = told.heads.as_slice();
     let numbers = numbers_of(alloc, heads, 32769)?;

@@ -1,11 +1,9 @@
 // A lane that keeps its permit goes on while another lane has the turn.
-use crate::answers::heads;
 use crate::meeting::STOP;
-use crate::runs::life;
+use crate::support::{sound, told};
 use crate::waits::Flag;
 use crate::watch::Watch;
 use case_units::{BEGINNING, FENCE, TELECOMMAND, TWO_SENDERS, image_of_sender, joined};
-use sdls_outside::MemSite;
 use sdls_run::Gate;
 use sdls_run::status::DONE;
 use std::alloc::Global;
@@ -80,15 +78,14 @@ fn takes_no_turn<R: Threads + Wait + Sync + Abort>(
     pieces: &[&[u8]],
 ) -> Result<(), Fail> {
     let input = joined(alloc, pieces)?;
-    let image = image_of_sender(alloc, 16, 64, TWO_SENDERS).ok_or("no image")?;
+    let site = sound(alloc, image_of_sender(alloc, 16, 64, TWO_SENDERS))?;
     let storing = Storing::new();
-    let site = MemSite::new(alloc, image, Vec::new(alloc), None);
-    let (status, entries, site) = life(rt, alloc, input, site, &Watch::Storing(&storing))?;
+    let told = told(rt, alloc, site, input, &Watch::Storing(&storing), 4)?;
     assert!(rt; storing.has_held());
     // a reserve, the stop, and a release
-    assert_eq!(rt; (status, entries), (DONE, 3));
-    let heads = heads(alloc, site.sunk(), 4)?;
-    let found = heads
+    assert_eq!(rt; (told.status, told.entries), (DONE, 3));
+    let found = told
+        .heads
         .iter()
         .map(|head| (head.code, head.position, head.number));
     let wanted = [(0x00, 0, 1), (0x03, 2, 0), (0x00, 0, 2), (0xff, 3, 0)];

@@ -1,10 +1,9 @@
 // Frames in any order, opened on four lanes at once under a back window.
 use crate::answers::{Head, counted};
 use crate::runs::life;
-use crate::support::told;
+use crate::support::{sound, told};
 use crate::watch::Watch;
 use case_units::{BEGINNING, FENCE, TELECOMMAND_SENDER, image_of, image_of_sender, push_frame};
-use sdls_outside::MemSite;
 use sdls_run::status::DONE;
 use std::alloc::{AllocError, Global};
 use std::sync::Wait;
@@ -44,8 +43,7 @@ const NUMBER: u8 = 0x17;
 
 /// The answers to frames that are protected under the numbers from 1 on, in their order.
 fn protected<R: Threads + Wait + Sync>(rt: &R, alloc: Global) -> Result<Vec<u8>, Fail> {
-    let image = image_of_sender(alloc, 16, 1024, TELECOMMAND_SENDER).ok_or("no image")?;
-    let site = MemSite::new(alloc, image, Vec::new(alloc), None);
+    let site = sound(alloc, image_of_sender(alloc, 16, 1024, TELECOMMAND_SENDER))?;
     let mut input = Vec::from_slice(alloc, BEGINNING)?;
     for _ in 0..ALL {
         push_frame(&mut input, 0)?;
@@ -103,16 +101,9 @@ fn accepted(alloc: Global, heads: &[Head]) -> Result<Vec<u64>, Fail> {
 fn each_number_is_accepted_once(rt: HostRuntime) -> Result<(), Fail> {
     let alloc = rt.alloc();
     let protected = protected(&rt, alloc)?;
-    let image = image_of(alloc, RECEIVER).ok_or("no image")?;
-    let told = told(
-        &rt,
-        alloc,
-        image,
-        Vec::new(alloc),
-        records(alloc, protected.as_slice())?,
-        &Watch::Open,
-        2 * ALL + 2,
-    )?;
+    let site = sound(alloc, image_of(alloc, RECEIVER))?;
+    let input = records(alloc, protected.as_slice())?;
+    let told = told(&rt, alloc, site, input, &Watch::Open, 2 * ALL + 2)?;
     // an entry for the command and for each frame
     assert_eq!(rt; (told.status, told.entries), (DONE, 385));
     let heads = told.heads.as_slice();

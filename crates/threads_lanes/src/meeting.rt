@@ -1,6 +1,6 @@
 // Lanes beside each other, seen by a gate that holds a lane until another was seen.
 use crate::answers::Head;
-use crate::support::told;
+use crate::support::{sound, told};
 use crate::waits::Flag;
 use crate::watch::Watch;
 use case_units::{BEGINNING, TELECOMMAND, TWO_SENDERS, image_of_sender};
@@ -92,16 +92,9 @@ fn judge(rt: &impl Abort, index: u64, head: &Head) {
 fn two_lanes_run_beside_each_other(rt: HostRuntime) -> Result<(), Fail> {
     let alloc = rt.alloc();
     let gate = Meeting::new();
-    let image = image_of_sender(alloc, 16, 64, TWO_SENDERS).ok_or("no image")?;
-    let told = told(
-        &rt,
-        alloc,
-        image,
-        Vec::new(alloc),
-        records(alloc)?,
-        &Watch::Meeting(&gate),
-        101,
-    )?;
+    let site = sound(alloc, image_of_sender(alloc, 16, 64, TWO_SENDERS))?;
+    let input = records(alloc)?;
+    let told = told(&rt, alloc, site, input, &Watch::Meeting(&gate), 101)?;
     assert!(rt; gate.has_held());
     // a reserve, the stop, and a release
     assert_eq!(rt; (told.status, told.entries), (DONE, 3));

@@ -1,6 +1,6 @@
 // One frame, opened on sixteen lanes at once.
 use crate::answers::Head;
-use crate::support::told;
+use crate::support::{sound, told};
 use crate::waits::{Count, Flag};
 use crate::watch::Watch;
 use case_units::{BEGINNING, image_of, push_on_lane};
@@ -89,16 +89,9 @@ fn sixteen_lanes_accept_a_frame_once(rt: HostRuntime) -> Result<(), Fail> {
         come: Count::new(),
         missed: Flag::new(),
     };
-    let image = image_of(alloc, RECEIVER).ok_or("no image")?;
-    let told = told(
-        &rt,
-        alloc,
-        image,
-        Vec::new(alloc),
-        records(alloc)?,
-        &Watch::Crowd(&gate),
-        17,
-    )?;
+    let site = sound(alloc, image_of(alloc, RECEIVER))?;
+    let input = records(alloc)?;
+    let told = told(&rt, alloc, site, input, &Watch::Crowd(&gate), 17)?;
     assert_eq!(rt; (gate.come.value(), gate.missed.is_set()), (16, false));
     // an entry for each frame
     assert_eq!(rt; (told.status, told.entries), (DONE, 16));

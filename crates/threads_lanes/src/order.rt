@@ -1,5 +1,5 @@
 // Records of one lane alone.
-use crate::support::told;
+use crate::support::{sound, told};
 use crate::watch::Watch;
 use case_units::{BEGINNING, TELECOMMAND_SENDER, image_of_sender, push_frame};
 use sdls_run::status::DONE;
@@ -18,16 +18,9 @@ fn records(alloc: Global) -> Result<Vec<u8>, AllocError> {
 #[test]
 fn one_lane_answers_number_after_number(rt: HostRuntime) -> Result<(), Fail> {
     let alloc = rt.alloc();
-    let image = image_of_sender(alloc, 16, 1024, TELECOMMAND_SENDER).ok_or("no image")?;
-    let told = told(
-        &rt,
-        alloc,
-        image,
-        Vec::new(alloc),
-        records(alloc)?,
-        &Watch::Open,
-        1025,
-    )?;
+    let site = sound(alloc, image_of_sender(alloc, 16, 1024, TELECOMMAND_SENDER))?;
+    let input = records(alloc)?;
+    let told = told(&rt, alloc, site, input, &Watch::Open, 1025)?;
     // One reserve: its mark is the number that comes next, so that nothing is released.
     assert_eq!(rt; (told.status, told.entries), (DONE, 1));
     for (number, head) in (1..=1024).zip(told.heads.iter()) {

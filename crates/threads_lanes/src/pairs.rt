@@ -1,7 +1,7 @@
 // Two lanes that alternate between two associations.
 use crate::answers::{Head, numbers_of};
 use crate::meeting::{Meeting, TELEMETRY};
-use crate::support::told;
+use crate::support::{sound, told};
 use crate::watch::Watch;
 use case_units::{BEGINNING, TELECOMMAND, TWO_SENDERS, image_of_sender, push_on_lane};
 use sdls_run::status::DONE;
@@ -56,16 +56,9 @@ fn two_lanes_alternate_between_two_associations(rt: HostRuntime) -> Result<(), F
     let alloc = rt.alloc();
     let gate = Meeting::new();
     // Blocks of four numbers, so that the lanes often reserve.
-    let image = image_of_sender(alloc, 64, 4, TWO_SENDERS).ok_or("no image")?;
-    let told = told(
-        &rt,
-        alloc,
-        image,
-        Vec::new(alloc),
-        records(alloc)?,
-        &Watch::Meeting(&gate),
-        RECORDS + 1,
-    )?;
+    let site = sound(alloc, image_of_sender(alloc, 64, 4, TWO_SENDERS))?;
+    let input = records(alloc)?;
+    let told = told(&rt, alloc, site, input, &Watch::Meeting(&gate), RECORDS + 1)?;
     assert!(rt; gate.has_held());
     assert_eq!(rt; told.status, DONE);
     for (index, head) in (0..RECORDS).zip(told.heads.iter()) {

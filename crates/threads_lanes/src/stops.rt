@@ -1,6 +1,6 @@
 // A stop on one of sixteen lanes.
 use crate::answers::{Head, PROTECTED, counted, numbers_of};
-use crate::support::told;
+use crate::support::{sound, told};
 use crate::watch::Watch;
 use case_units::{BEGINNING, TELECOMMAND_SENDER, image_of_sender, push_frame};
 use sdls_run::status::DONE;
@@ -52,16 +52,9 @@ fn is_due(index: u64, head: &Head) -> bool {
 #[test]
 fn each_frame_is_judged_at_its_position(rt: HostRuntime) -> Result<(), Fail> {
     let alloc = rt.alloc();
-    let image = image_of_sender(alloc, 16, 64, TELECOMMAND_SENDER).ok_or("no image")?;
-    let told = told(
-        &rt,
-        alloc,
-        image,
-        Vec::new(alloc),
-        records(alloc)?,
-        &Watch::Open,
-        RECORDS + 1,
-    )?;
+    let site = sound(alloc, image_of_sender(alloc, 16, 64, TELECOMMAND_SENDER))?;
+    let input = records(alloc)?;
+    let told = told(&rt, alloc, site, input, &Watch::Open, RECORDS + 1)?;
     assert_eq!(rt; told.status, DONE);
     for (index, head) in (0..=RECORDS).zip(told.heads.iter()) {
         assert!(rt; is_due(index, head), "answer {index}: {head:?}");

@@ -16,17 +16,21 @@ pub(crate) struct Heard {
     pub(crate) heads: Vec<Head>,
 }
 
-/// A run over an input, on a site that holds this image and fails at these calls. It writes so many answers.
+/// A site that never fails and holds this image. If none could be made, the test fails.
+pub(crate) fn sound(alloc: Global, image: Option<Vec<u8>>) -> Result<MemSite, Fail> {
+    let image = image.ok_or("no image")?;
+    Ok(MemSite::new(alloc, image, Vec::new(alloc), None))
+}
+
+/// A run over an input on a site. It writes so many answers.
 pub(crate) fn told<R: Threads + Wait + Sync>(
     rt: &R,
     alloc: Global,
-    image: Vec<u8>,
-    failing: Vec<u64>,
+    site: MemSite,
     input: Vec<u8>,
     watch: &Watch<'_>,
     count: u64,
 ) -> Result<Heard, Fail> {
-    let site = MemSite::new(alloc, image, failing, None);
     let (status, entries, site) = life(rt, alloc, input, site, watch)?;
     let heads = heads(alloc, site.sunk(), count)?;
     Ok(Heard {
