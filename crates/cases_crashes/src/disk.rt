@@ -137,29 +137,17 @@ impl Site for NotedSite {
     }
 }
 
-/// How a call ended: its status, how many entries it had, and the site.
-type End = (u8, usize, NotedSite);
+/// How a call ended.
+type End = Outcome<NotedSite>;
 
 /// A run. What it ensures is not said again: the clauses would be carried through each step behind the call.
 fn served<R: Threads + Wait + Sync>(rt: &R, alloc: Global, input: Vec<u8>, site: NotedSite) -> End {
-    let mut source = SureSource::new(input);
-    let Outcome {
-        status,
-        site,
-        entries,
-    } = run_recorded(rt, alloc, &mut source, site, &OpenGate);
-    (status, entries.len(), site)
+    run_recorded(rt, alloc, &mut SureSource::new(input), site, &OpenGate)
 }
 
 /// The call `run_plain`, of which the same holds.
 fn called(alloc: Global, words: &[String], site: NotedSite) -> End {
-    let mut source = SureSource::new(Vec::new(alloc));
-    let Outcome {
-        status,
-        site,
-        entries,
-    } = run_plain(alloc, words, &mut source, site);
-    (status, entries.len(), site)
+    run_plain(alloc, words, &mut SureSource::new(Vec::new(alloc)), site)
 }
 
 /// The image of a unit between its calls. What the last one did: how it ended, what it wrote and the answers in that,
@@ -219,12 +207,16 @@ impl<R: Threads + Wait + Sync> Disk<'_, R> {
         page.check(input.extend_from_slice(items));
         let image = mem::replace(&mut self.image, Vec::new(page.alloc()));
         let site = NotedSite::new(image, trouble, page);
-        let (status, entries, site) = match word {
+        let Outcome {
+            status,
+            site,
+            entries,
+        } = match word {
             "run" => served(self.rt, page.alloc(), input, site),
             _ => called(page.alloc(), &words, site),
         };
         self.status = status;
-        self.entries = entries;
+        self.entries = entries.len();
         self.failed_put = site.failed_put;
         page.check(replace(&mut self.sunk, site.inside.sunk()));
         site.leave(&mut self.image, page);

@@ -35,16 +35,13 @@ pub struct Runs<'a, R> {
 /// Whether the answers of a run are so many, and behind them End with the status of a fault, the count of the run's
 /// entries, and one fault.
 fn end_behind<R>(disk: &Disk<'_, R>, count: usize) -> bool {
-    match disk.answers.split_last() {
-        Some((last, before)) => {
-            last.code == code::END
-                && last.detail == SITE_FAULT
-                && last.position == disk.entries as u64
-                && last.number == 1
-                && before.len() == count
-        }
-        None => false,
-    }
+    disk.answers.split_last().is_some_and(|(last, before)| {
+        last.code == code::END
+            && last.detail == SITE_FAULT
+            && last.position == disk.entries as u64
+            && last.number == 1
+            && before.len() == count
+    })
 }
 
 /// What may come in the place of an answer if memory is refused: out of memory, a fault of a site that could not grow,

@@ -203,10 +203,8 @@ impl<'a> Judge<'a> {
         let shown = self.shown.written().unwrap_or("");
         let (slots, behind) = shown.split_once('\n').unwrap_or(("", ""));
         let (_, rest) = behind.split_once('\n').unwrap_or(("", ""));
-        write!(
-            self.due,
-            "{slots}\nkey 32769 active mark {mark} floor {floor}\n{rest}"
-        );
+        write!(self.due, "{slots}\nkey 32769 active mark {mark}");
+        write!(self.due, " floor {floor}\n{rest}");
     }
 
     /// Writes the text that is due. Returns the status that is due.
@@ -250,12 +248,8 @@ impl<'a> Judge<'a> {
         let old = self.image.octet(place);
         for value in VALUES {
             set_octets(&mut self.changed, place, &[value]);
-            let due = self.image.due(
-                place,
-                Image {
-                    octets: &self.changed,
-                },
-            );
+            let octets = &self.changed;
+            let due = self.image.due(place, Image { octets });
             if value != old && !self.is_due(due, page) {
                 return Some(value);
             }

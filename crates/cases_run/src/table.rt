@@ -192,21 +192,15 @@ impl Disk {
     }
 }
 
-/// The call `run`: its status, the count of its entries, and the site. What it ensures is not said again: the clauses
-/// would be carried through each step behind the call.
+/// The call `run`. What it ensures is not said again: the clauses would be carried through each step behind the call.
 fn ran<R: Threads + Wait + Sync>(
     rt: &R,
     alloc: Global,
     words: &[String],
     mut source: MemSource,
     site: MemSite,
-) -> (u8, usize, MemSite) {
-    let Outcome {
-        status,
-        site,
-        entries,
-    } = run(rt, alloc, words, &mut source, site, &OpenGate);
-    (status, entries.len(), site)
+) -> Outcome<MemSite> {
+    run(rt, alloc, words, &mut source, site, &OpenGate)
 }
 
 /// What a recording for `audit` begins with.
@@ -288,9 +282,13 @@ impl<R: Threads + Wait + Sync> Table<'_, R> {
         };
         let source = self.input.source(page.alloc());
         let site = self.disk.site(page.alloc());
-        let (status, count, site) = ran(self.rt, page.alloc(), &words, source, site);
+        let Outcome {
+            status,
+            site,
+            entries,
+        } = ran(self.rt, page.alloc(), &words, source, site);
         self.disk.keep(site, page);
-        write!(page, "status {status} entries {count}");
+        write!(page, "status {status} entries {}", entries.len());
         match line {
             "run" => write_answers(self.disk.last.sunk(), page),
             _ => write_text(self.disk.last.sunk(), page),
