@@ -17,7 +17,7 @@
 //! `failing OPENING KIND`: one call fails, for each call of a run, of which so many open the image. Behind each come a
 //! crash and the next run. With `written` behind it, the octets of a write that fails read as written afterwards.
 //!
-//! `refused` makes two runs, each over the image of the unit, and the next one behind each. `docs/refuse_memory` has
+//! `refused` makes two runs, each over the image of the unit, and the next one behind each. `tools/refuse_memory` has
 //! each allocation of that refused in turn.
 //!
 //! `life SEED ROUNDS` is a life of two units on one link, in which frames are lost, repeated and delayed, either unit
