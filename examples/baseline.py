@@ -350,7 +350,7 @@ def opened(link, association, octets):
 
 
 def try_printed_frames():
-    """The two protected frames that docs/FORMATS.md prints ("Protected frames")."""
+    """The two protected frames that docs/FRAMES.md prints ("Protected frames")."""
     key = bytes.fromhex("2b7e151628aed2a6abf7158809cf4f3c")
     link = Link("tc", bytes.fromhex(USUAL_MASKS["tc"]), has_segment_header=True)
     frame = protect(link, Association(7, "cmac", key), bytes.fromhex("002a140509c3"))
@@ -361,7 +361,7 @@ def try_printed_frames():
     frame = protect(link, Association(9, "gcm", bytes(range(16)), number), bytes.fromhex(clear))
     expect("tm gcm", frame.hex(), "02a51122980003aabbcc0009d00000010000000000000001b719ee1fa4785981df835274a212f71e3b2b"
            "673ef5a4ad6a45627aa9eec31b8af84e010203040db3")  # fmt: skip
-    print("the two frames that docs/FORMATS.md prints were made, octet for octet")
+    print("the two frames that docs/FRAMES.md prints were made, octet for octet")
 
 
 def clear_frame(kind, data):

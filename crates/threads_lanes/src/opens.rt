@@ -22,7 +22,7 @@ key 32769 active 2b7e151628aed2a6abf7158809cf4f3c
 sa 7 receive cmac 32769 1 1 0
 ";
 
-/// The protected frame of `docs/FORMATS.md`, to be opened: its number is 1, and its data field is empty.
+/// The protected frame of `docs/FRAMES.md`, to be opened: its number is 1, and its data field is empty.
 const PROTECTED_FRAME: &[u8] =
     b"\x02\x00\x00\x00\x00\x1c\x00\x2a\x14\x1b\x09\xc3\x00\x07\x00\x00\x00\x01\x7c\xf7\x6a\xa4\xd9\x74\x8e\xe7\x06\
       \x40\x3d\xf6\x1c\x55\xef\xee";
